@@ -1,0 +1,10 @@
+pub mod Classes
+pub mod Laws
+pub mod Positions
+pub mod Capped
+pub mod Decimal
+pub mod Spell
+pub mod Unspell
+pub mod Length
+pub mod Theorems
+pub mod Examples
