@@ -1,0 +1,4 @@
+pub mod Laws
+pub mod Signed
+pub mod Theorems
+pub mod Examples

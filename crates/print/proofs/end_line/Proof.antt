@@ -1,0 +1,20 @@
+-- `print::end_line` meets its contract: the word and the late mark behind it. Assumes nothing.
+use native.Mathlib.Omega.{arith}
+use borrow.Author.Needs.{needs}
+use Rattle.print.specs.Lines.{end-line}
+use Rattle.print.proofs.Laws.{held, line}
+use Rattle.print.proofs.end_line.Statement.{statement}
+use Rattle.print.proofs.end_line.Tie as tie
+
+put-ending-requires : tie.Need-put-ending-requires
+put-ending-requires c κs = search needs
+
+put-mark-requires : tie.Need-put-mark-requires
+put-mark-requires c κs = search needs
+
+returns : tie.Need-returns
+unfolding end-line
+returns c = line (omega arith) (held (c .before .before .put-ending .ensures) (c .put-mark .ensures))
+
+pub end-line-spec : {M : Type 1} → statement M
+end-line-spec = tie.close (tie.spec put-ending-requires put-mark-requires returns)

@@ -1,0 +1,24 @@
+-- `print::point_line` meets its contract: the word, and four fields behind it. Assumes nothing.
+use native.Mathlib.Omega.{arith}
+use borrow.Author.Needs.{needs}
+use Rattle.print.specs.Lines.{point-line}
+use Rattle.print.proofs.Laws.{held, whole, line}
+use Rattle.print.proofs.point_line.Statement.{statement}
+use Rattle.print.proofs.point_line.Tie as tie
+
+slice-aggregate-put-bytes : tie.Need-slice-aggregate-put-bytes
+slice-aggregate-put-bytes c = search needs
+
+put-bytes-requires : tie.Need-put-bytes-requires
+put-bytes-requires c κs = search needs
+
+put-four-requires : tie.Need-put-four-requires
+put-four-requires c κs = search needs
+
+returns : tie.Need-returns
+unfolding point-line
+returns c = line (omega arith) (held (whole (c .before .before .put-bytes .ensures)) (c .put-four .ensures))
+
+pub point-line-spec : {M : Type 1} → statement M
+point-line-spec =
+    tie.close (tie.spec slice-aggregate-put-bytes put-bytes-requires put-four-requires returns)

@@ -1,0 +1,45 @@
+-- `print::put_ending` meets its contract, once for each word. Assumes nothing.
+use native.Mathlib.Omega.{arith}
+use borrow.Author.Needs.{needs}
+use Rattle.print.specs.Lines.{ending-text}
+use Rattle.print.proofs.put_ending.Statement.{statement}
+use Rattle.print.proofs.put_ending.Tie as tie
+
+enum-told : tie.Need-enum-told
+enum-told c = search needs
+
+slice-aggregate-put-bytes : tie.Need-slice-aggregate-put-bytes
+slice-aggregate-put-bytes c = search needs
+
+put-bytes-requires : tie.Need-put-bytes-requires
+put-bytes-requires c κs = search needs
+
+enum-told-2 : tie.Need-enum-told-2
+enum-told-2 c = search needs
+
+slice-aggregate-put-bytes-2 : tie.Need-slice-aggregate-put-bytes-2
+slice-aggregate-put-bytes-2 c = search needs
+
+put-bytes-requires-2 : tie.Need-put-bytes-requires-2
+put-bytes-requires-2 c κs = search needs
+
+returns : tie.Need-returns
+unfolding ending-text
+returns c = rw (c .before .before .before .enum-told .given .1) (record { written = c .put-bytes .ensures; short = omega arith })
+
+returns-2 : tie.Need-returns-2
+unfolding ending-text
+returns-2 c = rw (c .before .before .before .enum-told2 .given .1) (record { written = c .put-bytes2 .ensures; short = omega arith })
+
+pub put-ending-spec : {M : Type 1} → statement M
+put-ending-spec =
+    tie.close
+    (tie.spec
+    enum-told
+    slice-aggregate-put-bytes
+    put-bytes-requires
+    enum-told-2
+    slice-aggregate-put-bytes-2
+    put-bytes-requires-2
+    returns
+    returns-2)

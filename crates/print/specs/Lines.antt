@@ -1,0 +1,65 @@
+-- The lines that the programs print (01, 'Calls' and 'Plans worked through').
+-- Assumes nothing: these are definitions.
+use Prim.Native.Nat.{ℕ, suc}
+use mathlib.Core.List.{List, _++_}
+use mathlib.Core.Bool.{Bool, true, false}
+use lib.IntN.{ℤ, pos, negsuc}
+use Rattle.text.specs.Text.{bytes}
+use Rattle.text.specs.Spelling.{decimal}
+use Rattle.print.specs.declared.Word.{Word}
+use Rattle.print.specs.declared.Word.the-variants.{Go, Suspend, Stay}
+use Rattle.print.specs.declared.Ending.{Ending}
+use Rattle.print.specs.declared.Ending.the-variants.{Resume, Ended}
+
+-- A further field of a line: one space, then a number in decimal.
+unfoldable pub field : ℕ → List ℕ
+field n = bytes " " ++ decimal n
+
+-- A further field that is a signed number: one space, a minus sign where the number is below 0, then its size in decimal.
+unfoldable pub signed-field : ℤ → List ℕ
+signed-field (pos n) = bytes " " ++ decimal n
+signed-field (negsuc n) = bytes " -" ++ decimal (suc n)
+
+-- The late mark, with the line feed that ends its line: 1 if late, else 0.
+unfoldable pub mark : Bool → List ℕ
+mark true = bytes " 1\n"
+mark false = bytes " 0\n"
+
+-- The word of a decision.
+unfoldable pub word-text : Word → List ℕ
+word-text Go = bytes "go"
+word-text Suspend = bytes "suspend"
+word-text Stay = bytes "stay"
+
+-- The word of an end.
+unfoldable pub ending-text : Ending → List ℕ
+ending-text Resume = bytes "resume"
+ending-text Ended = bytes "ended"
+
+-- Four fields to the end of a line.
+unfoldable pub four : ℕ → ℕ → ℕ → ℕ → List ℕ
+four a b c d = field a ++ (field b ++ (field c ++ (field d ++ bytes "\n")))
+
+-- The first line of a plan's listing: total, max-load total, deadline, switch cost.
+unfoldable pub task-line : ℕ → ℕ → ℕ → ℕ → List ℕ
+task-line total max-total deadline switch = bytes "task" ++ four total max-total deadline switch
+
+-- The line of a point: its number, its level in its own function, its tail and its stretch.
+unfoldable pub point-line : ℕ → ℕ → ℕ → ℕ → List ℕ
+point-line number level tail stretch = bytes "point" ++ four number level tail stretch
+
+-- The line of a refused plan: the refusal's number and the plan's line.
+unfoldable pub refused-plan-line : ℕ → ℕ → List ℕ
+refused-plan-line number line = bytes "refused" ++ (field number ++ (field line ++ bytes "\n"))
+
+-- The line of a refused call: the refusal's number.
+unfoldable pub refused-call-line : ℕ → List ℕ
+refused-call-line number = bytes "refused" ++ (field number ++ bytes "\n")
+
+-- The answer of a release or a report: the word, the remaining time, the margin and the late mark.
+unfoldable pub decision-line : Word → ℕ → ℤ → Bool → List ℕ
+decision-line w remaining margin late = word-text w ++ (field remaining ++ (signed-field margin ++ mark late))
+
+-- The answer of an end: the word and the late mark.
+unfoldable pub end-line : Ending → Bool → List ℕ
+end-line w late = ending-text w ++ mark late
