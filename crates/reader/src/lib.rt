@@ -1,0 +1,669 @@
+// The plan reader: makes of a text a plan's records in a lent row, or refuses it by one of 1 to 7 (document 01, 'A plan, one form a line').
+ghost use mathlib.Core.Path.{_≡_};
+ghost use mathlib.Core.List.{[], _∷_};
+ghost use Prim.Native.Nat.{_+_, _*_, _<_, _≤_, max, min};
+ghost use lib.ListN.{length, take};
+ghost use lib.Seq.{sets};
+ghost use lib.Dec.{leb};
+ghost use Rattle.text.specs.Positions.{read-at, Found};
+ghost use Rattle.reader.specs.Machine.{tag-of, fault, of-leaf, unless, outcome};
+ghost use Rattle.reader.specs.Records.{mark};
+ghost use Rattle.text.specs.declared.Form.the-variants.{Task, If};
+ghost use Rattle.reader.specs.Raw.{refused-raw, accepted-raw, raw-of, row-after};
+ghost use Rattle.reader.specs.Helpers.{first-of, of-bound, of-open, of-target, form-of, judged-step, step-of, sign-of, member-of, of-task, head-of, ended-raw, FormsAt, FormAt, TextAt};
+use text::Form;
+use text::Read;
+use text::line;
+
+// What the reader says of a text: accepted; or refused, with the refusal's number and line.
+pub enum Answer {
+    Accepted,
+    Refused(u64, usize),
+}
+
+// What the reader makes of a text beside the row: the answer, and of an accepted plan its deadline, its switch cost, how many leaves and functions
+// it has, the functions' bounds and their heights, filled up with 0. Of a refused text all numbers but the refusal's are 0.
+pub struct Raw {
+    pub answer: Answer,
+    pub deadline: u64,
+    pub switch: u64,
+    pub leaves: usize,
+    pub functions: usize,
+    pub bounds: [u64; 17],
+    pub heights: [u64; 16],
+}
+
+// A line that is a leaf of the plan, with its K, its F or B, and its C and M.
+enum Block {
+    Plain(bool, u64, u64),
+    Calls(bool, u64, u64, u64),
+    Inner(bool, u64, u64, u64),
+    Choice(bool, u64, u64),
+}
+
+// What a line in a body does: it is refused by a number; it closes the body; or it is a leaf. With the place after it.
+enum Step {
+    Stop(u64),
+    Leave(usize),
+    Take(Block, usize),
+}
+
+// Whether the line that must come stands there, with the place after it.
+enum Sign {
+    Missing,
+    On(usize),
+}
+
+// What a line in the task is: a function's, or the closing bracket, with the place after it; or another.
+enum Member {
+    Neither,
+    Function(usize),
+    End(usize),
+}
+
+// What the first line is: a task's, with its D and T and the place after it; or refused by a number.
+enum Head {
+    Not(u64),
+    Opens(u64, u64, usize),
+}
+
+// How reading forms ends: refused by a number at a line; or read, with the place and the line after them, the leaves so far, and their height.
+enum Inside {
+    Stopped(u64, usize),
+    Closed(usize, usize, usize, u64),
+}
+
+// The most bytes of a text, leaves, functions, open brackets and levels.
+const MAX_TEXT: usize = 65536;
+
+const MAX_LEAVES: usize = 512;
+
+const MAX_FUNCTIONS: usize = 16;
+
+const MAX_BRACKETS: usize = 64;
+
+const MAX_LEVEL: u64 = 32;
+
+// The greatest numbers of a line: C and M, B, F, D, T.
+const MAX_COST: u64 = 1 << 20;
+
+const MAX_BOUND: u64 = 65535;
+
+const MAX_TARGET: u64 = 15;
+
+const MAX_DEADLINE: u64 = 1 << 40;
+
+const MAX_SWITCH: u64 = 1 << 20;
+
+// How many numbers a record has.
+const FIELDS: usize = 8;
+
+// The refusals.
+const OVERSIZE: u64 = 1;
+
+const FORM: u64 = 2;
+
+const RANGE: u64 = 3;
+
+const COUNT: u64 = 4;
+
+const LOAD: u64 = 5;
+
+const TARGET: u64 = 6;
+
+const DEPTH: u64 = 7;
+
+// The kinds of records.
+const LEAF: u64 = 0;
+
+const CALL: u64 = 1;
+
+const LOOP: u64 = 2;
+
+const IF: u64 = 3;
+
+// The lines without numbers that must come at their places.
+const THEN: u64 = 2;
+
+const ELSE: u64 = 3;
+
+const CLOSE: u64 = 4;
+
+// Gives the first of two refusals; 0 is none.
+fn first(a: u64, b: u64) -> u64
+    ensures { λ r. ⌜ r ≡ first-of a b ⌝ }
+{
+    if a == 0 { b } else { a }
+}
+
+// Tests the costs of a leaf and whether the row has room for it.
+fn leaf_fault(c: u64, m: u64, n: usize, room: usize) -> u64
+    ensures { λ r. ⌜ r ≡ of-leaf room n c m 0 ⌝ }
+{
+    if MAX_COST < c {
+        return RANGE;
+    }
+    if MAX_COST < m {
+        return RANGE;
+    }
+    if room <= n {
+        return COUNT;
+    }
+    if m < c { LOAD } else { 0 }
+}
+
+// Tests the level of a leaf.
+fn level_fault(level: u64) -> u64
+    ensures { λ r. ⌜ r ≡ unless (leb level 32) 7 0 ⌝ }
+{
+    if MAX_LEVEL < level { DEPTH } else { 0 }
+}
+
+// Tests the level of a leaf that opens a bracket, and the bracket.
+fn open_fault(level: u64, d: usize) -> u64
+    ensures { λ r. ⌜ r ≡ of-open level d ⌝ }
+{
+    if MAX_LEVEL < level {
+        return DEPTH;
+    }
+    if d < MAX_BRACKETS { 0 } else { DEPTH }
+}
+
+// Tests the bound of a loop.
+fn bound_fault(b: u64) -> u64
+    ensures { λ r. ⌜ r ≡ of-bound b ⌝ }
+{
+    if b < 1 {
+        return RANGE;
+    }
+    if b <= MAX_BOUND { 0 } else { RANGE }
+}
+
+// Tests the range of a call's target.
+fn range_fault(f: u64) -> u64
+    ensures { λ r. ⌜ r ≡ unless (leb f 15) 3 0 ⌝ }
+{
+    if MAX_TARGET < f { RANGE } else { 0 }
+}
+
+// Tests that a call's target stands before its own function, and the levels of what it calls.
+fn target_fault(f: u64, level: u64, tall: &[u64; 16], own: usize) -> u64
+    requires { ⌜ (own ≤ 16) × (own ≤ length (now tall)) ⌝ }
+    ensures { λ r. ⌜ r ≡ of-target level (take own (now (tall .entry))) f ⌝ }
+{
+    if own as u64 <= f {
+        return TARGET;
+    }
+    if MAX_LEVEL < level {
+        return DEPTH;
+    }
+    let g = f as usize;
+    if MAX_LEVEL - level < tall[g] {
+        DEPTH
+    } else {
+        0
+    }
+}
+
+// Finds the first of the refusals 3 to 7 that a leaf of a body meets, or 0.
+fn block_fault(
+    b: Block,
+    tall: &[u64; 16],
+    own: usize,
+    room: usize,
+    d: usize,
+    level: u64,
+    n: usize,
+) -> u64
+    requires { ⌜ (own ≤ 16) × (own ≤ length (now tall)) ⌝ }
+    ensures { λ r. ⌜ r ≡ fault room d level n (take own (now (tall .entry))) (form-of b) ⌝ }
+{
+    match b {
+        Block::Plain(_, c, m) => first(leaf_fault(c, m, n, room), level_fault(level)),
+        Block::Calls(_, f, c, m) => {
+            let costs = leaf_fault(c, m, n, room);
+            first(
+                range_fault(f),
+                first(costs, target_fault(f, level, tall, own)),
+            )
+        }
+        Block::Inner(_, t, c, m) => {
+            let costs = leaf_fault(c, m, n, room);
+            first(bound_fault(t), first(costs, open_fault(level, d)))
+        }
+        Block::Choice(_, c, m) => first(leaf_fault(c, m, n, room), open_fault(level, d)),
+    }
+}
+
+// Judges a leaf of a body: it is taken, or refused by its first fault.
+fn judged(
+    b: Block,
+    e: usize,
+    tall: &[u64; 16],
+    own: usize,
+    room: usize,
+    d: usize,
+    level: u64,
+    n: usize,
+) -> Step
+    requires { ⌜ (own ≤ 16) × (own ≤ length (now tall)) ⌝ }
+    ensures { λ r. ⌜ r ≡ judged-step (fault room d level n (take own (now (tall .entry))) (form-of b)) b e ⌝ }
+{
+    let k = block_fault(b, tall, own, room, d, level, n);
+    if k == 0 {
+        Step::Take(b, e)
+    } else {
+        Step::Stop(k)
+    }
+}
+
+// Reads the line at a place of a body: d brackets are open, and n leaves were read.
+fn one_line(
+    text: &[u8],
+    at: usize,
+    tall: &[u64; 16],
+    own: usize,
+    room: usize,
+    d: usize,
+    level: u64,
+    n: usize,
+) -> Step
+    requires { ⌜ (own ≤ 16) × (own ≤ length (now tall)) ⌝ }
+    ensures { λ r. ⌜ r ≡ step-of room d level n (take own (now (tall .entry))) (read-at (now (text .entry)) at) ⌝ }
+{
+    let Read::Line(f, e) = line(text, at) else {
+        return Step::Stop(FORM);
+    };
+    match f {
+        Form::Task(_, _) => Step::Stop(FORM),
+        Form::Fun => Step::Stop(FORM),
+        Form::Then => Step::Stop(FORM),
+        Form::Else => Step::Stop(FORM),
+        Form::Close => Step::Leave(e),
+        Form::Leaf(k, c, m) => judged(Block::Plain(k, c, m), e, tall, own, room, d, level, n),
+        Form::Call(k, t, c, m) => judged(Block::Calls(k, t, c, m), e, tall, own, room, d, level, n),
+        Form::Loop(k, t, c, m) => judged(Block::Inner(k, t, c, m), e, tall, own, room, d, level, n),
+        Form::If(k, c, m) => judged(Block::Choice(k, c, m), e, tall, own, room, d, level, n),
+    }
+}
+
+// Gives the number of a kind of line.
+fn tag(f: Form) -> u64
+    ensures { λ r. ⌜ r ≡ tag-of f ⌝ }
+{
+    match f {
+        Form::Task(_, _) => 0,
+        Form::Fun => 1,
+        Form::Then => THEN,
+        Form::Else => ELSE,
+        Form::Close => CLOSE,
+        Form::Leaf(_, _, _) => 5,
+        Form::Call(_, _, _, _) => 6,
+        Form::Loop(_, _, _, _) => 7,
+        Form::If(_, _, _) => 8,
+    }
+}
+
+// Looks whether the line at a place is the one with number t.
+fn awaited(text: &[u8], at: usize, t: u64) -> Sign
+    ensures { λ r. ⌜ r ≡ sign-of t (read-at (now (text .entry)) at) ⌝ }
+{
+    let Read::Line(f, e) = line(text, at) else {
+        return Sign::Missing;
+    };
+    if tag(f) == t {
+        Sign::On(e)
+    } else {
+        Sign::Missing
+    }
+}
+
+// Reads the line at a place of the task, outside its functions.
+fn in_task(text: &[u8], at: usize) -> Member
+    ensures { λ r. ⌜ r ≡ member-of (read-at (now (text .entry)) at) ⌝ }
+{
+    let Read::Line(f, e) = line(text, at) else {
+        return Member::Neither;
+    };
+    match f {
+        Form::Task(_, _) => Member::Neither,
+        Form::Fun => Member::Function(e),
+        Form::Then => Member::Neither,
+        Form::Else => Member::Neither,
+        Form::Close => Member::End(e),
+        Form::Leaf(_, _, _) => Member::Neither,
+        Form::Call(_, _, _, _) => Member::Neither,
+        Form::Loop(_, _, _, _) => Member::Neither,
+        Form::If(_, _, _) => Member::Neither,
+    }
+}
+
+// Gives K as a number.
+fn point_mark(k: bool) -> u64
+    ensures { λ r. ⌜ r ≡ mark k ⌝ }
+{
+    if k { 1 } else { 0 }
+}
+
+// Gives the larger of two numbers.
+fn larger(a: u64, b: u64) -> u64
+    ensures { λ r. ⌜ r ≡ max a b ⌝ }
+{
+    if a < b { b } else { a }
+}
+
+// Writes the record of leaf number n.
+fn put(
+    row: &mut [u64; 4096],
+    n: usize,
+    kind: u64,
+    k: bool,
+    c: u64,
+    m: u64,
+    bound: u64,
+    mid: usize,
+    end: usize,
+    level: u64,
+)
+    requires { ⌜ n < 512 ⌝ }
+    ensures { λ _. ⌜ now (row .exit) ≡ sets (now (row .entry)) (8 * n) (kind ∷ mark k ∷ c ∷ m ∷ bound ∷ mid ∷ end ∷ level ∷ []) ⌝ }
+{
+    let at = FIELDS * n;
+    row[at] = kind;
+    row[at + 1] = point_mark(k);
+    row[at + 2] = c;
+    row[at + 3] = m;
+    row[at + 4] = bound;
+    row[at + 5] = mid as u64;
+    row[at + 6] = end as u64;
+    row[at + 7] = level;
+}
+
+// Reads the forms of a body from the place `from` and the line `first` on, up to the bracket that closes it, and writes their records. There is room for so
+// many leaves, d brackets are open, the forms have this level, and `count` leaves were read.
+fn forms(
+    text: &[u8],
+    tall: &[u64; 16],
+    own: usize,
+    room: usize,
+    d: usize,
+    level: u64,
+    from: usize,
+    first: usize,
+    count: usize,
+    row: &mut [u64; 4096],
+) -> Inside
+    requires { ⌜ (own ≤ 16) × (own ≤ length (now tall)) × (room ≤ 512) × (from ≤ length (now text)) × (first ≤ from + 1) × (count ≤ room) ⌝ }
+    ensures { λ r. ⌜ FormsAt (now (text .entry)) room (take own (now (tall .entry))) d level from first count (now (row .entry)) (now (row .exit)) r ⌝ }
+{
+    let mut at = from;
+    let mut i = first;
+    let mut n = count;
+    let mut height = 0;
+    loop {
+        match one_line(text, at, tall, own, room, d, level, n) {
+            Step::Stop(k) => return Inside::Stopped(k, i),
+            Step::Leave(e) => return Inside::Closed(e, i + 1, n, height),
+            Step::Take(b, e) => {
+                let r = one_form(text, tall, own, room, d, level, b, e, i, n, row);
+                match r {
+                    Inside::Stopped(k, j) => return Inside::Stopped(k, j),
+                    Inside::Closed(a, j, m, h) => {
+                        at = a;
+                        i = j;
+                        n = m;
+                        height = larger(height, h);
+                    }
+                }
+            }
+        }
+    }
+}
+
+// Reads the form of the leaf b, number n, whose line has the number i and ends before `at`, and writes its records.
+fn one_form(
+    text: &[u8],
+    tall: &[u64; 16],
+    own: usize,
+    room: usize,
+    d: usize,
+    level: u64,
+    b: Block,
+    at: usize,
+    i: usize,
+    n: usize,
+    row: &mut [u64; 4096],
+) -> Inside
+    requires { ⌜ (own ≤ 16) × (own ≤ length (now tall)) × (room ≤ 512) × (at ≤ length (now text)) × (i ≤ at) × (fault room d level n (take own (now tall)) (form-of b) ≡ 0) ⌝ }
+    ensures { λ r. ⌜ FormAt (now (text .entry)) room (take own (now (tall .entry))) d level at i n (form-of b) (now (row .entry)) (now (row .exit)) r ⌝ }
+{
+    match b {
+        Block::Plain(k, c, m) => {
+            put(row, n, LEAF, k, c, m, 0, 0, n + 1, level);
+            Inside::Closed(at, i + 1, n + 1, 1)
+        }
+        Block::Calls(k, f, c, m) => {
+            put(row, n, CALL, k, c, m, f, 0, n + 1, level);
+            let g = f as usize;
+            Inside::Closed(at, i + 1, n + 1, 1 + tall[g])
+        }
+        Block::Inner(k, t, c, m) => {
+            let up = level + 1;
+            let r = forms(text, tall, own, room, d + 1, up, at, i + 1, n + 1, row);
+            let Inside::Closed(e, j, o, h) = r else {
+                return r;
+            };
+            put(row, n, LOOP, k, c, m, t, 0, o, level);
+            Inside::Closed(e, j, o, 1 + h)
+        }
+        Block::Choice(k, c, m) => if_form(text, tall, own, room, d, level, k, c, m, at, i, n, row),
+    }
+}
+
+// Reads the parts of the if that is leaf number n, its line having the number i and ending before `at`: (then, its forms, (else, its forms and the bracket
+// that closes the if. Writes the records.
+fn if_form(
+    text: &[u8],
+    tall: &[u64; 16],
+    own: usize,
+    room: usize,
+    d: usize,
+    level: u64,
+    k: bool,
+    c: u64,
+    m: u64,
+    at: usize,
+    i: usize,
+    n: usize,
+    row: &mut [u64; 4096],
+) -> Inside
+    requires { ⌜ (own ≤ 16) × (own ≤ length (now tall)) × (room ≤ 512) × (at ≤ length (now text)) × (i ≤ at) × (fault room d level n (take own (now tall)) (If k c m) ≡ 0) ⌝ }
+    ensures { λ r. ⌜ FormAt (now (text .entry)) room (take own (now (tall .entry))) d level at i n (If k c m) (now (row .entry)) (now (row .exit)) r ⌝ }
+{
+    let next = i + 1;
+    let Sign::On(a) = awaited(text, at, THEN) else {
+        return Inside::Stopped(FORM, next);
+    };
+    if MAX_BRACKETS <= d + 1 {
+        return Inside::Stopped(DEPTH, next);
+    }
+    let then = forms(text, tall, own, room, d + 2, level, a, next + 1, n + 1, row);
+    let Inside::Closed(b, j, mid, low) = then else {
+        return then;
+    };
+    let Sign::On(e) = awaited(text, b, ELSE) else {
+        return Inside::Stopped(FORM, j);
+    };
+    let other = forms(text, tall, own, room, d + 2, level, e, j + 1, mid, row);
+    let Inside::Closed(f, l, end, high) = other else {
+        return other;
+    };
+    let Sign::On(g) = awaited(text, f, CLOSE) else {
+        return Inside::Stopped(FORM, l);
+    };
+    put(row, n, IF, k, c, m, 0, mid, end, level);
+    Inside::Closed(g, l + 1, end, larger(1, larger(low, high)))
+}
+
+// Gives the answer of a refused text.
+fn refused(k: u64, j: usize) -> Raw
+    ensures { λ r. ⌜ r ≡ refused-raw k j ⌝ }
+{
+    let bounds = [0; 17];
+    let heights = [0; 16];
+    Raw {
+        answer: Answer::Refused(k, j),
+        deadline: 0,
+        switch: 0,
+        leaves: 0,
+        functions: 0,
+        bounds: bounds,
+        heights: heights,
+    }
+}
+
+// Gives the answer of an accepted text.
+fn accepted(
+    deadline: u64,
+    switch: u64,
+    leaves: usize,
+    functions: usize,
+    bounds: [u64; 17],
+    heights: [u64; 16],
+) -> Raw
+    ensures { λ r. ⌜ r ≡ accepted-raw deadline switch leaves functions bounds heights ⌝ }
+{
+    Raw {
+        answer: Answer::Accepted,
+        deadline: deadline,
+        switch: switch,
+        leaves: leaves,
+        functions: functions,
+        bounds: bounds,
+        heights: heights,
+    }
+}
+
+// Ends the task at its closing bracket, in line i and before the place e: it must hold a function, and the text must end there.
+fn ended(text: &[u8], e: usize, i: usize, raw: Raw) -> Raw
+    requires { ⌜ i ≤ e ⌝ }
+    ensures { λ r. ⌜ r ≡ ended-raw (length (now (text .entry))) e i raw ⌝ }
+{
+    if raw.functions == 0 {
+        return refused(FORM, i);
+    }
+    if e < text.len() {
+        return refused(FORM, i + 1);
+    }
+    raw
+}
+
+// Tests the deadline and the switch cost.
+fn task_fault(d: u64, t: u64) -> u64
+    ensures { λ r. ⌜ r ≡ of-task d t ⌝ }
+{
+    if d < 1 {
+        return RANGE;
+    }
+    if MAX_DEADLINE < d {
+        return RANGE;
+    }
+    if MAX_SWITCH < t { RANGE } else { 0 }
+}
+
+// Reads the first line.
+fn task_line(text: &[u8]) -> Head
+    ensures { λ r. ⌜ r ≡ head-of (read-at (now (text .entry)) 0) ⌝ }
+{
+    let Read::Line(f, e) = line(text, 0) else {
+        return Head::Not(FORM);
+    };
+    match f {
+        Form::Task(d, t) => {
+            let k = task_fault(d, t);
+            if k == 0 {
+                Head::Opens(d, t, e)
+            } else {
+                Head::Not(k)
+            }
+        }
+        Form::Fun => Head::Not(FORM),
+        Form::Then => Head::Not(FORM),
+        Form::Else => Head::Not(FORM),
+        Form::Close => Head::Not(FORM),
+        Form::Leaf(_, _, _) => Head::Not(FORM),
+        Form::Call(_, _, _, _) => Head::Not(FORM),
+        Form::Loop(_, _, _, _) => Head::Not(FORM),
+        Form::If(_, _, _) => Head::Not(FORM),
+    }
+}
+
+// Reads the functions of the task, which begin at the place `from`, up to the task's closing bracket, behind which the text must end.
+fn functions(text: &[u8], d: u64, t: u64, from: usize, room: usize, row: &mut [u64; 4096]) -> Raw
+    requires { ⌜ (room ≤ 512) × Found (now text) 0 (Task d t) from × (of-task d t ≡ 0) ⌝ }
+    ensures { λ r. ⌜ TextAt (now (text .entry)) room (now (row .entry)) (now (row .exit)) r ⌝ }
+{
+    let mut at = from;
+    let mut i = 2;
+    let mut n = 0;
+    let mut own = 0;
+    let mut bounds = [0; 17];
+    let mut heights = [0; 16];
+    loop {
+        match in_task(text, at) {
+            Member::Neither => return refused(FORM, i),
+            Member::End(e) => return ended(text, e, i, accepted(d, t, n, own, bounds, heights)),
+            Member::Function(e) => {
+                if own == MAX_FUNCTIONS {
+                    return refused(COUNT, i);
+                }
+                match forms(text, &heights, own, room, 2, 1, e, i + 1, n, row) {
+                    Inside::Stopped(k, j) => return refused(k, j),
+                    Inside::Closed(a, j, m, h) => {
+                        heights[own] = h;
+                        own += 1;
+                        bounds[own] = m as u64;
+                        at = a;
+                        i = j;
+                        n = m;
+                    }
+                }
+            }
+        }
+    }
+}
+
+// Reads the task.
+fn whole_task(text: &[u8], room: usize, row: &mut [u64; 4096]) -> Raw
+    requires { ⌜ room ≤ 512 ⌝ }
+    ensures { λ r. ⌜ TextAt (now (text .entry)) room (now (row .entry)) (now (row .exit)) r ⌝ }
+{
+    match task_line(text) {
+        Head::Not(k) => refused(k, 1),
+        Head::Opens(d, t, e) => functions(text, d, t, e, room, row),
+    }
+}
+
+// Gives the smaller of two numbers.
+fn smaller(a: usize, b: usize) -> usize
+    ensures { λ r. ⌜ r ≡ min a b ⌝ }
+{
+    if b < a { b } else { a }
+}
+
+// Reads a plan into the lent row, of which so many records may be used, 512 at most. A refused text leaves the row as it is.
+pub fn read_raw(text: &[u8], capacity: usize, row: &mut [u64; 4096]) -> Raw
+    ensures answers { λ r. ⌜ r ≡ raw-of (outcome capacity (now (text .entry))) ⌝ }
+    ensures writes { λ _. ⌜ now (row .exit) ≡ row-after (outcome capacity (now (text .entry))) (now (row .entry)) ⌝ }
+{
+    if MAX_TEXT < text.len() {
+        return refused(OVERSIZE, 0);
+    }
+    let mut work = *row;
+    let raw = whole_task(text, smaller(MAX_LEAVES, capacity), &mut work);
+    let answer = raw.answer;
+    if let Answer::Accepted = answer {
+        *row = work;
+    }
+    raw
+}

@@ -1,0 +1,245 @@
+// Reads the plans of document 01 and a text for each refusal, and prints for each text `accepted` with the number of leaves and functions, or `refused`
+// with the refusal's number and line. What must be printed is worked out by hand beside each text, and stands in the file stdout.
+ghost use mathlib.Core.Path.{_≡_};
+ghost use Prim.Native.Nat.{_≤_};
+ghost use lib.ListN.{length, take};
+use libc::STDOUT_FILENO;
+use reader::Answer;
+use reader::read_raw;
+
+// The most bytes of a text that is built here: one more than a text may have.
+const SIZE: usize = 65537;
+
+// Reads a text into a row of which so many records may be used, and prints the answer.
+fn show(text: &[u8], capacity: usize) {
+    let mut row = [0u64; 4096];
+    let raw = read_raw(text, capacity, &mut row);
+    let answer = raw.answer;
+    match answer {
+        Answer::Accepted => {
+            io::write_all(STDOUT_FILENO, b"accepted ");
+            print_two(raw.leaves as u64, raw.functions as u64);
+        }
+        Answer::Refused(k, j) => {
+            io::write_all(STDOUT_FILENO, b"refused ");
+            print_two(k, j as u64);
+        }
+    }
+}
+
+// Prints two numbers and a line feed.
+fn print_two(a: u64, b: u64) {
+    io::print_decimal(STDOUT_FILENO, a);
+    io::write_all(STDOUT_FILENO, b" ");
+    io::print_decimal(STDOUT_FILENO, b);
+    io::write_all(STDOUT_FILENO, b"\n");
+}
+
+// Gives room for a text.
+fn blank() -> [u8; 65537]
+    ensures { λ r. ⌜ 65537 ≡ length r ⌝ }
+{
+    [0; 65537]
+}
+
+// Writes a piece into the text from `at` on, as far as it has room, and gives the place after it.
+fn add_once(text: &mut [u8; 65537], at: usize, piece: &[u8]) -> usize
+    requires { ⌜ (at ≤ 65537) × (65537 ≡ length (now text)) ⌝ }
+    ensures { λ r. ⌜ (r ≤ 65537) × (65537 ≡ length (now (text .exit))) ⌝ }
+{
+    let mut end = at;
+    let mut j = 0;
+    while j < piece.len() {
+        if end == SIZE {
+            return end;
+        }
+        text[end] = piece[j];
+        end += 1;
+        j += 1;
+    }
+    end
+}
+
+// Writes a piece so many times, one behind the other.
+fn add(text: &mut [u8; 65537], at: usize, piece: &[u8], times: usize) -> usize
+    requires { ⌜ (at ≤ 65537) × (65537 ≡ length (now text)) ⌝ }
+    ensures { λ r. ⌜ (r ≤ 65537) × (65537 ≡ length (now (text .exit))) × (r ≡ length (take r (now (text .exit)))) ⌝ }
+{
+    let mut end = at;
+    let mut k = 0;
+    while k < times {
+        end = add_once(text, end, piece);
+        k += 1;
+    }
+    end
+}
+
+// The plans of document 01, and the edges of a plan that is accepted.
+fn accepted_texts() {
+    // Plan A: the leaves are leaf, loop, leaf, leaf; one function.
+    show(
+        b"(task 100 4\n(fun\n(leaf p 5 9)\n(loop p 3 2 4\n(leaf s 10 20)\n)\n(leaf s 6 8)\n)\n)\n",
+        512,
+    );
+    // Plan B: leaf 0 in function 0; if, call, leaf, call in function 1.
+    show(
+        b"(task 200 5\n(fun\n(leaf p 3 4)\n)\n(fun\n(if p 2 3\n(then\n(call p 0 1 2)\n)\n(else\n(leaf s 9 10)\n)\n)\n(call p 0 1 2)\n)\n)\n",
+        512,
+    );
+    // The smallest plan: one leaf, one function.
+    show(b"(task 19 3\n(fun\n(leaf s 7 9)\n)\n)\n", 512);
+    // A row of one record is enough for it.
+    show(b"(task 19 3\n(fun\n(leaf s 7 9)\n)\n)\n", 1);
+    // A function may be empty.
+    show(b"(task 1 0\n(fun\n)\n)\n", 0);
+}
+
+// Refusal 2, form.
+fn form_texts() {
+    // The empty text ends early: the line after the last is line 1.
+    show(b"", 512);
+    // The last line, number 5, has no line feed.
+    show(b"(task 19 3\n(fun\n(leaf s 7 9)\n)\n)", 512);
+    // The text ends after line 2: the line after the last is line 3.
+    show(b"(task 19 3\n(fun\n", 512);
+    // The text goes on behind the closed task, with line 6.
+    show(b"(task 19 3\n(fun\n(leaf s 7 9)\n)\n)\n)\n", 512);
+    // Line 2 is blank.
+    show(b"(task 19 3\n\n(fun\n(leaf s 7 9)\n)\n)\n", 512);
+    // Line 1 ends in a carriage return and a line feed.
+    show(b"(task 19 3\r\n(fun\r\n)\r\n)\r\n", 512);
+    // C has a leading zero in line 3.
+    show(b"(task 19 3\n(fun\n(leaf s 07 9)\n)\n)\n", 512);
+    // An else part, in line 4, where the then part must come.
+    show(
+        b"(task 1 0\n(fun\n(if s 0 0\n(else\n)\n(then\n)\n)\n)\n)\n",
+        512,
+    );
+    // The task closes in line 2 and holds no function.
+    show(b"(task 1 0\n)\n", 512);
+    // A leaf in line 2 stands in no function: form comes before range.
+    show(b"(task 1 0\n(leaf s 1048577 0)\n)\n", 512);
+}
+
+// Refusal 3, range.
+fn range_texts() {
+    // D is 0 in line 1.
+    show(b"(task 0 0\n(fun\n)\n)\n", 512);
+    // D is 2^40 + 1 in line 1.
+    show(b"(task 1099511627777 0\n(fun\n)\n)\n", 512);
+    // D has 30 digits in line 1.
+    show(b"(task 999999999999999999999999999999 0\n(fun\n)\n)\n", 512);
+    // B is 0 in line 3.
+    show(b"(task 1 0\n(fun\n(loop s 0 1 1\n)\n)\n)\n", 512);
+    // F is 16 in line 3: range comes before target.
+    show(b"(task 1 0\n(fun\n(call s 16 1 1)\n)\n)\n", 512);
+    // C is 2^20 + 1 in line 3: range comes before count, and the row has no record.
+    show(b"(task 1 0\n(fun\n(leaf s 1048577 1048577)\n)\n)\n", 0);
+}
+
+// Refusals 4 to 6, count, load and target.
+fn later_texts() {
+    // A row of no record: the leaf in line 3 is one more than it holds.
+    show(b"(task 19 3\n(fun\n(leaf s 7 9)\n)\n)\n", 0);
+    // The same with M below C: count comes before load.
+    show(b"(task 19 3\n(fun\n(leaf s 9 7)\n)\n)\n", 0);
+    // M is below C in line 3.
+    show(b"(task 19 3\n(fun\n(leaf s 9 7)\n)\n)\n", 512);
+    // Function 0 calls itself in line 3.
+    show(b"(task 1 0\n(fun\n(call s 0 1 1)\n)\n)\n", 512);
+    // Function 0 calls itself in line 3, with M below C: load comes before target.
+    show(b"(task 1 0\n(fun\n(call s 0 2 1)\n)\n)\n", 512);
+}
+
+// Texts of many bytes, leaves or functions, for refusals 1 and 4.
+fn long_texts() {
+    let mut text = blank();
+    // The smallest plan, of 33 bytes, and blanks up to 65,537 bytes: oversize, with line 0.
+    let a0 = add(&mut text, 0, b"(task 19 3\n(fun\n(leaf s 7 9)\n)\n)\n", 1);
+    let a1 = add(&mut text, a0, b" ", 65504);
+    show(&text[..a1], 512);
+    // With blanks up to 65,536 bytes it is not oversize: the text goes on with line 6.
+    let b0 = add(&mut text, 0, b"(task 19 3\n(fun\n(leaf s 7 9)\n)\n)\n", 1);
+    let b1 = add(&mut text, b0, b" ", 65503);
+    show(&text[..b1], 512);
+    // The last of them is a line feed, and still the text goes on.
+    let b2 = add(&mut text, b0, b" ", 65502);
+    let b3 = add(&mut text, b2, b"\n", 1);
+    show(&text[..b3], 512);
+    // 512 leaves in lines 3 to 514.
+    let c0 = add(&mut text, 0, b"(task 1 0\n(fun\n", 1);
+    let c1 = add(&mut text, c0, b"(leaf s 0 0)\n", 512);
+    let c2 = add(&mut text, c1, b")\n", 2);
+    show(&text[..c2], 512);
+    // 513 leaves: the last stands in line 515; of a longer row only 512 records are used.
+    let d0 = add(&mut text, 0, b"(task 1 0\n(fun\n", 1);
+    let d1 = add(&mut text, d0, b"(leaf s 0 0)\n", 513);
+    let d2 = add(&mut text, d1, b")\n", 2);
+    show(&text[..d2], 600);
+    // 16 functions in lines 2 to 33.
+    let e0 = add(&mut text, 0, b"(task 1 0\n", 1);
+    let e1 = add(&mut text, e0, b"(fun\n)\n", 16);
+    let e2 = add(&mut text, e1, b")\n", 1);
+    show(&text[..e2], 512);
+    // 17 functions: the last stands in line 34.
+    let f0 = add(&mut text, 0, b"(task 1 0\n", 1);
+    let f1 = add(&mut text, f0, b"(fun\n)\n", 17);
+    let f2 = add(&mut text, f1, b")\n", 1);
+    show(&text[..f2], 512);
+}
+
+// Refusal 7, depth.
+fn deep_texts() {
+    let mut text = blank();
+    // 64 open brackets: task, fun and 31 times if and then. The level stays 1. 31 ifs.
+    let a0 = add(&mut text, 0, b"(task 1 0\n(fun\n", 1);
+    let a1 = add(&mut text, a0, b"(if s 0 0\n(then\n", 31);
+    let a2 = add(&mut text, a1, b")\n(else\n)\n)\n", 31);
+    let a3 = add(&mut text, a2, b")\n", 2);
+    show(&text[..a3], 512);
+    // The same with a 32nd if in line 2 + 62 + 1: the 65th open bracket.
+    let b0 = add(&mut text, 0, b"(task 1 0\n(fun\n", 1);
+    let b1 = add(&mut text, b0, b"(if s 0 0\n(then\n", 32);
+    let b2 = add(&mut text, b1, b")\n(else\n)\n)\n", 32);
+    let b3 = add(&mut text, b2, b")\n", 2);
+    show(&text[..b3], 512);
+    // A loop in line 3, 30 times if and then in lines 4 to 63, the 64th bracket in line 64: its then in line 65 is the 65th.
+    let c0 = add(&mut text, 0, b"(task 1 0\n(fun\n(loop s 1 0 0\n", 1);
+    let c1 = add(&mut text, c0, b"(if s 0 0\n(then\n", 31);
+    let c2 = add(&mut text, c1, b")\n(else\n)\n)\n", 31);
+    let c3 = add(&mut text, c2, b")\n", 3);
+    show(&text[..c3], 512);
+    // 32 loops, each in the body of the one before: the innermost has level 32.
+    let d0 = add(&mut text, 0, b"(task 1 0\n(fun\n", 1);
+    let d1 = add(&mut text, d0, b"(loop s 1 0 0\n", 32);
+    let d2 = add(&mut text, d1, b")\n", 34);
+    show(&text[..d2], 512);
+    // 33 loops: the innermost, in line 35, has level 33.
+    let e0 = add(&mut text, 0, b"(task 1 0\n(fun\n", 1);
+    let e1 = add(&mut text, e0, b"(loop s 1 0 0\n", 33);
+    let e2 = add(&mut text, e1, b")\n", 35);
+    show(&text[..e2], 512);
+    // Function 0 has 31 loops, each in the one before; the call at level 1 reaches level 32. 31 loops and a call.
+    let f0 = add(&mut text, 0, b"(task 1 0\n(fun\n", 1);
+    let f1 = add(&mut text, f0, b"(loop s 1 0 0\n", 31);
+    let f2 = add(&mut text, f1, b")\n", 32);
+    let f3 = add(&mut text, f2, b"(fun\n(call s 0 0 0)\n", 1);
+    let f4 = add(&mut text, f3, b")\n", 2);
+    show(&text[..f4], 512);
+    // Function 0 has 32 loops in lines 3 to 34 and closes in line 67; the call in line 69 reaches level 33.
+    let g0 = add(&mut text, 0, b"(task 1 0\n(fun\n", 1);
+    let g1 = add(&mut text, g0, b"(loop s 1 0 0\n", 32);
+    let g2 = add(&mut text, g1, b")\n", 33);
+    let g3 = add(&mut text, g2, b"(fun\n(call s 0 0 0)\n", 1);
+    let g4 = add(&mut text, g3, b")\n", 2);
+    show(&text[..g4], 512);
+}
+
+fn main() {
+    accepted_texts();
+    form_texts();
+    range_texts();
+    later_texts();
+    long_texts();
+    deep_texts();
+}

@@ -1,0 +1,41 @@
+//! The reference's own checks: the worked plans, the readings taken, the aimed
+//! texts, the two ways of finding the numbers against each other, and timed runs.
+
+mod compare;
+mod large;
+mod readings_of_calls;
+mod readings_of_texts;
+mod tally;
+mod texts;
+mod timed;
+mod worked;
+
+use std::panic::{catch_unwind, AssertUnwindSafe};
+
+use tally::Tally;
+
+fn main() {
+    let mut tally = Tally::new();
+    let parts: [(&str, fn(&mut Tally)); 7] = [
+        ("worked plans", worked::check),
+        ("readings of texts", readings_of_texts::check),
+        ("readings of calls", readings_of_calls::check),
+        ("texts", texts::check),
+        ("listed against composed", compare::check),
+        ("large plans", large::check),
+        ("timed runs", timed::check),
+    ];
+    for (name, check) in parts {
+        let before = tally.passed + tally.failed;
+        // A part that stops early is a failure like any other; the rest still runs.
+        if catch_unwind(AssertUnwindSafe(|| check(&mut tally))).is_err() {
+            tally.failed += 1;
+            println!("failed: {name} stopped early");
+        }
+        println!("{name}: {} checks", tally.passed + tally.failed - before);
+    }
+    println!("{} passed, {} failed", tally.passed, tally.failed);
+    if tally.failed > 0 {
+        std::process::exit(1);
+    }
+}

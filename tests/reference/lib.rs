@@ -1,0 +1,16 @@
+//! A second opinion on plans, tables and calls, written from the sentences
+//! of document 01 alone. The tests compare the proved code with it.
+
+pub mod aimed;
+mod aimed_lines;
+pub mod calls;
+pub mod composed;
+pub mod crossed;
+pub mod damage;
+pub mod gen;
+pub mod lines;
+pub mod listed;
+pub mod numbers;
+pub mod plan;
+pub mod rules;
+pub mod runs;

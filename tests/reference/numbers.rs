@@ -1,0 +1,61 @@
+//! The numbers of a plan, as the listing and the calls need them. They are
+//! found twice: read off the list of all runs, and composed form by form.
+
+use std::collections::BTreeSet;
+
+use super::plan::{Plan, MOST_LEVEL};
+
+/// Remaining times of the levels 0 to 32.
+pub type Times = [u64; MOST_LEVEL + 1];
+
+pub trait Numbers {
+    /// Where a run stands at its last report, or at the release.
+    type Place: Clone;
+
+    fn plan(&self) -> &Plan;
+    fn total(&self) -> u64;
+    fn max_load_total(&self) -> u64;
+    fn release_stretch(&self) -> u64;
+
+    /// Of a leaf: its level in its own function.
+    fn level(&self, leaf: usize) -> usize;
+    /// Of a leaf: largest isolated sum from a first visit to the end of its function.
+    fn tail(&self, leaf: usize) -> u64;
+    /// Of a point: largest max-load sum up to the next point or the end.
+    fn stretch(&self, leaf: usize) -> u64;
+
+    fn release(&self) -> Self::Place;
+    /// The place after one more report, None if no run has it next.
+    fn report(&self, place: &Self::Place, leaf: usize) -> Option<Self::Place>;
+    fn last_point(&self, place: &Self::Place) -> Option<usize>;
+    fn next_points(&self, place: &Self::Place) -> BTreeSet<usize>;
+    fn can_end(&self, place: &Self::Place) -> bool;
+    fn remaining(&self, place: &Self::Place) -> u64;
+    fn times(&self, place: &Self::Place) -> Times;
+    /// Level of the last point in the run; 0 at the release.
+    fn level_in_run(&self, place: &Self::Place) -> usize;
+}
+
+/// What the table program prints for an accepted plan.
+pub fn listing<N: Numbers>(numbers: &N) -> String {
+    let plan = numbers.plan();
+    let mut lines = format!(
+        "task {} {} {} {}\n",
+        numbers.total(),
+        numbers.max_load_total(),
+        plan.deadline,
+        plan.switch
+    );
+    for (_, form) in plan.leaves() {
+        if form.point {
+            let leaf = form.leaf;
+            lines.push_str(&format!(
+                "point {leaf} {} {} {}\n",
+                numbers.level(leaf),
+                numbers.tail(leaf),
+                numbers.stretch(leaf)
+            ));
+        }
+    }
+    lines
+}
