@@ -1,0 +1,13 @@
+pub mod Answers
+pub mod Deciding
+pub mod Found
+pub mod Levels
+pub mod Measures
+pub mod Functions
+pub mod Callers
+pub mod Sounds
+pub mod Hearing
+pub mod Listening
+pub mod Decoded
+pub mod Theorems
+pub mod Worked

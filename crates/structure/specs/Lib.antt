@@ -1,0 +1,7 @@
+pub mod Answers
+pub mod Records
+pub mod Tops
+pub mod Plans
+pub mod Points
+pub mod Reading
+pub mod Worked

@@ -1,0 +1,498 @@
+// Whether a row of numbers is the raw row of a plan that keeps rules 3 to 9.
+ghost use mathlib.Core.Path.{_≡_};
+ghost use mathlib.Core.Bool.{Bool, true, false};
+ghost use Prim.Native.Nat.{ℕ, _+_, _*_, _≤_, _<_};
+ghost use mathlib.Core.List.{List, [], _∷_};
+ghost use lib.ListN.{length, getD, take};
+ghost use Rattle.model.specs.Acceptance.{Called, Seen, Seen-all};
+ghost use Rattle.model.specs.Forms.{Forms, forms};
+ghost use Rattle.model.specs.Levels.{height, heights};
+ghost use Rattle.rows.specs.Rows.{field, Part};
+ghost use Rattle.structure.specs.Answers.{Says};
+ghost use Rattle.structure.specs.Plans.{Bounds, Plan-of, Structured};
+ghost use Rattle.structure.specs.Points.{Text, Pointed, Flags, Loud, silent-end, Allowed};
+ghost use Rattle.structure.specs.Records.{Priced, Placed, Leaf-right, Call-right, Loop-right, If-right, Sound, Head};
+ghost use Rattle.structure.specs.Tops.{Readable, top};
+use rows::get;
+use rows::index;
+use rows::larger;
+
+// The kinds of a record: leaf,
+const LEAF: u64 = 0;
+
+// call,
+const CALL: u64 = 1;
+
+// loop
+const LOOP: u64 = 2;
+
+// and if.
+const IF: u64 = 3;
+
+// The largest cost, 2^20.
+const COST: u64 = 1048576;
+
+// The largest bound of a loop.
+const TURNS: usize = 65535;
+
+// The highest level.
+const LEVELS: u64 = 32;
+
+// The most functions, and their bounds, one more.
+const FUNCTIONS: usize = 16;
+
+const BOUNDS: usize = 17;
+
+// The most leaves.
+const LEAVES: usize = 512;
+
+// The numbers of a record.
+const STRIDE: usize = 8;
+
+// The brackets that may open inside a function.
+const BRACKETS: usize = 62;
+
+// Whether the record i is a point or a silent one, and its costs keep rules 3 and 5.
+fn priced(row: &[u64], i: usize) -> bool
+    requires { ⌜ i * 8 + 8 ≤ length (now row) ⌝ }
+    ensures { λ r. ⌜ Says r (Priced (now (row .entry)) i) ⌝ }
+{
+    let c = get(row, i, 2);
+    let m = get(row, i, 3);
+    if 1 < get(row, i, 1) {
+        return false;
+    }
+    if COST < c {
+        return false;
+    }
+    if COST < m {
+        return false;
+    }
+    if m < c {
+        return false;
+    }
+    true
+}
+
+// Whether the record i stands at level l, which is not too high, and its form ends after it begins and by `to`.
+fn placed(row: &[u64], i: usize, to: usize, l: u64) -> bool
+    requires { ⌜ i * 8 + 8 ≤ length (now row) ⌝ }
+    ensures { λ r. ⌜ Says r (Placed (now (row .entry)) l i to) ⌝ }
+{
+    let end = index(row, i, 6);
+    if get(row, i, 7) != l {
+        return false;
+    }
+    if LEVELS < l {
+        return false;
+    }
+    if end <= i {
+        return false;
+    }
+    if to < end {
+        return false;
+    }
+    true
+}
+
+// Whether the record i has the fields of a leaf.
+fn leaf_right(row: &[u64], i: usize) -> bool
+    requires { ⌜ i * 8 + 8 ≤ length (now row) ⌝ }
+    ensures { λ r. ⌜ Says r (Leaf-right (now (row .entry)) i) ⌝ }
+{
+    let number = get(row, i, 4);
+    if number != 0 {
+        return false;
+    }
+    if get(row, i, 5) != 0 {
+        return false;
+    }
+    if index(row, i, 6) != i + 1 {
+        return false;
+    }
+    true
+}
+
+// Whether the record i has the fields of a call at level l, where `hs` are the heights of the functions before.
+fn call_right(row: &[u64], i: usize, l: u64, hs: &[u64]) -> bool
+    requires { ⌜ (i * 8 + 8 ≤ length (now row)) × (l ≤ 32) ⌝ }
+    ensures { λ r. ⌜ Says r (Call-right (now (row .entry)) (now (hs .entry)) l i) ⌝ }
+{
+    let f = index(row, i, 4);
+    if FUNCTIONS <= f {
+        return false;
+    }
+    if hs.len() <= f {
+        return false;
+    }
+    if LEVELS - l < hs[f] {
+        return false;
+    }
+    if get(row, i, 5) != 0 {
+        return false;
+    }
+    if index(row, i, 6) != i + 1 {
+        return false;
+    }
+    true
+}
+
+// Whether the record i has the fields of a loop, where `left` brackets may still open.
+fn loop_right(row: &[u64], i: usize, left: usize) -> bool
+    requires { ⌜ i * 8 + 8 ≤ length (now row) ⌝ }
+    ensures { λ r. ⌜ Says r (Loop-right (now (row .entry)) left i) ⌝ }
+{
+    let n = index(row, i, 4);
+    if n < 1 {
+        return false;
+    }
+    if TURNS < n {
+        return false;
+    }
+    if left < 1 {
+        return false;
+    }
+    if get(row, i, 5) != 0 {
+        return false;
+    }
+    true
+}
+
+// Whether the record i has the fields of an if, where `left` brackets may still open.
+fn if_right(row: &[u64], i: usize, left: usize) -> bool
+    requires { ⌜ i * 8 + 8 ≤ length (now row) ⌝ }
+    ensures { λ r. ⌜ Says r (If-right (now (row .entry)) left i) ⌝ }
+{
+    let mid = index(row, i, 5);
+    if get(row, i, 4) != 0 {
+        return false;
+    }
+    if left < 2 {
+        return false;
+    }
+    if mid <= i {
+        return false;
+    }
+    if index(row, i, 6) < mid {
+        return false;
+    }
+    true
+}
+
+// Whether the record i is what one of its kind must be, apart from the forms inside it.
+fn sound(row: &[u64], i: usize, to: usize, left: usize, l: u64, hs: &[u64]) -> bool
+    requires { ⌜ (i < to) × (to * 8 ≤ length (now row)) ⌝ }
+    ensures { λ r. ⌜ Says r (Sound (now (row .entry)) (now (hs .entry)) left l i to) ⌝ }
+{
+    if !priced(row, i) {
+        return false;
+    }
+    if !placed(row, i, to, l) {
+        return false;
+    }
+    let kind = get(row, i, 0);
+    if kind == LEAF {
+        return leaf_right(row, i);
+    }
+    if kind == CALL {
+        return call_right(row, i, l, hs);
+    }
+    if kind == LOOP {
+        return loop_right(row, i, left);
+    }
+    if kind == IF {
+        return if_right(row, i, left);
+    }
+    false
+}
+
+// Whether one whole form begins at i, and ends by `to`.
+fn whole(row: &[u64], i: usize, to: usize, left: usize, l: u64, hs: &[u64]) -> bool
+    requires { ⌜ (i < to) × (to * 8 ≤ length (now row)) ⌝ }
+    ensures { λ r. ⌜ Says r (Head (now (row .entry)) (now (hs .entry)) left l i to) ⌝ }
+{
+    if !sound(row, i, to, left, l, hs) {
+        return false;
+    }
+    let kind = get(row, i, 0);
+    let end = index(row, i, 6);
+    if kind == LOOP {
+        return valid(row, i + 1, end, left - 1, l + 1, hs);
+    }
+    if kind == IF {
+        let mid = index(row, i, 5);
+        if !valid(row, i + 1, mid, left - 2, l, hs) {
+            return false;
+        }
+        return valid(row, mid, end, left - 2, l, hs);
+    }
+    true
+}
+
+// Whether the records from `from` up to `to` are lines at level l that keep rules 3, 5, 6 and 7, where `left` brackets may still open and
+// `hs` are the heights of the functions before.
+pub fn valid(row: &[u64], from: usize, to: usize, left: usize, l: u64, hs: &[u64]) -> bool
+    requires { ⌜ to * 8 ≤ length (now row) ⌝ }
+    ensures { λ r. ⌜ Says r (Part (now (row .entry)) (now (hs .entry)) left l from to) ⌝ }
+{
+    let mut i = from;
+    while i < to {
+        if !whole(row, i, to, left, l, hs) {
+            return false;
+        }
+        i = index(row, i, 6);
+    }
+    if i == to { true } else { false }
+}
+
+// The level of the record i and, where it is a call, of what it calls.
+fn reach(row: &[u64], i: usize, hs: &[u64]) -> u64
+    requires { ⌜ (i * 8 + 8 ≤ length (now row)) × Readable (now row) (now hs) i ⌝ }
+    ensures { λ r. ⌜ r ≡ top (now (row .entry)) (now (hs .entry)) i ⌝ }
+{
+    let l = get(row, i, 7);
+    if get(row, i, 0) == CALL {
+        let f = index(row, i, 4);
+        return l + hs[f];
+    }
+    l
+}
+
+// The height of the function whose lines are the records from `from` up to `to`.
+pub fn tall(row: &[u64], from: usize, to: usize, hs: &[u64]) -> u64
+    requires { ⌜ to * 8 ≤ length (now row) ⌝ }
+    requires { ⌜ Part (now row) (now hs) 62 1 from to ⌝ }
+    ensures { λ r. ⌜ ((p : Part (now (row .entry)) (now (hs .entry)) 62 1 from to) → r ≡ height (now (hs .entry)) (p .lines)) ⌝ }
+{
+    let mut h = 0;
+    let mut i = from;
+    while i < to {
+        h = larger(h, reach(row, i, hs));
+        i += 1;
+    }
+    h
+}
+
+// The first leaf of the function f.
+fn start(starts: &[u64; BOUNDS], f: usize) -> usize
+    requires { ⌜ f ≤ 16 ⌝ }
+    ensures { λ r. ⌜ r ≡ getD (now (starts .entry)) f 0 ⌝ }
+{
+    starts[f] as usize
+}
+
+// Whether the bounds behind the last of n functions are 0.
+fn unused(starts: &[u64; BOUNDS], n: usize) -> bool
+    requires { ⌜ n ≤ 16 ⌝ }
+    ensures { λ r. ⌜ Says r ((f : ℕ) → n < f → f ≤ 16 → getD (now (starts .entry)) f 0 ≡ 0) ⌝ }
+{
+    let mut f = n + 1;
+    while f <= FUNCTIONS {
+        if start(starts, f) != 0 {
+            return false;
+        }
+        f += 1;
+    }
+    true
+}
+
+// Whether the bounds of n functions are right, apart from what lies between them.
+fn bounded(row: &[u64], starts: &[u64; BOUNDS], n: usize) -> bool
+    ensures { λ r. ⌜ Says r (Bounds (now (row .entry)) (now (starts .entry)) n) ⌝ }
+{
+    if n < 1 {
+        return false;
+    }
+    if FUNCTIONS < n {
+        return false;
+    }
+    if start(starts, 0) != 0 {
+        return false;
+    }
+    let leaves = start(starts, n);
+    if LEAVES < leaves {
+        return false;
+    }
+    if row.len() < leaves * STRIDE {
+        return false;
+    }
+    if !unused(starts, n) {
+        return false;
+    }
+    true
+}
+
+// Whether the row, with these bounds of n functions, is that of a plan that keeps rules 3 to 7. The heights of its functions stand in `hs`.
+pub fn formed(row: &[u64], starts: &[u64; BOUNDS], n: usize, hs: &mut [u64]) -> bool
+    requires { ⌜ 16 ≤ length (now hs) ⌝ }
+    ensures { λ r. ⌜ Says r (Plan-of (now (row .entry)) (now (starts .entry)) n) ⌝ }
+    ensures { λ r. ⌜ ((p : Plan-of (now (row .entry)) (now (starts .entry)) n) → take n (now (hs .exit)) ≡ heights [] (p .functions)) ⌝ }
+{
+    if !bounded(row, starts, n) {
+        return false;
+    }
+    let leaves = start(starts, n);
+    let mut f = 0;
+    while f < n {
+        let from = start(starts, f);
+        let to = start(starts, f + 1);
+        if leaves < to {
+            return false;
+        }
+        if !valid(row, from, to, BRACKETS, 1, &hs[..f]) {
+            return false;
+        }
+        let h = tall(row, from, to, &hs[..f]);
+        hs[f] = h;
+        f += 1;
+    }
+    true
+}
+
+// Whether every function of a plan but the last is named by a call: rule 9.
+pub fn called(row: &[u64], starts: &[u64; BOUNDS], n: usize) -> bool
+    requires { ⌜ Plan-of (now row) (now starts) n ⌝ }
+    ensures { λ r. ⌜ ((p : Plan-of (now (row .entry)) (now (starts .entry)) n) → Says r (Called (p .functions))) ⌝ }
+{
+    let leaves = start(starts, n);
+    let mut named = [false; FUNCTIONS];
+    let mut i = 0;
+    while i < leaves {
+        if get(row, i, 0) == CALL {
+            let f = index(row, i, 4);
+            named[f] = true;
+        }
+        i += 1;
+    }
+    let mut f = 0;
+    while f + 1 < n {
+        if !named[f] {
+            return false;
+        }
+        f += 1;
+    }
+    true
+}
+
+// Whether the record i is a point, or calls a function that has one.
+fn noisy(row: &[u64], i: usize, loud: &[bool]) -> bool
+    requires { ⌜ i * 8 + 8 ≤ length (now row) ⌝ }
+    requires { ⌜ (field (now row) i 0 ≡ 1 → field (now row) i 4 < length (now loud)) ⌝ }
+    ensures { λ r. ⌜ Says r (Loud (now (row .entry)) (now (loud .entry)) i) ⌝ }
+{
+    if get(row, i, 1) == 1 {
+        return true;
+    }
+    if get(row, i, 0) == CALL {
+        let f = index(row, i, 4);
+        return loud[f];
+    }
+    false
+}
+
+// Whether the record i may stand where silent loops reach up to `hush`.
+fn allowed(row: &[u64], i: usize, hush: usize, loud: &[bool]) -> bool
+    requires { ⌜ i * 8 + 8 ≤ length (now row) ⌝ }
+    requires { ⌜ (field (now row) i 0 ≡ 1 → field (now row) i 4 < length (now loud)) ⌝ }
+    ensures { λ r. ⌜ Says r (Allowed (now (row .entry)) (now (loud .entry)) hush i) ⌝ }
+{
+    if !noisy(row, i, loud) {
+        return true;
+    }
+    if i < hush {
+        return false;
+    }
+    if get(row, i, 1) != 1 {
+        return false;
+    }
+    true
+}
+
+// How far silent loops reach, the record i among them.
+fn hushed(row: &[u64], i: usize, hush: usize) -> usize
+    requires { ⌜ i * 8 + 8 ≤ length (now row) ⌝ }
+    ensures { λ r. ⌜ r ≡ Prim.Native.Nat.max hush (silent-end (now (row .entry)) i) ⌝ }
+{
+    if get(row, i, 1) != 0 {
+        return hush;
+    }
+    if get(row, i, 0) != LOOP {
+        return hush;
+    }
+    let end = index(row, i, 6);
+    if hush < end { end } else { hush }
+}
+
+// Whether a function keeps rule 8, where `loud` says which functions before it have a point.
+pub fn seen(row: &[u64], from: usize, to: usize, loud: &[bool]) -> bool
+    requires { ⌜ to * 8 ≤ length (now row) ⌝ }
+    requires { ⌜ Text (now row) (length (now loud)) from to ⌝ }
+    ensures { λ r. ⌜ ((fs : List Forms) → Flags (now (loud .entry)) fs → (t : Text (now (row .entry)) (length (now (loud .entry))) from to)
+        → Says r (Seen (forms fs (t .lines)))) ⌝ }
+{
+    let mut hush = 0;
+    let mut i = from;
+    while i < to {
+        if !allowed(row, i, hush, loud) {
+            return false;
+        }
+        hush = hushed(row, i, hush);
+        i += 1;
+    }
+    true
+}
+
+// Whether a function has a point, inside it or in what it calls.
+pub fn pointed(row: &[u64], from: usize, to: usize, loud: &[bool]) -> bool
+    requires { ⌜ to * 8 ≤ length (now row) ⌝ }
+    requires { ⌜ Text (now row) (length (now loud)) from to ⌝ }
+    ensures { λ r. ⌜ ((fs : List Forms) → Flags (now (loud .entry)) fs → (t : Text (now (row .entry)) (length (now (loud .entry))) from to)
+        → Says r (Pointed (forms fs (t .lines)))) ⌝ }
+{
+    let mut i = from;
+    while i < to {
+        if noisy(row, i, loud) {
+            return true;
+        }
+        i += 1;
+    }
+    false
+}
+
+// Whether no silent loop or call of a plan has a point inside it or in what it calls: rule 8.
+pub fn seen_all(row: &[u64], starts: &[u64; BOUNDS], n: usize) -> bool
+    requires { ⌜ Plan-of (now row) (now starts) n ⌝ }
+    ensures { λ r. ⌜ ((p : Plan-of (now (row .entry)) (now (starts .entry)) n) → Says r (Seen-all [] (p .functions))) ⌝ }
+{
+    let mut loud = [false; FUNCTIONS];
+    let mut f = 0;
+    while f < n {
+        let from = start(starts, f);
+        let to = start(starts, f + 1);
+        if !seen(row, from, to, &loud[..f]) {
+            return false;
+        }
+        let some = pointed(row, from, to, &loud[..f]);
+        loud[f] = some;
+        f += 1;
+    }
+    true
+}
+
+// Whether the row, with these bounds of n functions, is that of a plan that keeps rules 3 to 9. The heights of its functions stand in `hs`.
+pub fn structured(row: &[u64], starts: &[u64; BOUNDS], n: usize, hs: &mut [u64]) -> bool
+    requires { ⌜ 16 ≤ length (now hs) ⌝ }
+    ensures { λ r. ⌜ Says r (Structured (now (row .entry)) (now (starts .entry)) n) ⌝ }
+    ensures { λ r. ⌜ ((p : Plan-of (now (row .entry)) (now (starts .entry)) n) → take n (now (hs .exit)) ≡ heights [] (p .functions)) ⌝ }
+{
+    if !formed(row, starts, n, hs) {
+        return false;
+    }
+    if !seen_all(row, starts, n) {
+        return false;
+    }
+    if !called(row, starts, n) {
+        return false;
+    }
+    true
+}
