@@ -1,0 +1,413 @@
+-- `columns::sum_block` and `columns::sum_form`, which call each other, meet their contracts. Assumes nothing.
+use Rattle.columns.proofs.Summing.{leaf-turn, call-turn, if-turn, leaf-sum, call-sum, loop-sum, if-sum, loop-note, Passed, pass, passed-all}
+use Rattle.columns.proofs.Fronts.{leaf-front, call-front, loop-front, if-front}
+use Rattle.columns.proofs.Sizes.{body-laid, then-laid, else-laid}
+use Rattle.columns.proofs.Capped.{price-le}
+use Rattle.columns.specs.Columns.{turn-rule, turns}
+use Rattle.columns.specs.Sums.{ceiling, price, Laid}
+use Rattle.rows.proofs.Shape.{leaf-at, call-at, loop-at, if-at, ends, parts}
+use Rattle.rows.specs.Rows.{block-at}
+use Rattle.model.specs.Total.{tally}
+use lib.Seq.{sets}
+use lib.ListN.{getD}
+use Prim.Native.Nat.{_+_, _-_, _≤_}
+use mathlib.Core.Path.{refl, ap}
+use borrow.Author.Needs.{needs}
+use native.Mathlib.Omega.{arith}
+use Prim.Native.Nat.{ℕ, _<_}
+use borrow.Fn.Kinds.{In}
+use borrow.Fn.PlainCycle.{Measures, is, falls, and}
+use Rattle.columns.proofs.sum_block.Reads as sum-block
+use Rattle.columns.proofs.sum_block.Kinds as sum-block-kinds
+use Rattle.columns.proofs.+sum_block+sum_form.Lts-sum_block as sum-block-lts
+use Rattle.columns.proofs.sum_form.Reads as sum-form
+use Rattle.columns.proofs.sum_form.Kinds as sum-form-kinds
+use Rattle.columns.proofs.+sum_block+sum_form.Lts-sum_form as sum-form-lts
+use Rattle.columns.proofs.clip.Reads as clip-reads
+use Rattle.columns.proofs.cost.Reads as cost-reads
+use Rattle.columns.proofs.looped.Reads as looped-reads
+use Rattle.rows.proofs.get.Reads as get-reads
+use Rattle.rows.proofs.index.Reads as index-reads
+use Rattle.rows.proofs.larger.Reads as larger-reads
+use Rattle.columns.proofs.+sum_block+sum_form.{statement}
+use Rattle.columns.proofs.+sum_block+sum_form.Tie.{close}
+
+abbrev μ-sum-block : Measures 3 sum-block-kinds.ps ℕ
+μ-sum-block κs a = a .1 .1 .1 .1 .0 + a .1 .1 .1 .1 .0 + 1
+
+abbrev μ-sum-form : Measures 3 sum-form-kinds.ps ℕ
+μ-sum-form κs a = a .1 .1 .1 .1 .0 + a .1 .1 .1 .1 .0
+
+abbrev sum-block-at : ℕ → In 3 sum-block-kinds.ps
+sum-block-at t = and 3 sum-block-kinds.ps (is 3 sum-block-kinds.ps μ-sum-block t) sum-block.Pre
+
+abbrev sum-block-below : ℕ → In 3 sum-block-kinds.ps
+sum-block-below t =
+    and 3 sum-block-kinds.ps (falls 3 sum-block-kinds.ps _<_ μ-sum-block t) sum-block.Pre
+
+abbrev sum-form-at : ℕ → In 3 sum-form-kinds.ps
+sum-form-at t = and 3 sum-form-kinds.ps (is 3 sum-form-kinds.ps μ-sum-form t) sum-form.Pre
+
+abbrev sum-form-below : ℕ → In 3 sum-form-kinds.ps
+sum-form-below t =
+    and 3 sum-form-kinds.ps (falls 3 sum-form-kinds.ps _<_ μ-sum-form t) sum-form.Pre
+
+abbrev sum-block-calls : ℕ → sum-block-lts.Claims
+sum-block-calls t = (sum-form-below t, sum-form.Post, clip-reads.Asked, clip-reads.Learnt, index-reads.Asked, index-reads.Learnt)
+
+abbrev sum-block-Inv-loop : sum-block-lts.InvT-loop
+sum-block-Inv-loop row load from to left sums turn₀ acc₀ i₀ turn acc i = (acc ≤ ceiling) × ((p : Laid row left from to) → Passed row (price load) sums left i to acc (tally (price load) sums (p .part .lines)) turn (sets turn₀ from (turns (price load) sums (p .part .lines))))
+
+abbrev sum-block-μ-loop : sum-block-lts.MeasureT-loop
+sum-block-μ-loop row load from to left sums turn₀ acc₀ i₀ turn acc i = to - i
+
+sum-block-loop-holds : (t : ℕ) → sum-block-lts.Need-loop-holds (sum-block-calls t) (sum-block-at t) sum-block.Post sum-block-Inv-loop sum-block-μ-loop
+sum-block-loop-holds t c = (omega arith, λ p. record { more = p; sum = omega arith; todo = refl })
+
+sum-block-sum-form-requires : (t : ℕ) → sum-block-lts.Need-sum-form-requires (sum-block-calls t) (sum-block-at t) sum-block.Post sum-block-Inv-loop sum-block-μ-loop
+sum-block-sum-form-requires t c κs =
+    let s = c .before .before .before .before in
+    let a = c .before .before .loop in
+    let z = s .pre .1 .1 in
+    let m = a .inv .1 z .more in
+    let lt = c .before .loop-test .taken in
+    (omega (arith, s .pre .0), (lt, (s .pre .1 .0, m)))
+
+sum-block-add-clip : (t : ℕ) → sum-block-lts.Need-add-clip (sum-block-calls t) (sum-block-at t) sum-block.Post sum-block-Inv-loop sum-block-μ-loop
+sum-block-add-clip t c =
+    let a = c .before .before .before .loop in
+    omega (arith, a .inv .0, c .sum-form .ensures .0)
+
+sum-block-clip-requires : (t : ℕ) → sum-block-lts.Need-clip-requires (sum-block-calls t) (sum-block-at t) sum-block.Post sum-block-Inv-loop sum-block-μ-loop
+sum-block-clip-requires t c κs = search needs
+
+sum-block-index-requires : (t : ℕ) → sum-block-lts.Need-index-requires (sum-block-calls t) (sum-block-at t) sum-block.Post sum-block-Inv-loop sum-block-μ-loop
+sum-block-index-requires t c κs =
+    let s = c .before .before .before .before .before .before in
+    (omega arith, omega (arith, s .pre .1 .0 .0))
+
+sum-block-loop-less : (t : ℕ) → sum-block-lts.Need-loop-less (sum-block-calls t) (sum-block-at t) sum-block.Post sum-block-Inv-loop sum-block-μ-loop
+sum-block-loop-less t c =
+    let s = c .before .before .before .before .before .before .before in
+    let a = c .before .before .before .before .before .loop in
+    let z = s .pre .1 .1 in
+    let m = a .inv .1 z .more in
+    let lt = c .before .before .before .before .loop-test .taken in
+    omega (arith, ends lt (m .part), c .index .ensures)
+
+sum-block-loop-again : (t : ℕ) → sum-block-lts.Need-loop-again (sum-block-calls t) (sum-block-at t) sum-block.Post sum-block-Inv-loop sum-block-μ-loop
+sum-block-loop-again t c =
+    let a = c .before .before .before .before .before .loop in
+    let lt = c .before .before .before .before .loop-test .taken in (
+      omega (arith, c .before .clip .ensures),
+      λ p. pass lt (c .before .before .sum-form .ensures .1 .0) (c .before .clip .ensures) (c .index .ensures) (c .before .before .sum-form .ensures .1 .1) (a .inv .1 p),
+    )
+
+sum-block-returns : (t : ℕ) → sum-block-lts.Need-returns (sum-block-calls t) (sum-block-at t) sum-block.Post sum-block-Inv-loop sum-block-μ-loop
+sum-block-returns t c =
+    let a = c .before .loop in
+    let h = c .loop-test .left in (
+      a .inv .0,
+      (
+        (λ p. passed-all h (a .inv .1 p) (a .inv .0) .0),
+        λ p. passed-all h (a .inv .1 p) (a .inv .0) .1,
+      ),
+    )
+
+abbrev sum-form-calls : ℕ → sum-form-lts.Claims
+sum-form-calls t = (get-reads.Asked, get-reads.Learnt, cost-reads.Asked, cost-reads.Learnt, index-reads.Asked, index-reads.Learnt, clip-reads.Asked, clip-reads.Learnt, sum-block-below t, sum-block.Post, looped-reads.Asked, looped-reads.Learnt, larger-reads.Asked, larger-reads.Learnt)
+
+sum-form-get-requires : (t : ℕ) → sum-form-lts.Need-get-requires (sum-form-calls t) (sum-form-at t) sum-form.Post
+sum-form-get-requires t c κs = search needs
+
+sum-form-cost-requires : (t : ℕ) → sum-form-lts.Need-cost-requires (sum-form-calls t) (sum-form-at t) sum-form.Post
+sum-form-cost-requires t c κs = search needs
+
+sum-form-mul-turn : (t : ℕ) → sum-form-lts.Need-mul-turn (sum-form-calls t) (sum-form-at t) sum-form.Post
+sum-form-mul-turn t c = search needs
+
+sum-form-element-write-turn : (t : ℕ) → sum-form-lts.Need-element-write-turn (sum-form-calls t) (sum-form-at t) sum-form.Post
+sum-form-element-write-turn t c = search needs
+
+sum-form-returns : (t : ℕ) → sum-form-lts.Need-returns (sum-form-calls t) (sum-form-at t) sum-form.Post
+sum-form-returns t c =
+    let s = c .before .before .before .before in
+    let lt = s .pre .1 .0 in
+    let z = s .pre .1 .1 .1 in
+    let l = s .args .load in
+    let ts = s .args .sums .now in
+    let o = s .args .turn .now in
+    let v = c .before .before .get .ensures in (
+      let h = leaf-at lt (z .part) v (c .if1 .taken) in
+          leaf-sum l ts h (c .before .cost .ensures) .0,
+      (
+        (λ p. leaf-sum l ts (leaf-at lt (p .part) v (c .if1 .taken)) (c .before .cost .ensures) .1),
+        λ p. let h = leaf-at lt (p .part) v (c .if1 .taken) in
+            leaf-front (turn-rule (price l) ts) o 0 h (leaf-turn (price l) ts h),
+      ),
+    )
+
+sum-form-mul-turn-2 : (t : ℕ) → sum-form-lts.Need-mul-turn-2 (sum-form-calls t) (sum-form-at t) sum-form.Post
+sum-form-mul-turn-2 t c = search needs
+
+sum-form-element-write-turn-2 : (t : ℕ) → sum-form-lts.Need-element-write-turn-2 (sum-form-calls t) (sum-form-at t) sum-form.Post
+sum-form-element-write-turn-2 t c = search needs
+
+sum-form-index-requires : (t : ℕ) → sum-form-lts.Need-index-requires (sum-form-calls t) (sum-form-at t) sum-form.Post
+sum-form-index-requires t c κs = search needs
+
+sum-form-mul-clip : (t : ℕ) → sum-form-lts.Need-mul-clip (sum-form-calls t) (sum-form-at t) sum-form.Post
+sum-form-mul-clip t c =
+    let s = c .before .before .before .before .before .before in
+    let lt = s .pre .1 .0 in
+    let z = s .pre .1 .1 .1 in
+    let v = c .before .before .before .before .get .ensures in
+    let h = call-at lt (z .part) v (c .before .if2 .taken) in
+    omega (arith, h .target, c .index .ensures)
+
+sum-form-element-copy-out-clip : (t : ℕ) → sum-form-lts.Need-element-copy-out-clip (sum-form-calls t) (sum-form-at t) sum-form.Post
+sum-form-element-copy-out-clip t c =
+    let s = c .before .before .before .before .before .before in
+    let lt = s .pre .1 .0 in
+    let z = s .pre .1 .1 .1 in
+    let v = c .before .before .before .before .get .ensures in
+    let h = call-at lt (z .part) v (c .before .if2 .taken) in
+    omega (arith, h .target, c .index .ensures)
+
+sum-form-add-clip : (t : ℕ) → sum-form-lts.Need-add-clip (sum-form-calls t) (sum-form-at t) sum-form.Post
+sum-form-add-clip t c =
+    let s = c .before .before .before .before .before .before .before in
+    let lt = s .pre .1 .0 in
+    let z = s .pre .1 .1 .1 in
+    let l = s .args .load in
+    let v = c .before .before .before .before .before .get .ensures in
+    let h = call-at lt (z .part) v (c .before .before .if2 .taken) in
+    omega (arith, price-le l (block-at (s .args .row .now) (s .args .i)) (h .costs), c .before .before .before .before .cost .ensures, s .pre .1 .1 .0 .2 (c .before .index .result))
+
+sum-form-clip-requires : (t : ℕ) → sum-form-lts.Need-clip-requires (sum-form-calls t) (sum-form-at t) sum-form.Post
+sum-form-clip-requires t c κs = search needs
+
+sum-form-returns-2 : (t : ℕ) → sum-form-lts.Need-returns-2 (sum-form-calls t) (sum-form-at t) sum-form.Post
+sum-form-returns-2 t c =
+    let s = c .before .before .before .before .before .before .before .before in
+    let lt = s .pre .1 .0 in
+    let l = s .args .load in
+    let ts = s .args .sums .now in
+    let o = s .args .turn .now in
+    let v = c .before .before .before .before .before .before .get .ensures in (
+      omega (arith, c .clip .ensures),
+      (
+        (λ p. let h = call-at lt (p .part) v (c .before .before .before .if2 .taken) in
+            call-sum l ts h (c .before .before .before .before .before .cost .ensures) (ap (λ (y : ℕ). getD ts y 0) (c .before .before .index .ensures)) (c .clip .ensures)),
+        λ p. let h = call-at lt (p .part) v (c .before .before .before .if2 .taken) in
+            call-front (turn-rule (price l) ts) o 0 h (call-turn (price l) ts h),
+      ),
+    )
+
+sum-form-index-requires-2 : (t : ℕ) → sum-form-lts.Need-index-requires-2 (sum-form-calls t) (sum-form-at t) sum-form.Post
+sum-form-index-requires-2 t c κs = search needs
+
+sum-form-add-sum-block : (t : ℕ) → sum-form-lts.Need-add-sum-block (sum-form-calls t) (sum-form-at t) sum-form.Post
+sum-form-add-sum-block t c = search needs
+
+sum-form-sub-sum-block : (t : ℕ) → sum-form-lts.Need-sub-sum-block (sum-form-calls t) (sum-form-at t) sum-form.Post
+sum-form-sub-sum-block t c =
+    let s = c .before .before .before .before .before .before .before in
+    let lt = s .pre .1 .0 in
+    let z = s .pre .1 .1 .1 in
+    let v = c .before .before .before .before .before .get .ensures in
+    let h = loop-at lt (z .part) v (c .if3 .taken) in
+    h .opens
+
+sum-form-sum-block-requires : (t : ℕ) → sum-form-lts.Need-sum-block-requires (sum-form-calls t) (sum-form-at t) sum-form.Post
+sum-form-sum-block-requires t c κs =
+    let s = c .before .before .before .before .before .before .before .before in
+    let lt = s .pre .1 .0 in
+    let z = s .pre .1 .1 .1 in
+    let v = c .before .before .before .before .before .before .get .ensures in
+    let h = loop-at lt (z .part) v (c .before .if3 .taken) in
+    let e = ends lt (z .part) in
+    (omega (arith, h .opens), ((omega (arith, e, c .before .before .index2 .ensures, s .pre .1 .1 .0 .0), omega (arith, e, c .before .before .index2 .ensures, s .pre .1 .1 .0 .1), s .pre .1 .1 .0 .2), body-laid (c .before .before .index2 .ensures) h))
+
+sum-form-add-turn : (t : ℕ) → sum-form-lts.Need-add-turn (sum-form-calls t) (sum-form-at t) sum-form.Post
+sum-form-add-turn t c =
+    let s = c .before .before .before .before .before .before .before .before .before in
+    let lt = s .pre .1 .0 in
+    let z = s .pre .1 .1 .1 in
+    let l = s .args .load in
+    let v = c .before .before .before .before .before .before .before .get .ensures in
+    let h = loop-at lt (z .part) v (c .before .before .if3 .taken) in
+    omega (arith, price-le l (block-at (s .args .row .now) (s .args .i)) (h .costs), c .before .before .before .before .before .before .cost .ensures, c .sum-block .ensures .0)
+
+sum-form-mul-turn-3 : (t : ℕ) → sum-form-lts.Need-mul-turn-3 (sum-form-calls t) (sum-form-at t) sum-form.Post
+sum-form-mul-turn-3 t c = search needs
+
+sum-form-element-write-turn-3 : (t : ℕ) → sum-form-lts.Need-element-write-turn-3 (sum-form-calls t) (sum-form-at t) sum-form.Post
+sum-form-element-write-turn-3 t c = search needs
+
+sum-form-get-requires-2 : (t : ℕ) → sum-form-lts.Need-get-requires-2 (sum-form-calls t) (sum-form-at t) sum-form.Post
+sum-form-get-requires-2 t c κs = search needs
+
+sum-form-looped-requires : (t : ℕ) → sum-form-lts.Need-looped-requires (sum-form-calls t) (sum-form-at t) sum-form.Post
+sum-form-looped-requires t c κs =
+    let s = c .before .before .before .before .before .before .before .before .before .before in
+    let lt = s .pre .1 .0 in
+    let z = s .pre .1 .1 .1 in
+    let l = s .args .load in
+    let v = c .before .before .before .before .before .before .before .before .get .ensures in
+    let h = loop-at lt (z .part) v (c .before .before .before .if3 .taken) in
+    (omega (arith, price-le l (block-at (s .args .row .now) (s .args .i)) (h .costs), c .before .before .before .before .before .before .before .cost .ensures), omega (arith, h .bound, c .get2 .ensures), c .before .sum-block .ensures .0)
+
+sum-form-returns-3 : (t : ℕ) → sum-form-lts.Need-returns-3 (sum-form-calls t) (sum-form-at t) sum-form.Post
+sum-form-returns-3 t c =
+    let s = c .before .before .before .before .before .before .before .before .before .before .before in
+    let lt = s .pre .1 .0 in
+    let l = s .args .load in
+    let ts = s .args .sums .now in
+    let o = s .args .turn .now in
+    let v = c .before .before .before .before .before .before .before .before .before .get .ensures in (
+      omega (arith, c .looped .ensures),
+      (
+        (λ p. let h = loop-at lt (p .part) v (c .before .before .before .before .if3 .taken) in
+            loop-sum l ts h (c .before .before .before .before .before .before .before .before .cost .ensures) (c .before .get2 .ensures) (c .before .before .before .before .before .index2 .ensures) (c .before .before .sum-block .ensures .1 .0) (c .looped .ensures)),
+        λ p. let h = loop-at lt (p .part) v (c .before .before .before .before .if3 .taken) in
+            loop-front (turn-rule (price l) ts) o 0 h (loop-note l ts h (c .before .before .before .before .before .before .before .before .cost .ensures) (c .before .before .before .before .before .index2 .ensures) (c .before .before .sum-block .ensures .1 .0)) refl (c .before .before .sum-block .ensures .1 .1 (body-laid (c .before .before .before .before .before .index2 .ensures) h)),
+      ),
+    )
+
+sum-form-index-requires-3 : (t : ℕ) → sum-form-lts.Need-index-requires-3 (sum-form-calls t) (sum-form-at t) sum-form.Post
+sum-form-index-requires-3 t c κs = search needs
+
+sum-form-add-sum-block-2 : (t : ℕ) → sum-form-lts.Need-add-sum-block-2 (sum-form-calls t) (sum-form-at t) sum-form.Post
+sum-form-add-sum-block-2 t c = search needs
+
+sum-form-sub-sum-block-2 : (t : ℕ) → sum-form-lts.Need-sub-sum-block-2 (sum-form-calls t) (sum-form-at t) sum-form.Post
+sum-form-sub-sum-block-2 t c =
+    let s = c .before .before .before .before .before .before .before .before in
+    let lt = s .pre .1 .0 in
+    let z = s .pre .1 .1 .1 in
+    let v = c .before .before .before .before .before .before .get .ensures in
+    let h = if-at lt (z .part) v (c .before .before .before .before .if1 .left) (c .before .before .before .if2 .left) (c .before .if3 .left) in
+    h .opens
+
+sum-form-sum-block-requires-2 : (t : ℕ) → sum-form-lts.Need-sum-block-requires-2 (sum-form-calls t) (sum-form-at t) sum-form.Post
+sum-form-sum-block-requires-2 t c κs =
+    let s = c .before .before .before .before .before .before .before .before .before in
+    let lt = s .pre .1 .0 in
+    let z = s .pre .1 .1 .1 in
+    let v = c .before .before .before .before .before .before .before .get .ensures in
+    let h = if-at lt (z .part) v (c .before .before .before .before .before .if1 .left) (c .before .before .before .before .if2 .left) (c .before .before .if3 .left) in
+    let e = ends lt (z .part) in
+    let d = parts (c .before .index3 .ensures) (c .before .before .before .index2 .ensures) h in
+    (omega (arith, h .opens), ((omega (arith, e, d, c .before .before .before .index2 .ensures, s .pre .1 .1 .0 .0), omega (arith, e, d, c .before .before .before .index2 .ensures, s .pre .1 .1 .0 .1), s .pre .1 .1 .0 .2), then-laid (c .before .index3 .ensures) h))
+
+sum-form-sub-sum-block-3 : (t : ℕ) → sum-form-lts.Need-sub-sum-block-3 (sum-form-calls t) (sum-form-at t) sum-form.Post
+sum-form-sub-sum-block-3 t c =
+    let s = c .before .before .before .before .before .before .before .before .before .before in
+    let lt = s .pre .1 .0 in
+    let z = s .pre .1 .1 .1 in
+    let v = c .before .before .before .before .before .before .before .before .get .ensures in
+    let h = if-at lt (z .part) v (c .before .before .before .before .before .before .if1 .left) (c .before .before .before .before .before .if2 .left) (c .before .before .before .if3 .left) in
+    h .opens
+
+sum-form-sum-block-requires-3 : (t : ℕ) → sum-form-lts.Need-sum-block-requires-3 (sum-form-calls t) (sum-form-at t) sum-form.Post
+sum-form-sum-block-requires-3 t c κs =
+    let s = c .before .before .before .before .before .before .before .before .before .before .before in
+    let lt = s .pre .1 .0 in
+    let z = s .pre .1 .1 .1 in
+    let v = c .before .before .before .before .before .before .before .before .before .get .ensures in
+    let h = if-at lt (z .part) v (c .before .before .before .before .before .before .before .if1 .left) (c .before .before .before .before .before .before .if2 .left) (c .before .before .before .before .if3 .left) in
+    let e = ends lt (z .part) in
+    (omega (arith, h .opens), ((omega (arith, e, c .before .before .before .before .before .index2 .ensures, s .pre .1 .1 .0 .0), omega (arith, e, c .before .before .before .before .before .index2 .ensures, s .pre .1 .1 .0 .1), s .pre .1 .1 .0 .2), else-laid (c .before .before .before .index3 .ensures) (c .before .before .before .before .before .index2 .ensures) h))
+
+sum-form-mul-turn-4 : (t : ℕ) → sum-form-lts.Need-mul-turn-4 (sum-form-calls t) (sum-form-at t) sum-form.Post
+sum-form-mul-turn-4 t c = search needs
+
+sum-form-element-write-turn-4 : (t : ℕ) → sum-form-lts.Need-element-write-turn-4 (sum-form-calls t) (sum-form-at t) sum-form.Post
+sum-form-element-write-turn-4 t c = search needs
+
+sum-form-larger-requires : (t : ℕ) → sum-form-lts.Need-larger-requires (sum-form-calls t) (sum-form-at t) sum-form.Post
+sum-form-larger-requires t c κs = search needs
+
+sum-form-add-clip-2 : (t : ℕ) → sum-form-lts.Need-add-clip-2 (sum-form-calls t) (sum-form-at t) sum-form.Post
+sum-form-add-clip-2 t c =
+    let s = c .before .before .before .before .before .before .before .before .before .before .before .before .before in
+    let lt = s .pre .1 .0 in
+    let z = s .pre .1 .1 .1 in
+    let l = s .args .load in
+    let v = c .before .before .before .before .before .before .before .before .before .before .before .get .ensures in
+    let h = if-at lt (z .part) v (c .before .before .before .before .before .before .before .before .before .if1 .left) (c .before .before .before .before .before .before .before .before .if2 .left) (c .before .before .before .before .before .before .if3 .left) in
+    omega (arith, price-le l (block-at (s .args .row .now) (s .args .i)) (h .costs), c .before .before .before .before .before .before .before .before .before .before .cost .ensures, c .larger .ensures, c .before .before .before .sum-block2 .ensures .0, c .before .sum-block3 .ensures .0)
+
+sum-form-clip-requires-2 : (t : ℕ) → sum-form-lts.Need-clip-requires-2 (sum-form-calls t) (sum-form-at t) sum-form.Post
+sum-form-clip-requires-2 t c κs = search needs
+
+sum-form-returns-4 : (t : ℕ) → sum-form-lts.Need-returns-4 (sum-form-calls t) (sum-form-at t) sum-form.Post
+sum-form-returns-4 t c =
+    let s = c .before .before .before .before .before .before .before .before .before .before .before .before .before .before in
+    let lt = s .pre .1 .0 in
+    let l = s .args .load in
+    let ts = s .args .sums .now in
+    let o = s .args .turn .now in
+    let v = c .before .before .before .before .before .before .before .before .before .before .before .before .get .ensures in (
+      omega (arith, c .clip2 .ensures),
+      (
+        (λ p. let h = if-at lt (p .part) v (c .before .before .before .before .before .before .before .before .before .before .if1 .left) (c .before .before .before .before .before .before .before .before .before .if2 .left) (c .before .before .before .before .before .before .before .if3 .left) in
+            if-sum l ts h (c .before .before .before .before .before .before .before .before .before .before .before .cost .ensures) (c .before .before .before .before .before .before .index3 .ensures) (c .before .before .before .before .before .before .before .before .index2 .ensures) (c .before .before .before .before .sum-block2 .ensures .1 .0) (c .before .before .sum-block3 .ensures .1 .0) (c .before .larger .ensures) (c .clip2 .ensures)),
+        λ p. let h = if-at lt (p .part) v (c .before .before .before .before .before .before .before .before .before .before .if1 .left) (c .before .before .before .before .before .before .before .before .before .if2 .left) (c .before .before .before .before .before .before .before .if3 .left) in
+            if-front (turn-rule (price l) ts) o 0 h (c .before .before .before .before .before .before .index3 .ensures) (if-turn (price l) ts h) (c .before .before .before .before .sum-block2 .ensures .1 .1 (then-laid (c .before .before .before .before .before .before .index3 .ensures) h)) (c .before .before .sum-block3 .ensures .1 .1 (else-laid (c .before .before .before .before .before .before .index3 .ensures) (c .before .before .before .before .before .before .before .before .index2 .ensures) h)),
+      ),
+    )
+
+pub +sum-block+sum-form-spec : {M : Type 1} → statement M
++sum-block+sum-form-spec = close μ-sum-block μ-sum-form (λ t. sum-block-lts.spec (sum-block-calls t)
+    (sum-block-at t)
+    sum-block.Post
+    sum-block-Inv-loop
+    sum-block-μ-loop
+    (sum-block-loop-holds t)
+    (sum-block-sum-form-requires t)
+    (sum-block-add-clip t)
+    (sum-block-clip-requires t)
+    (sum-block-index-requires t)
+    (sum-block-loop-less t)
+    (sum-block-loop-again t)
+    (sum-block-returns t))
+    λ t. sum-form-lts.spec (sum-form-calls t)
+    (sum-form-at t)
+    sum-form.Post
+    (sum-form-get-requires t)
+    (sum-form-cost-requires t)
+    (sum-form-mul-turn t)
+    (sum-form-element-write-turn t)
+    (sum-form-returns t)
+    (sum-form-mul-turn-2 t)
+    (sum-form-element-write-turn-2 t)
+    (sum-form-index-requires t)
+    (sum-form-mul-clip t)
+    (sum-form-element-copy-out-clip t)
+    (sum-form-add-clip t)
+    (sum-form-clip-requires t)
+    (sum-form-returns-2 t)
+    (sum-form-index-requires-2 t)
+    (sum-form-add-sum-block t)
+    (sum-form-sub-sum-block t)
+    (sum-form-sum-block-requires t)
+    (sum-form-add-turn t)
+    (sum-form-mul-turn-3 t)
+    (sum-form-element-write-turn-3 t)
+    (sum-form-get-requires-2 t)
+    (sum-form-looped-requires t)
+    (sum-form-returns-3 t)
+    (sum-form-index-requires-3 t)
+    (sum-form-add-sum-block-2 t)
+    (sum-form-sub-sum-block-2 t)
+    (sum-form-sum-block-requires-2 t)
+    (sum-form-sub-sum-block-3 t)
+    (sum-form-sum-block-requires-3 t)
+    (sum-form-mul-turn-4 t)
+    (sum-form-element-write-turn-4 t)
+    (sum-form-larger-requires t)
+    (sum-form-add-clip-2 t)
+    (sum-form-clip-requires-2 t)
+    (sum-form-returns-4 t)
