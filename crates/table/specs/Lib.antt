@@ -1,0 +1,3 @@
+pub mod Accepting
+pub mod Table
+pub mod Reading
