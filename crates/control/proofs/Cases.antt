@@ -1,0 +1,71 @@
+-- The marked cases hold: the plan is found from its table, and the answers are computed on it.
+use mathlib.Core.Bool.{Bool, true, false}
+use mathlib.Core.List.{List, [], _∷_}
+use mathlib.Core.Path.{_≡_, refl, ap, sym, _∙_, subst}
+use Prim.Native.Nat.{ℕ, _≤_}
+use native.Mathlib.Omega.{arith}
+use Rattle.model.specs.Plan.{Plan, all-leaves}
+use Rattle.model.specs.Forms.{forms, linked, last, _⊕_}
+use Rattle.model.specs.Total.{total}
+use Rattle.model.specs.Stretch.{silence, rounds-silence, stretch, rounds-stretch}
+use Rattle.model.specs.Acceptance.{Accepted}
+use Rattle.model.specs.Places.{passes, seek, onward, can-end}
+use Rattle.model.specs.Stack.{behind, below, whole, kept, seek-at, onward-at, suffix, turned, inside-of, decode}
+use Rattle.model.specs.Calls.{Call, Answer}
+use Rattle.model.specs.Controller.{is-point}
+use Rattle.model.specs.Worked.{plan-A, plan-B, smallest}
+use Rattle.model.proofs.Worked.{plan-A-accepted, plan-B-accepted, smallest-accepted}
+use Rattle.table.specs.Table.{table-of, same-numbers}
+use Rattle.table.proofs.Plans.{plan-of-exactly}
+use Rattle.model.specs.Plan as plans
+use Rattle.control.specs.declared.State.{State}
+use Rattle.control.specs.State.{fresh, frames, points?}
+use Rattle.control.specs.Calls.{on-plan, by-phase, call-on}
+use Rattle.control.specs.Cases.{answers, Case, cases, Right, AllRight}
+
+-- The same calls on the plan itself.
+answers-on : Plan → State → List Call → List Answer
+answers-on p s [] = []
+answers-on p s (c ∷ cs) = by-phase p s c (s .running) .answer ∷ answers-on p (by-phase p s c (s .running) .state) cs
+
+on-plans : (p : Plan) → Accepted p → (s : State) (cs : List Call) → answers (table-of p) s cs ≡ answers-on p s cs
+unfolding answers answers-on call-on
+on-plans p a s [] = refl
+on-plans p a s (c ∷ cs) =
+    let e : call-on (table-of p) s c ≡ by-phase p s c (s .running) = ap (λ o. on-plan s c o) (plan-of-exactly (table-of p) p .1 (a, refl)) in
+    ap (λ r. r .answer ∷ answers (table-of p) (r .state) cs) e ∙ ap (λ l. by-phase p s c (s .running) .answer ∷ l) (on-plans p a (by-phase p s c (s .running) .state) cs)
+
+right : (c : Case) → Accepted (c .plan) → table-of (c .plan) .total ≡ c .total → table-of (c .plan) .max-total ≡ c .max-total → table-of (c .plan) .stretches ≡ c .stretches →
+    answers-on (c .plan) fresh (c .calls) ≡ c .expected → Right c
+right c a t m s e = record { accepted = a; total-is = t; max-total-is = m; stretches-are = s; right = on-plans (c .plan) a fresh (c .calls) ∙ e }
+
+pub cases-right : AllRight cases
+unfolding cases AllRight answers-on plan-A plan-B smallest plans.leaves all-leaves forms linked last total silence rounds-silence stretch rounds-stretch passes seek onward can-end behind below whole kept seek-at onward-at suffix turned inside-of decode is-point frames points? same-numbers _⊕_
+cases-right = (
+  right _ plan-A-accepted refl refl refl refl,
+  (
+    right _ plan-A-accepted refl refl refl refl,
+    (
+      right _ plan-A-accepted refl refl refl refl,
+      (
+        right _ plan-A-accepted refl refl refl refl,
+        (
+          right _ plan-A-accepted refl refl refl refl,
+          (
+            right _ plan-B-accepted refl refl refl refl,
+            (
+              right _ plan-B-accepted refl refl refl refl,
+              (
+                right _ (smallest-accepted 9 (omega arith) (omega arith)) refl refl refl refl,
+                (
+                  right _ (smallest-accepted 10 (omega arith) (omega arith)) refl refl refl refl,
+                  (right _ (smallest-accepted 18 (omega arith) (omega arith)) refl refl refl refl, (right _ (smallest-accepted 19 (omega arith) (omega arith)) refl refl refl refl, tt)),
+                ),
+              ),
+            ),
+          ),
+        ),
+      ),
+    ),
+  ),
+)
