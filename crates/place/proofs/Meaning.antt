@@ -47,6 +47,13 @@ pub first-is-seek : (f : Forms) (x : ℕ) → flat (seek-at f [] x) ≡ seek f x
 unfolding below
 first-is-seek f x = flat-seek f [] x ∙ ap (λ (g : Forms). seek g x) (⊕-done f)
 
+-- Where the old times are the model's, they are right up to the level below the new place's: at a first report, and behind a report.
+pub first-times : (p : Plan) (x : ℕ) (ls : Levels) (old : List ℕ) → seek-at (main p) [] x ≡ some ls → old ≡ times (main p) [] → Times (main p) old (rest-of ls)
+first-times p x ls old e z = seek-times (main p) old (main p) [] x ls e (times-are (main p) old [] z)
+
+pub later-times : (p : Plan) (x : ℕ) (ks ls : Levels) (old : List ℕ) → onward-at ks x ≡ some ls → old ≡ times (main p) ks → Times (main p) old (rest-of ls)
+later-times p x ks ls old e z = onward-times (main p) old ks x ls e (times-are (main p) old ks z)
+
 module _ {w starts : List ℕ} (p : Plan) (a : Accepted p) (d : Laid w starts p) where
   abbrev pub count : ℕ
   count = length (p .functions)
@@ -76,7 +83,7 @@ module _ {w starts : List ℕ} (p : Plan) (a : Accepted p) (d : Laid w starts p)
     pub marks : AllPoints p (frames leaves counts 1 l) → (k : ℕ) → 1 ≤ k → k ≤ l → field w (getD leaves k 0) 1 ≡ 1
     marks u k lo hi = point-mark p a d (getD leaves k 0) (leaf-in k lo hi) (each-point p leaves counts 1 l u k lo (omega arith))
 
-    points : ((k : ℕ) → 1 ≤ k → k ≤ l → field w (getD leaves k 0) 1 ≡ 1) → AllPoints p (frames leaves counts 1 l)
+    pub points : ((k : ℕ) → 1 ≤ k → k ≤ l → field w (getD leaves k 0) 1 ≡ 1) → AllPoints p (frames leaves counts 1 l)
     points m = all-points p leaves counts 1 l (λ j lo hi. mark-point p a d (getD leaves j 0) (leaf-in j lo (omega arith)) (m j lo (omega arith)))
 
     -- The next place by levels is the next place in all that is left to run.
@@ -126,13 +133,6 @@ module _ {w starts : List ℕ} (p : Plan) (a : Accepted p) (d : Laid w starts p)
             Says r (ts ≡ times (main p) ls)
         times-ok-is most ts e above true h = all-times (main p) ts ls e (omega (arith, depth-is)) (rw (main-last p) (h costed)) (λ k lt. above k (omega (arith, depth-is)))
         times-ok-is most ts e above false h = λ z. h costed (rw (sym (main-last p)) (times-are (main p) ts ls z))
-
-  -- The old times are right up to the level below the new place's: at a first report, and behind a report.
-  pub first-times : (x : ℕ) (ls : Levels) (old : List ℕ) → seek-at (main p) [] x ≡ some ls → old ≡ times (main p) [] → Times (main p) old (rest-of ls)
-  first-times x ls old e z = seek-times (main p) old (main p) [] x ls e (times-are (main p) old [] z)
-
-  pub later-times : (x : ℕ) (ks ls : Levels) (old : List ℕ) → onward-at ks x ≡ some ls → old ≡ times (main p) ks → Times (main p) old (rest-of ls)
-  later-times x ks ls old e z = onward-times (main p) old ks x ls e (times-are (main p) old ks z)
 
   -- `first_place`: the new stack decodes to the model's first place, `seek-at (main p) [] x`; or there is none.
   pub first-place-is : (x : ℕ) (new more : List ℕ) (r : ℕ) →

@@ -167,7 +167,7 @@ close-found {s} {at} {e} (f, q, w) = subst (λ x. Found s at x e) (close-tag f q
 
 -- So far: the forms read, their records written, and the place.
 pub record Going (s : List ℕ) (room : ℕ) (hs : List ℕ) (d L from first count : ℕ) (R₀ : List ℕ) (at i n h : ℕ) (R : List ℕ) : Type 0 where
-  pub came : Came s room L from count at i n h
+  pub came : Came s room L from at i n h
   pub rs : List ℕ
   pub filled : R ≡ sets R₀ (8 * count) rs
   pub forming : Forming room hs d L count first (lines (drop from s)) n i h rs (lines (drop at s))
@@ -176,7 +176,7 @@ module _ {s : List ℕ} {room : ℕ} {hs : List ℕ} {d L : ℕ} where
   pub going-start : (from first count : ℕ) (R : List ℕ) → from ≤ length s → first ≤ from + 1 → count ≤ room → Going s room hs d L from first count R from first count 0 R
   going-start from first count R a b c =
       record {
-        came = record { past = omega arith; within = a; numbered = b; more = omega arith; fits = c; low = omega arith };
+        came = record { past = omega arith; within = a; numbered = b; fits = c; low = omega arith };
         rs = [];
         filled = refl;
         forming = forming-start count first (lines (drop from s));
@@ -197,11 +197,9 @@ module _ {s : List ℕ} {room : ℕ} {hs : List ℕ} {d L : ℕ} where
                 past = omega (arith, g .came .past, w .past);
                 within = w .within;
                 numbered = omega (arith, g .came .numbered, w .past);
-                more = g .came .more;
                 fits = g .came .fits;
                 low = g .came .low;
               };
-          beyond = omega (arith, g .came .past, w .past);
           forms = q .forms;
           sized = q .sized;
           tall = q .tall;
@@ -219,7 +217,6 @@ module _ {s : List ℕ} {room : ℕ} {hs : List ℕ} {d L : ℕ} where
                 past = omega (arith, g .came .past, w .past, q .came .past);
                 within = q .came .within;
                 numbered = q .came .numbered;
-                more = omega (arith, g .came .more, q .came .more);
                 fits = q .came .fits;
                 low = omega (arith, g .came .low, q .came .low);
               };
@@ -246,7 +243,7 @@ module _ {s : List ℕ} {room : ℕ} {hs : List ℕ} {d L : ℕ} where
 -- ONE FORM behind its line
 
 -- From the law of its kind.
-done-form : {s : List ℕ} {room : ℕ} {hs : List ℕ} {d L at i n : ℕ} {us : List (List ℕ)} {R₀ R : List ℕ} {e j m x h : ℕ} {rs : List ℕ} → Came s room L at n e j m h →
+done-form : {s : List ℕ} {room : ℕ} {hs : List ℕ} {d L at i n : ℕ} {us : List (List ℕ)} {R₀ R : List ℕ} {e j m x h : ℕ} {rs : List ℕ} → Came s room L at e j m h →
     Forming room hs d L n i us m j x rs (lines (drop e s)) → h ≡ x → R ≡ sets R₀ (8 * n) rs → FormDone s room hs d L at i n us R₀ R e j m h
 done-form {n = n} {R₀ = R₀} a g t f =
     record { came = a; forms = g .forms; sized = g .sized; tall = t ∙ g .tall; filled = f ∙ ap (sets R₀ (8 * n)) (g .rows); same = λ p K fs st. g .same p K fs (stands st) }
@@ -257,7 +254,7 @@ module _ {s : List ℕ} {room : ℕ} {hs : List ℕ} {d L at i n : ℕ} {R₀ : 
       FormAt s room hs d L at i n (Leaf k c m) R₀ R (Closed at (i + 1) (n + 1) 1)
   form-leaf k c m a b e f us w =
       let (x, y, z, u, v) = allowed room d L n hs (Leaf k c m) e in
-      done-form (record { past = omega arith; within = a; numbered = omega arith; more = omega arith; fits = omega arith; low = omega arith })
+      done-form (record { past = omega arith; within = a; numbered = omega arith; fits = omega arith; low = omega arith })
       (forming-leaf (forming-start n i us) (w .split) k c m (leads-held w) e) (omega arith) f
 
   -- So is a call line.
@@ -265,7 +262,7 @@ module _ {s : List ℕ} {room : ℕ} {hs : List ℕ} {d L at i n : ℕ} {R₀ : 
       R ≡ sets R₀ (8 * n) (entry 1 (block n k c m) t 0 (n + 1) L) → FormAt s room hs d L at i n (Call k t c m) R₀ R (Closed at (i + 1) (n + 1) h)
   form-call k t c m a b e q f us w =
       let (o, x, y, z, u, r, v) = allowed room d L n hs (Call k t c m) e in
-      done-form (record { past = omega arith; within = a; numbered = omega arith; more = omega arith; fits = omega arith; low = omega arith })
+      done-form (record { past = omega arith; within = a; numbered = omega arith; fits = omega arith; low = omega arith })
       (forming-call (forming-start n i us) (w .split) k t c m (leads-held w) e) (omega arith) f
 
   -- A loop with its body.
@@ -279,7 +276,6 @@ module _ {s : List ℕ} {room : ℕ} {hs : List ℕ} {d L at i n : ℕ} {R₀ : 
         past = q .came .past;
         within = q .came .within;
         numbered = q .came .numbered;
-        more = omega (arith, q .came .more);
         fits = q .came .fits;
         low = omega (arith, q .came .low);
       })
@@ -338,7 +334,6 @@ module _ {room : ℕ} {hs : List ℕ} {d L i n : ℕ} (k : Bool) (c m : ℕ) (e 
                   past = omega (arith, w₁ .past, got₁ .came .past, w₂ .past, got₂ .came .past, w₃ .past);
                   within = w₃ .within;
                   numbered = omega (arith, got₂ .came .numbered, w₃ .past);
-                  more = omega (arith, got₁ .came .more, got₂ .came .more);
                   fits = got₂ .came .fits;
                   low = omega (arith, got₁ .came .low, got₂ .came .low);
                 })

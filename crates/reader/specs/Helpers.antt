@@ -148,19 +148,17 @@ pub record Leads (us : List (List ℕ)) (f : Form) (ks : List (List ℕ)) : Type
   pub held : cap-form whole ≡ f
 
 -- Reading came to the place e, with line number j and m leaves; h is the height of what was read.
-pub record Came (s : List ℕ) (room L at n e j m h : ℕ) : Type 0 where
+pub record Came (s : List ℕ) (room L at e j m h : ℕ) : Type 0 where
   pub past : at ≤ e
   pub within : e ≤ length s
   pub numbered : j ≤ e + 1
-  pub more : n ≤ m
   pub fits : m ≤ room
   pub low : h ≤ 33 - L
 
 -- The forms of a body up to its closing bracket were read and their records written: whatever is open around and was read before, the machine answers
 -- from the place `at` as it does behind the bracket.
 pub record FormsDone (s : List ℕ) (room : ℕ) (hs : List ℕ) (d L at i n : ℕ) (R₀ R : List ℕ) (e j m h : ℕ) : Type 0 where
-  pub came : Came s room L at n e j m h
-  pub beyond : at < e
+  pub came : Came s room L at e j m h
   pub forms : Lines
   pub sized : m ≡ n + size forms
   pub tall : h ≡ height hs forms
@@ -175,7 +173,7 @@ FormsAt s room hs d L at i n R₀ R (Closed e j m h) = FormsDone s room hs d L a
 
 -- One form was read, with its line, number i, the first of the lines us, and its records were written; what follows its line begins at the place `at`.
 pub record FormDone (s : List ℕ) (room : ℕ) (hs : List ℕ) (d L at i n : ℕ) (us : List (List ℕ)) (R₀ R : List ℕ) (e j m h : ℕ) : Type 0 where
-  pub came : Came s room L at n e j m h
+  pub came : Came s room L at e j m h
   pub forms : Lines
   pub sized : m ≡ n + size forms
   pub tall : h ≡ height hs forms

@@ -379,8 +379,8 @@ fn put(
     row[at + 7] = level;
 }
 
-// Reads the forms of a body from the place `from` and the line `first` on, up to the bracket that closes it, and writes their records. There is room for so
-// many leaves, d brackets are open, the forms have this level, and `count` leaves were read.
+// Reads the forms of a body from the place `from` and the line `first` on, up to the bracket that closes it, and writes their records. The functions before,
+// `own` of them, have the heights `tall`, the row has room for so many leaves, d brackets are open, the forms have this level, and `count` leaves were read.
 fn forms(
     text: &[u8],
     tall: &[u64; 16],

@@ -231,7 +231,7 @@ fn whole(row: &[u64], i: usize, to: usize, left: usize, l: u64, hs: &[u64]) -> b
 
 // Whether the records from `from` up to `to` are lines at level l that keep rules 3, 5, 6 and 7, where `left` brackets may still open and
 // `hs` are the heights of the functions before.
-pub fn valid(row: &[u64], from: usize, to: usize, left: usize, l: u64, hs: &[u64]) -> bool
+fn valid(row: &[u64], from: usize, to: usize, left: usize, l: u64, hs: &[u64]) -> bool
     requires { ⌜ to * 8 ≤ length (now row) ⌝ }
     ensures { λ r. ⌜ Says r (Part (now (row .entry)) (now (hs .entry)) left l from to) ⌝ }
 {
@@ -259,7 +259,7 @@ fn reach(row: &[u64], i: usize, hs: &[u64]) -> u64
 }
 
 // The height of the function whose lines are the records from `from` up to `to`.
-pub fn tall(row: &[u64], from: usize, to: usize, hs: &[u64]) -> u64
+fn tall(row: &[u64], from: usize, to: usize, hs: &[u64]) -> u64
     requires { ⌜ to * 8 ≤ length (now row) ⌝ }
     requires { ⌜ Part (now row) (now hs) 62 1 from to ⌝ }
     ensures { λ r. ⌜ ((p : Part (now (row .entry)) (now (hs .entry)) 62 1 from to) → r ≡ height (now (hs .entry)) (p .lines)) ⌝ }
@@ -424,7 +424,7 @@ fn hushed(row: &[u64], i: usize, hush: usize) -> usize
 }
 
 // Whether a function keeps rule 8, where `loud` says which functions before it have a point.
-pub fn seen(row: &[u64], from: usize, to: usize, loud: &[bool]) -> bool
+fn seen(row: &[u64], from: usize, to: usize, loud: &[bool]) -> bool
     requires { ⌜ to * 8 ≤ length (now row) ⌝ }
     requires { ⌜ Text (now row) (length (now loud)) from to ⌝ }
     ensures { λ r. ⌜ ((fs : List Forms) → Flags (now (loud .entry)) fs → (t : Text (now (row .entry)) (length (now (loud .entry))) from to)
@@ -443,7 +443,7 @@ pub fn seen(row: &[u64], from: usize, to: usize, loud: &[bool]) -> bool
 }
 
 // Whether a function has a point, inside it or in what it calls.
-pub fn pointed(row: &[u64], from: usize, to: usize, loud: &[bool]) -> bool
+fn pointed(row: &[u64], from: usize, to: usize, loud: &[bool]) -> bool
     requires { ⌜ to * 8 ≤ length (now row) ⌝ }
     requires { ⌜ Text (now row) (length (now loud)) from to ⌝ }
     ensures { λ r. ⌜ ((fs : List Forms) → Flags (now (loud .entry)) fs → (t : Text (now (row .entry)) (length (now (loud .entry))) from to)

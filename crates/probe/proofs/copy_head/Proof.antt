@@ -1,3 +1,4 @@
+-- `probe::copy_head` meets its contract. Assumes nothing.
 use lib.ListN.{length, getD, length-set}
 use mathlib.Core.Path.{_≡_, refl, _∙_}
 use Prim.Native.Nat.{_≤_, _-_}
@@ -5,8 +6,6 @@ use borrow.Author.Needs.{needs}
 use native.Mathlib.Omega.{arith}
 use Rattle.probe.proofs.copy_head.Statement.{statement}
 use Rattle.probe.proofs.copy_head.Tie as tie
-use Rattle.probe.proofs.copy_head.Reads as reads
-use Rattle.probe.proofs.copy_head.Lts as lts
 
 abbrev Inv-loop : tie.InvT-loop
 Inv-loop from head₀ k₀ head k = (length head ≡ length head₀) × (k ≤ 37)
@@ -14,43 +13,33 @@ Inv-loop from head₀ k₀ head k = (length head ≡ length head₀) × (k ≤ 3
 abbrev μ-loop : tie.MeasureT-loop
 μ-loop from head₀ k₀ head k = 37 - k
 
--- src/lib.rt:83:5
 loop-holds : tie.Need-loop-holds Inv-loop μ-loop
 loop-holds c = (refl, omega arith)
 
--- src/lib.rt:84:19
 mul-head : tie.Need-mul-head Inv-loop μ-loop
 mul-head c = omega arith
 
--- src/lib.rt:84:19
 element-copy-out-head : tie.Need-element-copy-out-head Inv-loop μ-loop
 element-copy-out-head c = omega arith
 
--- src/lib.rt:84:9
 mul-head-2 : tie.Need-mul-head-2 Inv-loop μ-loop
 mul-head-2 c = omega arith
 
--- src/lib.rt:84:9
 slice-write-head : tie.Need-slice-write-head Inv-loop μ-loop
 slice-write-head c = omega (arith, c .before .before .loop .inv .0)
 
--- src/lib.rt:83:9
 add-k : tie.Need-add-k Inv-loop μ-loop
 add-k c = omega arith
 
--- src/lib.rt:83:5
 loop-less : tie.Need-loop-less Inv-loop μ-loop
 loop-less c = omega arith
 
--- src/lib.rt:83:5
 loop-again : tie.Need-loop-again Inv-loop μ-loop
 loop-again c = (length-set (c .before .before .loop .head) (c .before .before .loop .k) (getD (c .before .before .before .args .from .now) (c .before .before .loop .k) 0) ∙ c .before .before .loop .inv .0, omega arith)
 
--- src/lib.rt:80:1
 same-length : tie.Need-same-length Inv-loop μ-loop
 same-length c = c .before .loop .inv .0
 
--- src/lib.rt:80:1
 returns : tie.Need-returns Inv-loop μ-loop
 returns c = search needs
 

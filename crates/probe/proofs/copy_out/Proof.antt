@@ -1,3 +1,4 @@
+-- `probe::copy_out` meets its contract. Assumes nothing.
 use lib.ListN.{length, getD, length-set}
 use mathlib.Core.Path.{_≡_, refl, _∙_}
 use Prim.Native.Nat.{_≤_, _-_}
@@ -5,8 +6,6 @@ use borrow.Author.Needs.{needs}
 use native.Mathlib.Omega.{arith}
 use Rattle.probe.proofs.copy_out.Statement.{statement}
 use Rattle.probe.proofs.copy_out.Tie as tie
-use Rattle.probe.proofs.copy_out.Reads as reads
-use Rattle.probe.proofs.copy_out.Lts as lts
 
 abbrev Inv-loop : tie.InvT-loop
 Inv-loop work row₀ k₀ row k = (length row ≡ length row₀) × (k ≤ 4096)
@@ -14,43 +13,33 @@ Inv-loop work row₀ k₀ row k = (length row ≡ length row₀) × (k ≤ 4096)
 abbrev μ-loop : tie.MeasureT-loop
 μ-loop work row₀ k₀ row k = 4096 - k
 
--- src/lib.rt:46:5
 loop-holds : tie.Need-loop-holds Inv-loop μ-loop
 loop-holds c = (refl, omega arith)
 
--- src/lib.rt:47:18
 mul-row : tie.Need-mul-row Inv-loop μ-loop
 mul-row c = omega arith
 
--- src/lib.rt:47:18
 element-copy-out-row : tie.Need-element-copy-out-row Inv-loop μ-loop
 element-copy-out-row c = omega arith
 
--- src/lib.rt:47:9
 mul-row-2 : tie.Need-mul-row-2 Inv-loop μ-loop
 mul-row-2 c = omega arith
 
--- src/lib.rt:47:9
 slice-write-row : tie.Need-slice-write-row Inv-loop μ-loop
 slice-write-row c = omega (arith, c .before .before .loop .inv .0)
 
--- src/lib.rt:46:9
 add-k : tie.Need-add-k Inv-loop μ-loop
 add-k c = omega arith
 
--- src/lib.rt:46:5
 loop-less : tie.Need-loop-less Inv-loop μ-loop
 loop-less c = omega arith
 
--- src/lib.rt:46:5
 loop-again : tie.Need-loop-again Inv-loop μ-loop
 loop-again c = (length-set (c .before .before .loop .row) (c .before .before .loop .k) (getD (c .before .before .before .args .work .now) (c .before .before .loop .k) 0) ∙ c .before .before .loop .inv .0, omega arith)
 
--- src/lib.rt:43:1
 same-length : tie.Need-same-length Inv-loop μ-loop
 same-length c = c .before .loop .inv .0
 
--- src/lib.rt:43:1
 returns : tie.Need-returns Inv-loop μ-loop
 returns c = search needs
 

@@ -92,67 +92,51 @@ inner-closed : (t : ℕ) (c : forms-lts.After-known-told5 (forms-calls t) (forms
     FormAt (c .before .before .before .before .before .before .before .before .before .before .before .args .text .now) (c .before .before .before .before .before .before .before .before .before .before .before .args .room) (take (c .before .before .before .before .before .before .before .before .before .before .before .args .own) (c .before .before .before .before .before .before .before .before .before .before .before .args .tall .now)) (c .before .before .before .before .before .before .before .before .before .before .before .args .d) (c .before .before .before .before .before .before .before .before .before .before .before .args .level) (c .before .before .before .before .before .before .b .given .0 .1 .0) (c .before .before .before .before .before .before .before .before .before .loop .i) (c .before .before .before .before .before .before .before .before .before .loop .n) (form-of (c .before .before .before .before .before .before .b .given .0 .0)) (c .before .before .before .before .before .before .before .before .before .loop .row) (c .before .before .before .one-form .last .1 .1 .1 .1 .1 .1 .1 .1 .1 .1 .0) (Closed (c .before .r2 .given .0 .0) (c .before .r2 .given .0 .1 .0) (c .before .r2 .given .0 .1 .1 .0) (c .before .r2 .given .0 .1 .1 .1 .0))
 inner-closed t c = subst (FormAt (c .before .before .before .before .before .before .before .before .before .before .before .args .text .now) (c .before .before .before .before .before .before .before .before .before .before .before .args .room) (take (c .before .before .before .before .before .before .before .before .before .before .before .args .own) (c .before .before .before .before .before .before .before .before .before .before .before .args .tall .now)) (c .before .before .before .before .before .before .before .before .before .before .before .args .d) (c .before .before .before .before .before .before .before .before .before .before .before .args .level) (c .before .before .before .before .before .before .b .given .0 .1 .0) (c .before .before .before .before .before .before .before .before .before .loop .i) (c .before .before .before .before .before .before .before .before .before .loop .n) (form-of (c .before .before .before .before .before .before .b .given .0 .0)) (c .before .before .before .before .before .before .before .before .before .loop .row) (c .before .before .before .one-form .last .1 .1 .1 .1 .1 .1 .1 .1 .1 .1 .0)) (c .before .r2 .given .1) (c .before .before .before .one-form .ensures)
 
--- src/lib.rt:403:5
 forms-loop-holds : (t : ℕ) → forms-lts.Need-loop-holds (forms-calls t) (forms-at t) forms.Post forms-Inv-loop forms-μ-loop
 forms-loop-holds t c = going-start _ _ _ _ (omega arith) (omega arith) (omega arith)
 
--- src/lib.rt:404:15
 forms-one-line-requires : (t : ℕ) → forms-lts.Need-one-line-requires (forms-calls t) (forms-at t) forms.Post forms-Inv-loop forms-μ-loop
 forms-one-line-requires t c κs = omega (arith, c .before .before .pre .1)
 
--- src/lib.rt:405:24
 forms-enum-known-k : (t : ℕ) → forms-lts.Need-enum-known-k (forms-calls t) (forms-at t) forms.Post forms-Inv-loop forms-μ-loop
 forms-enum-known-k t c = search needs
 
--- src/lib.rt:405:30
 forms-returns : (t : ℕ) → forms-lts.Need-returns (forms-calls t) (forms-at t) forms.Post forms-Inv-loop forms-μ-loop
 forms-returns t c = going-halt (c .before .before .before .before .loop .inv) (at-stop t c _)
 
--- src/lib.rt:406:25
 forms-enum-known-e : (t : ℕ) → forms-lts.Need-enum-known-e (forms-calls t) (forms-at t) forms.Post forms-Inv-loop forms-μ-loop
 forms-enum-known-e t c = search needs
 
--- src/lib.rt:406:56
 forms-add-t27 : (t : ℕ) → forms-lts.Need-add-t27 (forms-calls t) (forms-at t) forms.Post forms-Inv-loop forms-μ-loop
 forms-add-t27 t c = omega (arith, c .before .before .before .before .loop .inv .came .numbered, at-leave t c .past, at-leave t c .within, c .before .before .before .before .before .before .good .0)
 
--- src/lib.rt:406:31
 forms-returns-2 : (t : ℕ) → forms-lts.Need-returns-2 (forms-calls t) (forms-at t) forms.Post forms-Inv-loop forms-μ-loop
 forms-returns-2 t c = going-out (c .before .before .before .before .loop .inv) (at-leave t c)
 
--- src/lib.rt:407:24
 forms-enum-known-b : (t : ℕ) → forms-lts.Need-enum-known-b (forms-calls t) (forms-at t) forms.Post forms-Inv-loop forms-μ-loop
 forms-enum-known-b t c = search needs
 
--- src/lib.rt:408:21
 forms-one-form-requires : (t : ℕ) → forms-lts.Need-one-form-requires (forms-calls t) (forms-at t) forms.Post forms-Inv-loop forms-μ-loop
 forms-one-form-requires t c κs = omega (arith, c .before .before .before .before .before .before .before .pre .0, c .before .before .before .before .before .before .before .pre .1, c .before .before .before .before .before .loop .inv .came .numbered, at-take t (c .before) .0 .past, at-take t (c .before) .0 .within, at-take t (c .before) .1)
 
--- src/lib.rt:410:37
 forms-enum-known-r : (t : ℕ) → forms-lts.Need-enum-known-r (forms-calls t) (forms-at t) forms.Post forms-Inv-loop forms-μ-loop
 forms-enum-known-r t c = search needs
 
--- src/lib.rt:410:46
 forms-returns-3 : (t : ℕ) → forms-lts.Need-returns-3 (forms-calls t) (forms-at t) forms.Post forms-Inv-loop forms-μ-loop
 forms-returns-3 t c = going-halt (c .before .before .before .before .before .before .before .before .before .loop .inv) (refuses (inner-stopped t c _ (leads-found (at-take t (c .before .before .before .before .before) .0))))
 
--- src/lib.rt:411:36
 forms-enum-known-r-2 : (t : ℕ) → forms-lts.Need-enum-known-r-2 (forms-calls t) (forms-at t) forms.Post forms-Inv-loop forms-μ-loop
 forms-enum-known-r-2 t c = search needs
 
--- src/lib.rt:415:25
 forms-larger-requires : (t : ℕ) → forms-lts.Need-larger-requires (forms-calls t) (forms-at t) forms.Post forms-Inv-loop forms-μ-loop
 forms-larger-requires t c κs = search needs
 
--- src/lib.rt:403:5
 forms-loop-less : (t : ℕ) → forms-lts.Need-loop-less (forms-calls t) (forms-at t) forms.Post forms-Inv-loop forms-μ-loop
 forms-loop-less t c = omega (arith, at-take t (c .before .before .before .before .before .before) .0 .past, inner-closed t (c .before) _ (leads-found (at-take t (c .before .before .before .before .before .before) .0)) .came .past, inner-closed t (c .before) _ (leads-found (at-take t (c .before .before .before .before .before .before) .0)) .came .within)
 
--- src/lib.rt:403:5
 forms-loop-again : (t : ℕ) → forms-lts.Need-loop-again (forms-calls t) (forms-at t) forms.Post forms-Inv-loop forms-μ-loop
 forms-loop-again t c = going-more (c .before .before .before .before .before .before .before .before .before .before .loop .inv) (at-take t (c .before .before .before .before .before .before) .0) (inner-closed t (c .before) _ (leads-found (at-take t (c .before .before .before .before .before .before) .0))) (c .larger .ensures)
 
--- src/lib.rt:483:16
 abbrev if-form-calls : ℕ → if-form-lts.Claims
 if-form-calls t = (awaited-reads.Asked, awaited-reads.Learnt, forms-below t, forms.Post, put-reads.Asked, put-reads.Learnt, larger-reads.Asked, larger-reads.Learnt)
 
@@ -203,135 +187,102 @@ close-at t c = close-found (sign-means (c .before .before .before .before .befor
 if-form-add-next : (t : ℕ) → if-form-lts.Need-add-next (if-form-calls t) (if-form-at t) if-form.Post
 if-form-add-next t c = omega (arith, c .before .pre .1, c .before .good .0)
 
--- src/lib.rt:484:23
 if-form-awaited-requires : (t : ℕ) → if-form-lts.Need-awaited-requires (if-form-calls t) (if-form-at t) if-form.Post
 if-form-awaited-requires t c κs = search needs
 
--- src/lib.rt:484:18
 if-form-enum-known-a : (t : ℕ) → if-form-lts.Need-enum-known-a (if-form-calls t) (if-form-at t) if-form.Post
 if-form-enum-known-a t c = search needs
 
--- src/lib.rt:485:9
 if-form-enum-told : (t : ℕ) → if-form-lts.Need-enum-told (if-form-calls t) (if-form-at t) if-form.Post
 if-form-enum-told t c = search needs
 
--- src/lib.rt:485:9
 if-form-returns : (t : ℕ) → if-form-lts.Need-returns (if-form-calls t) (if-form-at t) if-form.Post
 if-form-returns t c = form-no-then _ _ _ (c .before .before .before .before .pre .1 .5) (no-then t c)
 
--- src/lib.rt:487:24
 if-form-add-if1 : (t : ℕ) → if-form-lts.Need-add-if1 (if-form-calls t) (if-form-at t) if-form.Post
 if-form-add-if1 t c = omega (arith, choice-ok t (c .before .before .before .before))
 
--- src/lib.rt:488:9
 if-form-returns-2 : (t : ℕ) → if-form-lts.Need-returns-2 (if-form-calls t) (if-form-at t) if-form.Post
 if-form-returns-2 t c = form-deep _ _ _ (c .before .before .before .before .before .before .pre .1 .5) (then-at t (c .before)) (c .if1 .taken)
 
--- src/lib.rt:490:45
 if-form-add-forms : (t : ℕ) → if-form-lts.Need-add-forms (if-form-calls t) (if-form-at t) if-form.Post
 if-form-add-forms t c = omega (arith, choice-ok t (c .before .before .before .before .before))
 
--- src/lib.rt:490:62
 if-form-add-forms-2 : (t : ℕ) → if-form-lts.Need-add-forms-2 (if-form-calls t) (if-form-at t) if-form.Post
 if-form-add-forms-2 t c = omega (arith, c .before .before .before .before .before .before .pre .1, then-at t (c .before) .past, then-at t (c .before) .within, c .before .before .before .before .before .before .good .0)
 
--- src/lib.rt:490:72
 if-form-add-forms-3 : (t : ℕ) → if-form-lts.Need-add-forms-3 (if-form-calls t) (if-form-at t) if-form.Post
 if-form-add-forms-3 t c = omega (arith, c .before .before .before .before .before .before .pre .1, choice-ok t (c .before .before .before .before .before))
 
--- src/lib.rt:490:9
 if-form-forms-requires : (t : ℕ) → if-form-lts.Need-forms-requires (if-form-calls t) (if-form-at t) if-form.Post
 if-form-forms-requires t c κs = omega (arith, c .before .before .before .before .before .before .before .pre .0, c .before .before .before .before .before .before .before .pre .1, then-at t (c .before .before) .past, then-at t (c .before .before) .within, choice-ok t (c .before .before .before .before .before .before))
 
--- src/lib.rt:491:24
 if-form-enum-known-then : (t : ℕ) → if-form-lts.Need-enum-known-then (if-form-calls t) (if-form-at t) if-form.Post
 if-form-enum-known-then t c = search needs
 
--- src/lib.rt:492:9
 if-form-enum-told-2 : (t : ℕ) → if-form-lts.Need-enum-told-2 (if-form-calls t) (if-form-at t) if-form.Post
 if-form-enum-told-2 t c = search needs
 
--- src/lib.rt:492:9
 if-form-returns-3 : (t : ℕ) → if-form-lts.Need-returns-3 (if-form-calls t) (if-form-at t) if-form.Post
 if-form-returns-3 t c = rw (c .enum-told2 .given .1) (form-then _ _ _ (c .before .before .before .before .before .before .before .before .before .before .pre .1 .5) (then-at t (c .before .before .before .before .before)) (c .before .before .before .before .if1 .left) (then-stopped t c))
 
--- src/lib.rt:494:23
 if-form-awaited-requires-2 : (t : ℕ) → if-form-lts.Need-awaited-requires-2 (if-form-calls t) (if-form-at t) if-form.Post
 if-form-awaited-requires-2 t c κs = search needs
 
--- src/lib.rt:494:18
 if-form-enum-known-e : (t : ℕ) → if-form-lts.Need-enum-known-e (if-form-calls t) (if-form-at t) if-form.Post
 if-form-enum-known-e t c = search needs
 
--- src/lib.rt:495:9
 if-form-enum-told-3 : (t : ℕ) → if-form-lts.Need-enum-told-3 (if-form-calls t) (if-form-at t) if-form.Post
 if-form-enum-told-3 t c = search needs
 
--- src/lib.rt:495:9
 if-form-returns-4 : (t : ℕ) → if-form-lts.Need-returns-4 (if-form-calls t) (if-form-at t) if-form.Post
 if-form-returns-4 t c = form-no-else _ _ _ (c .before .before .before .before .before .before .before .before .before .before .before .before .before .before .pre .1 .5) (then-at t (c .before .before .before .before .before .before .before .before .before)) (c .before .before .before .before .before .before .before .before .if1 .left) (then-closed t (c .before .before .before)) (no-else t c)
 
--- src/lib.rt:497:46
 if-form-add-forms-4 : (t : ℕ) → if-form-lts.Need-add-forms-4 (if-form-calls t) (if-form-at t) if-form.Post
 if-form-add-forms-4 t c = omega (arith, choice-ok t (c .before .before .before .before .before .before .before .before .before .before .before .before .before .before))
 
--- src/lib.rt:497:63
 if-form-add-forms-5 : (t : ℕ) → if-form-lts.Need-add-forms-5 (if-form-calls t) (if-form-at t) if-form.Post
 if-form-add-forms-5 t c = omega (arith, then-closed t (c .before .before .before .before) .came .numbered, else-at t c .past, else-at t c .within, c .before .before .before .before .before .before .before .before .before .before .before .before .before .before .before .good .0)
 
--- src/lib.rt:497:9
 if-form-forms-requires-2 : (t : ℕ) → if-form-lts.Need-forms-requires-2 (if-form-calls t) (if-form-at t) if-form.Post
 if-form-forms-requires-2 t c κs = omega (arith, c .before .before .before .before .before .before .before .before .before .before .before .before .before .before .before .before .pre .0, c .before .before .before .before .before .before .before .before .before .before .before .before .before .before .before .before .pre .1, then-closed t (c .before .before .before .before .before) .came .numbered, then-closed t (c .before .before .before .before .before) .came .fits, else-at t (c .before) .past, else-at t (c .before) .within, choice-ok t (c .before .before .before .before .before .before .before .before .before .before .before .before .before .before .before))
 
--- src/lib.rt:498:24
 if-form-enum-known-other : (t : ℕ) → if-form-lts.Need-enum-known-other (if-form-calls t) (if-form-at t) if-form.Post
 if-form-enum-known-other t c = search needs
 
--- src/lib.rt:499:9
 if-form-enum-told-4 : (t : ℕ) → if-form-lts.Need-enum-told-4 (if-form-calls t) (if-form-at t) if-form.Post
 if-form-enum-told-4 t c = search needs
 
--- src/lib.rt:499:9
 if-form-returns-5 : (t : ℕ) → if-form-lts.Need-returns-5 (if-form-calls t) (if-form-at t) if-form.Post
 if-form-returns-5 t c = rw (c .enum-told4 .given .1) (form-else _ _ _ (c .before .before .before .before .before .before .before .before .before .before .before .before .before .before .before .before .before .before .before .pre .1 .5) (then-at t (c .before .before .before .before .before .before .before .before .before .before .before .before .before .before)) (c .before .before .before .before .before .before .before .before .before .before .before .before .before .if1 .left) (then-closed t (c .before .before .before .before .before .before .before .before)) (else-at t (c .before .before .before .before)) (else-stopped t c))
 
--- src/lib.rt:501:23
 if-form-awaited-requires-3 : (t : ℕ) → if-form-lts.Need-awaited-requires-3 (if-form-calls t) (if-form-at t) if-form.Post
 if-form-awaited-requires-3 t c κs = search needs
 
--- src/lib.rt:501:18
 if-form-enum-known-g : (t : ℕ) → if-form-lts.Need-enum-known-g (if-form-calls t) (if-form-at t) if-form.Post
 if-form-enum-known-g t c = search needs
 
--- src/lib.rt:502:9
 if-form-enum-told-5 : (t : ℕ) → if-form-lts.Need-enum-told-5 (if-form-calls t) (if-form-at t) if-form.Post
 if-form-enum-told-5 t c = search needs
 
--- src/lib.rt:502:9
 if-form-returns-6 : (t : ℕ) → if-form-lts.Need-returns-6 (if-form-calls t) (if-form-at t) if-form.Post
 if-form-returns-6 t c = form-no-close _ _ _ (c .before .before .before .before .before .before .before .before .before .before .before .before .before .before .before .before .before .before .before .before .before .before .before .pre .1 .5) (then-at t (c .before .before .before .before .before .before .before .before .before .before .before .before .before .before .before .before .before .before)) (c .before .before .before .before .before .before .before .before .before .before .before .before .before .before .before .before .before .if1 .left) (then-closed t (c .before .before .before .before .before .before .before .before .before .before .before .before)) (else-at t (c .before .before .before .before .before .before .before .before)) (else-closed t (c .before .before .before)) (no-close t c)
 
--- src/lib.rt:504:5
 if-form-put-requires : (t : ℕ) → if-form-lts.Need-put-requires (if-form-calls t) (if-form-at t) if-form.Post
 if-form-put-requires t c κs = omega (arith, c .before .before .before .before .before .before .before .before .before .before .before .before .before .before .before .before .before .before .before .before .before .before .before .before .before .pre .1, choice-ok t (c .before .before .before .before .before .before .before .before .before .before .before .before .before .before .before .before .before .before .before .before .before .before .before .before))
 
--- src/lib.rt:505:23
 if-form-add-t31 : (t : ℕ) → if-form-lts.Need-add-t31 (if-form-calls t) (if-form-at t) if-form.Post
 if-form-add-t31 t c = omega (arith, else-closed t (c .before .before .before .before .before .before) .came .numbered, close-at t (c .before .before) .past, close-at t (c .before .before) .within, c .before .before .before .before .before .before .before .before .before .before .before .before .before .before .before .before .before .before .before .before .before .before .before .before .before .before .good .0)
 
--- src/lib.rt:505:45
 if-form-larger-requires : (t : ℕ) → if-form-lts.Need-larger-requires (if-form-calls t) (if-form-at t) if-form.Post
 if-form-larger-requires t c κs = search needs
 
--- src/lib.rt:505:35
 if-form-larger-requires-2 : (t : ℕ) → if-form-lts.Need-larger-requires-2 (if-form-calls t) (if-form-at t) if-form.Post
 if-form-larger-requires-2 t c κs = search needs
 
--- src/lib.rt:465:1
 if-form-returns-7 : (t : ℕ) → if-form-lts.Need-returns-7 (if-form-calls t) (if-form-at t) if-form.Post
 if-form-returns-7 t c = form-if _ _ _ (c .before .before .before .before .before .before .before .before .before .before .before .before .before .before .before .before .before .before .before .before .before .before .before .before .before .before .before .before .pre .1 .5) (then-at t (c .before .before .before .before .before .before .before .before .before .before .before .before .before .before .before .before .before .before .before .before .before .before .before)) (c .before .before .before .before .before .before .before .before .before .before .before .before .before .before .before .before .before .before .before .before .before .before .if1 .left) (then-closed t (c .before .before .before .before .before .before .before .before .before .before .before .before .before .before .before .before .before)) (else-at t (c .before .before .before .before .before .before .before .before .before .before .before .before .before)) (else-closed t (c .before .before .before .before .before .before .before .before)) (close-at t (c .before .before .before .before)) (c .larger2 .ensures ∙ ap (max 1) (c .before .larger .ensures)) (c .before .before .put .ensures)
 
--- src/lib.rt:441:22
 abbrev one-form-calls : ℕ → one-form-lts.Claims
 one-form-calls t = (put-reads.Asked, put-reads.Learnt, forms-below t, forms.Post, if-form-below t, if-form.Post)
 
@@ -382,119 +333,90 @@ body-closed t c = subst (FormsAt (c .before .before .before .before .before .bef
 one-form-enum-known-b : (t : ℕ) → one-form-lts.Need-enum-known-b (one-form-calls t) (one-form-at t) one-form.Post
 one-form-enum-known-b t c = search needs
 
--- src/lib.rt:442:46
 one-form-add-put : (t : ℕ) → one-form-lts.Need-add-put (one-form-calls t) (one-form-at t) one-form.Post
 one-form-add-put t c = omega (arith, c .before .before .before .before .before .pre .1, leaf-ok t (c .before))
 
--- src/lib.rt:442:13
 one-form-put-requires : (t : ℕ) → one-form-lts.Need-put-requires (one-form-calls t) (one-form-at t) one-form.Post
 one-form-put-requires t c κs = omega (arith, c .before .before .before .before .before .pre .1, leaf-ok t (c .before))
 
--- src/lib.rt:443:32
 one-form-add-t36 : (t : ℕ) → one-form-lts.Need-add-t36 (one-form-calls t) (one-form-at t) one-form.Post
 one-form-add-t36 t c = omega (arith, c .before .before .before .before .before .before .pre .1, c .before .before .before .before .before .before .good .0)
 
--- src/lib.rt:443:39
 one-form-add-t37 : (t : ℕ) → one-form-lts.Need-add-t37 (one-form-calls t) (one-form-at t) one-form.Post
 one-form-add-t37 t c = omega (arith, c .before .before .before .before .before .before .pre .1, leaf-ok t (c .before .before))
 
--- src/lib.rt:445:22
 one-form-enum-known-b-2 : (t : ℕ) → one-form-lts.Need-enum-known-b-2 (one-form-calls t) (one-form-at t) one-form.Post
 one-form-enum-known-b-2 t c = search needs
 
--- src/lib.rt:446:46
 one-form-add-put-2 : (t : ℕ) → one-form-lts.Need-add-put-2 (one-form-calls t) (one-form-at t) one-form.Post
 one-form-add-put-2 t c = omega (arith, c .before .before .before .before .before .pre .1, call-ok t (c .before))
 
--- src/lib.rt:446:13
 one-form-put-requires-2 : (t : ℕ) → one-form-lts.Need-put-requires-2 (one-form-calls t) (one-form-at t) one-form.Post
 one-form-put-requires-2 t c κs = omega (arith, c .before .before .before .before .before .pre .1, call-ok t (c .before))
 
--- src/lib.rt:448:32
 one-form-add-t40 : (t : ℕ) → one-form-lts.Need-add-t40 (one-form-calls t) (one-form-at t) one-form.Post
 one-form-add-t40 t c = omega (arith, c .before .before .before .before .before .before .pre .1, c .before .before .before .before .before .before .good .0)
 
--- src/lib.rt:448:39
 one-form-add-t41 : (t : ℕ) → one-form-lts.Need-add-t41 (one-form-calls t) (one-form-at t) one-form.Post
 one-form-add-t41 t c = omega (arith, c .before .before .before .before .before .before .pre .1, call-ok t (c .before .before))
 
--- src/lib.rt:448:50
 one-form-mul-t42 : (t : ℕ) → one-form-lts.Need-mul-t42 (one-form-calls t) (one-form-at t) one-form.Post
 one-form-mul-t42 t c = omega (arith, call-ok t (c .before .before))
 
--- src/lib.rt:448:50
 one-form-element-copy-out-t45 : (t : ℕ) → one-form-lts.Need-element-copy-out-t45 (one-form-calls t) (one-form-at t) one-form.Post
 one-form-element-copy-out-t45 t c = omega (arith, call-ok t (c .before .before))
 
--- src/lib.rt:448:46
 one-form-add-t46 : (t : ℕ) → one-form-lts.Need-add-t46 (one-form-calls t) (one-form-at t) one-form.Post
 one-form-add-t46 t c = omega (arith, call-ok t (c .before .before .before), called t (c .before .before .before))
 
--- src/lib.rt:450:22
 one-form-enum-known-b-3 : (t : ℕ) → one-form-lts.Need-enum-known-b-3 (one-form-calls t) (one-form-at t) one-form.Post
 one-form-enum-known-b-3 t c = search needs
 
--- src/lib.rt:451:22
 one-form-add-up : (t : ℕ) → one-form-lts.Need-add-up (one-form-calls t) (one-form-at t) one-form.Post
 one-form-add-up t c = omega (arith, loop-ok t c)
 
--- src/lib.rt:452:50
 one-form-add-forms : (t : ℕ) → one-form-lts.Need-add-forms (one-form-calls t) (one-form-at t) one-form.Post
 one-form-add-forms t c = omega (arith, loop-ok t c)
 
--- src/lib.rt:452:65
 one-form-add-forms-2 : (t : ℕ) → one-form-lts.Need-add-forms-2 (one-form-calls t) (one-form-at t) one-form.Post
 one-form-add-forms-2 t c = omega (arith, c .before .before .before .before .pre .1, c .before .before .before .before .good .0)
 
--- src/lib.rt:452:72
 one-form-add-forms-3 : (t : ℕ) → one-form-lts.Need-add-forms-3 (one-form-calls t) (one-form-at t) one-form.Post
 one-form-add-forms-3 t c = omega (arith, c .before .before .before .before .pre .1, loop-ok t c)
 
--- src/lib.rt:452:17
 one-form-forms-requires : (t : ℕ) → one-form-lts.Need-forms-requires (one-form-calls t) (one-form-at t) one-form.Post
 one-form-forms-requires t c κs = omega (arith, c .before .before .before .before .before .pre .0, c .before .before .before .before .before .pre .1, loop-ok t (c .before))
 
--- src/lib.rt:453:32
 one-form-enum-known-r : (t : ℕ) → one-form-lts.Need-enum-known-r (one-form-calls t) (one-form-at t) one-form.Post
 one-form-enum-known-r t c = search needs
 
--- src/lib.rt:454:17
 one-form-enum-told : (t : ℕ) → one-form-lts.Need-enum-told (one-form-calls t) (one-form-at t) one-form.Post
 one-form-enum-told t c = search needs
 
--- src/lib.rt:454:17
 one-form-returns : (t : ℕ) → one-form-lts.Need-returns (one-form-calls t) (one-form-at t) one-form.Post
 one-form-returns t c = rw (c .enum-told .given .1, c .before .before .before .before .before .b3 .given .1) (form-loop-stopped _ _ _ _ (loop-fine t (c .before .before .before .before)) (body-stopped t c))
 
--- src/lib.rt:456:13
 one-form-put-requires-3 : (t : ℕ) → one-form-lts.Need-put-requires-3 (one-form-calls t) (one-form-at t) one-form.Post
 one-form-put-requires-3 t c κs = omega (arith, c .before .before .before .before .before .before .before .before .before .before .pre .1, loop-ok t (c .before .before .before .before .before .before))
 
--- src/lib.rt:457:37
 one-form-add-t53 : (t : ℕ) → one-form-lts.Need-add-t53 (one-form-calls t) (one-form-at t) one-form.Post
 one-form-add-t53 t c = omega (arith, body-closed t (c .before .before) .came .low)
 
--- src/lib.rt:459:23
 one-form-enum-known-b-4 : (t : ℕ) → one-form-lts.Need-enum-known-b-4 (one-form-calls t) (one-form-at t) one-form.Post
 one-form-enum-known-b-4 t c = search needs
 
--- src/lib.rt:459:35
 one-form-if-form-requires : (t : ℕ) → one-form-lts.Need-if-form-requires (one-form-calls t) (one-form-at t) one-form.Post
 one-form-if-form-requires t c κs = omega (arith, c .before .before .before .before .before .pre .0, c .before .before .before .before .before .pre .1, if-fine t (c .before))
 
--- src/lib.rt:424:1
 one-form-returns-2 : (t : ℕ) → one-form-lts.Need-returns-2 (one-form-calls t) (one-form-at t) one-form.Post
 one-form-returns-2 t c = rw (c .before .before .before .b .given .1) (form-leaf _ _ _ (c .before .before .before .before .before .before .pre .1 .3) (c .before .before .before .before .before .before .pre .1 .4) (leaf-fine t (c .before .before)) (c .put .ensures))
 
--- src/lib.rt:424:1
 one-form-returns-3 : (t : ℕ) → one-form-lts.Need-returns-3 (one-form-calls t) (one-form-at t) one-form.Post
 one-form-returns-3 t c = rw (c .before .before .before .before .b2 .given .1) (form-call _ _ _ _ (c .before .before .before .before .before .before .before .pre .1 .3) (c .before .before .before .before .before .before .before .pre .1 .4) (call-fine t (c .before .before .before)) (ap (λ x. 1 + x) (sym (called t (c .before .before .before)))) (c .before .put2 .ensures))
 
--- src/lib.rt:424:1
 one-form-returns-4 : (t : ℕ) → one-form-lts.Need-returns-4 (one-form-calls t) (one-form-at t) one-form.Post
 one-form-returns-4 t c = rw (c .before .before .before .before .before .before .before .before .b3 .given .1) (form-loop _ _ _ _ (loop-fine t (c .before .before .before .before .before .before .before)) (body-closed t (c .before .before)) (c .put3 .ensures))
 
--- src/lib.rt:424:1
 one-form-returns-5 : (t : ℕ) → one-form-lts.Need-returns-5 (one-form-calls t) (one-form-at t) one-form.Post
 one-form-returns-5 t c = rw (c .before .before .before .b4 .given .1) (c .if-form .ensures)
 

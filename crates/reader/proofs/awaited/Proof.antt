@@ -4,31 +4,24 @@ use borrow.Author.Needs.{needs}
 use Rattle.reader.proofs.awaited.Statement.{statement}
 use Rattle.reader.proofs.awaited.Tie as tie
 
--- src/lib.rt:322:28
 line-requires : tie.Need-line-requires
 line-requires c κs = search needs
 
--- src/lib.rt:322:20
 enum-known-f : tie.Need-enum-known-f
 enum-known-f c = search needs
 
--- src/lib.rt:323:9
 enum-told : tie.Need-enum-told
 enum-told c = search needs
 
--- src/lib.rt:323:9
 returns : tie.Need-returns
 returns c = rw (← (c .before .before .line .ensures), c .enum-told .given .1)
 
--- src/lib.rt:325:8
 tag-requires : tie.Need-tag-requires
 tag-requires c κs = search needs
 
--- src/lib.rt:319:1
 returns-2 : tie.Need-returns-2
 returns-2 c = rw (← (c .before .before .before .before .before .line .ensures), c .before .before .before .f .given .1, ← (c .before .tag .ensures), eq-eqb _ _ (c .if1 .taken))
 
--- src/lib.rt:319:1
 returns-3 : tie.Need-returns-3
 returns-3 c = rw (← (c .before .before .before .before .before .line .ensures), c .before .before .before .f .given .1, ← (c .before .tag .ensures), ne-eqb _ _ (c .if1 .left))
 

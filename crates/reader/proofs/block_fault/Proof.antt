@@ -4,99 +4,75 @@ use borrow.Author.Needs.{needs}
 use Rattle.reader.proofs.block_fault.Statement.{statement}
 use Rattle.reader.proofs.block_fault.Tie as tie
 
--- src/lib.rt:215:25
 enum-known-b : tie.Need-enum-known-b
 enum-known-b c = search needs
 
--- src/lib.rt:215:40
 leaf-fault-requires : tie.Need-leaf-fault-requires
 leaf-fault-requires c κs = search needs
 
--- src/lib.rt:215:67
 level-fault-requires : tie.Need-level-fault-requires
 level-fault-requires c κs = search needs
 
--- src/lib.rt:215:34
 first-requires : tie.Need-first-requires
 first-requires c κs = search needs
 
--- src/lib.rt:216:25
 enum-known-b-2 : tie.Need-enum-known-b-2
 enum-known-b-2 c = search needs
 
--- src/lib.rt:217:17
 leaf-fault-requires-2 : tie.Need-leaf-fault-requires-2
 leaf-fault-requires-2 c κs = search needs
 
--- src/lib.rt:219:17
 range-fault-requires : tie.Need-range-fault-requires
 range-fault-requires c κs = search needs
 
--- src/lib.rt:220:30
 target-fault-requires : tie.Need-target-fault-requires
 target-fault-requires c κs = search needs
 
--- src/lib.rt:220:17
 first-requires-2 : tie.Need-first-requires-2
 first-requires-2 c κs = search needs
 
--- src/lib.rt:218:13
 first-requires-3 : tie.Need-first-requires-3
 first-requires-3 c κs = search needs
 
--- src/lib.rt:223:25
 enum-known-b-3 : tie.Need-enum-known-b-3
 enum-known-b-3 c = search needs
 
--- src/lib.rt:224:17
 leaf-fault-requires-3 : tie.Need-leaf-fault-requires-3
 leaf-fault-requires-3 c κs = search needs
 
--- src/lib.rt:225:19
 bound-fault-requires : tie.Need-bound-fault-requires
 bound-fault-requires c κs = search needs
 
--- src/lib.rt:225:48
 open-fault-requires : tie.Need-open-fault-requires
 open-fault-requires c κs = search needs
 
--- src/lib.rt:225:35
 first-requires-4 : tie.Need-first-requires-4
 first-requires-4 c κs = search needs
 
--- src/lib.rt:225:13
 first-requires-5 : tie.Need-first-requires-5
 first-requires-5 c κs = search needs
 
--- src/lib.rt:227:26
 enum-known-b-4 : tie.Need-enum-known-b-4
 enum-known-b-4 c = search needs
 
--- src/lib.rt:227:41
 leaf-fault-requires-4 : tie.Need-leaf-fault-requires-4
 leaf-fault-requires-4 c κs = search needs
 
--- src/lib.rt:227:68
 open-fault-requires-2 : tie.Need-open-fault-requires-2
 open-fault-requires-2 c κs = search needs
 
--- src/lib.rt:227:35
 first-requires-6 : tie.Need-first-requires-6
 first-requires-6 c κs = search needs
 
--- src/lib.rt:202:1
 returns : tie.Need-returns
 returns c = rw (c .before .before .before .before .b .given .1) (fault-leaf _ _ _ _ _ _ _ _ (c .first .ensures) (c .before .before .leaf-fault .ensures) (c .before .level-fault .ensures))
 
--- src/lib.rt:202:1
 returns-2 : tie.Need-returns-2
 returns-2 c = rw (c .before .before .before .before .before .before .b2 .given .1) (fault-call _ _ _ _ _ _ _ _ _ (c .first3 .ensures) (c .before .before .before .range-fault .ensures) (c .before .first2 .ensures) (c .before .before .before .before .leaf-fault2 .ensures) (c .before .before .target-fault .ensures))
 
--- src/lib.rt:202:1
 returns-3 : tie.Need-returns-3
 returns-3 c = rw (c .before .before .before .before .before .before .b3 .given .1) (fault-loop _ _ _ _ _ _ _ _ _ (c .first5 .ensures) (c .before .before .before .bound-fault .ensures) (c .before .first4 .ensures) (c .before .before .before .before .leaf-fault3 .ensures) (c .before .before .open-fault .ensures))
 
--- src/lib.rt:202:1
 returns-4 : tie.Need-returns-4
 returns-4 c = rw (c .before .before .before .before .b4 .given .1) (fault-if _ _ _ _ _ _ _ _ (c .first6 .ensures) (c .before .before .leaf-fault4 .ensures) (c .before .open-fault2 .ensures))
 

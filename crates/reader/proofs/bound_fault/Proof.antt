@@ -3,15 +3,12 @@ use borrow.Author.Tests.{le-leb, lt-leb}
 use Rattle.reader.proofs.bound_fault.Statement.{statement}
 use Rattle.reader.proofs.bound_fault.Tie as tie
 
--- src/lib.rt:170:9
 returns : tie.Need-returns
 returns c = rw (lt-leb 1 (c .before .args .b) (c .if1 .taken))
 
--- src/lib.rt:166:1
 returns-2 : tie.Need-returns-2
 returns-2 c = rw (le-leb 1 (c .before .before .args .b) (c .before .if1 .left), le-leb (c .before .before .args .b) 65535 (c .if2 .taken))
 
--- src/lib.rt:166:1
 returns-3 : tie.Need-returns-3
 returns-3 c = rw (le-leb 1 (c .before .before .args .b) (c .before .if1 .left), lt-leb (c .before .before .args .b) 65535 (c .if2 .left))
 

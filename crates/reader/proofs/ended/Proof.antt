@@ -5,27 +5,21 @@ use borrow.Author.Needs.{needs}
 use Rattle.reader.proofs.ended.Statement.{statement}
 use Rattle.reader.proofs.ended.Tie as tie
 
--- src/lib.rt:553:9
 refused-requires : tie.Need-refused-requires
 refused-requires c κs = search needs
 
--- src/lib.rt:553:9
 returns : tie.Need-returns
 returns c = rw (eq-eqb (c .before .before .before .before .args .raw .functions) 0 (c .before .if1 .taken)) (c .refused .ensures)
 
--- src/lib.rt:556:30
 add-refused : tie.Need-add-refused
 add-refused c = search needs
 
--- src/lib.rt:556:9
 refused-requires-2 : tie.Need-refused-requires-2
 refused-requires-2 c κs = search needs
 
--- src/lib.rt:556:9
 returns-2 : tie.Need-returns-2
 returns-2 c = rw (ne-eqb (c .before .before .before .before .before .args .raw .functions) 0 (c .before .before .if1 .left), lt-ltb (c .before .before .before .before .before .args .e) (length (c .before .before .before .before .before .args .text .now)) (c .before .if2 .taken)) (c .refused2 .ensures)
 
--- src/lib.rt:548:1
 returns-3 : tie.Need-returns-3
 returns-3 c = rw (ne-eqb (c .before .before .before .before .args .raw .functions) 0 (c .before .if1 .left), le-ltb (c .before .before .before .before .args .e) (length (c .before .before .before .before .args .text .now)) (c .if2 .left))
 

@@ -4,11 +4,9 @@ use borrow.Author.Needs.{needs}
 use Rattle.reader.proofs.first.Statement.{statement}
 use Rattle.reader.proofs.first.Tie as tie
 
--- src/lib.rt:126:1
 returns : tie.Need-returns
 returns c = search needs
 
--- src/lib.rt:126:1
 returns-2 : tie.Need-returns-2
 returns-2 c = first-some _ _ (c .if1 .left)
 

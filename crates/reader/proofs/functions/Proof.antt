@@ -40,103 +40,78 @@ body-closed : (c : tie.After-known-told4 Inv-loop μ-loop) →
     FormsAt (c .before .before .before .before .before .before .before .before .before .before .before .before .before .args .text .now) (c .before .before .before .before .before .before .before .before .before .before .before .before .before .args .room) (take (c .before .before .before .before .before .before .before .before .before .before .before .loop .own) (c .before .before .before .before .before .before .before .before .before .before .before .loop .heights)) 2 1 (c .before .before .before .before .before .before .before .before .e2 .given .0 .0) (c .before .before .before .before .before .before .before .before .before .before .before .loop .i + 1) (c .before .before .before .before .before .before .before .before .before .before .before .loop .n) (c .before .before .before .before .before .before .before .before .before .before .before .loop .row) (c .before .before .before .forms .last .1 .1 .1 .1 .1 .1 .1 .1 .1 .0) (Closed (c .before .a .given .0 .0) (c .before .a .given .0 .1 .0) (c .before .a .given .0 .1 .1 .0) (c .before .a .given .0 .1 .1 .1 .0))
 body-closed c = subst (FormsAt (c .before .before .before .before .before .before .before .before .before .before .before .before .before .args .text .now) (c .before .before .before .before .before .before .before .before .before .before .before .before .before .args .room) (take (c .before .before .before .before .before .before .before .before .before .before .before .loop .own) (c .before .before .before .before .before .before .before .before .before .before .before .loop .heights)) 2 1 (c .before .before .before .before .before .before .before .before .e2 .given .0 .0) (c .before .before .before .before .before .before .before .before .before .before .before .loop .i + 1) (c .before .before .before .before .before .before .before .before .before .before .before .loop .n) (c .before .before .before .before .before .before .before .before .before .before .before .loop .row) (c .before .before .before .forms .last .1 .1 .1 .1 .1 .1 .1 .1 .1 .0)) (c .before .a .given .1) (c .before .before .before .forms .ensures)
 
--- src/lib.rt:612:5
 loop-holds : tie.Need-loop-holds Inv-loop μ-loop
 loop-holds c = holding-start _ (c .before .pre .1) (c .before .pre .2)
 
--- src/lib.rt:613:15
 in-task-requires : tie.Need-in-task-requires Inv-loop μ-loop
 in-task-requires c κs = search needs
 
--- src/lib.rt:614:32
 enum-told : tie.Need-enum-told Inv-loop μ-loop
 enum-told c = search needs
 
--- src/lib.rt:614:32
 refused-requires : tie.Need-refused-requires Inv-loop μ-loop
 refused-requires c κs = search needs
 
--- src/lib.rt:614:32
 returns : tie.Need-returns Inv-loop μ-loop
 returns c = holding-neither (c .before .before .before .before .loop .inv) (strays (c .before)) (c .refused .ensures)
 
--- src/lib.rt:615:25
 enum-known-e : tie.Need-enum-known-e Inv-loop μ-loop
 enum-known-e c = search needs
 
--- src/lib.rt:615:56
 accepted-requires : tie.Need-accepted-requires Inv-loop μ-loop
 accepted-requires c κs = search needs
 
--- src/lib.rt:615:31
 ended-requires : tie.Need-ended-requires Inv-loop μ-loop
 ended-requires c κs = omega (arith, c .before .before .before .before .before .loop .inv .numbered, end-at (c .before) .past)
 
--- src/lib.rt:615:31
 returns-2 : tie.Need-returns-2 Inv-loop μ-loop
 returns-2 c = holding-ended (c .before .before .before .before .before .before .loop .inv) (end-at (c .before .before)) (c .before .accepted .ensures) (c .ended .ensures)
 
--- src/lib.rt:616:30
 enum-known-e-2 : tie.Need-enum-known-e-2 Inv-loop μ-loop
 enum-known-e-2 c = search needs
 
--- src/lib.rt:618:21
 refused-requires-2 : tie.Need-refused-requires-2 Inv-loop μ-loop
 refused-requires-2 c κs = search needs
 
--- src/lib.rt:618:21
 returns-3 : tie.Need-returns-3 Inv-loop μ-loop
 returns-3 c = holding-full (c .before .before .before .before .before .before .loop .inv) (fun-at (c .before .before)) (c .before .if1 .taken) (c .refused2 .ensures)
 
--- src/lib.rt:620:65
 add-forms : tie.Need-add-forms Inv-loop μ-loop
 add-forms c = omega (arith, c .before .before .before .before .before .before .loop .inv .numbered, fun-at (c .before .before) .past, fun-at (c .before .before) .within, c .before .before .before .before .before .before .before .before .good .0)
 
--- src/lib.rt:620:23
 forms-requires : tie.Need-forms-requires Inv-loop μ-loop
 forms-requires c κs = omega (arith, c .before .before .before .before .before .before .before .before .before .pre .0, c .before .before .before .before .before .before .before .loop .inv .few, held-length (c .before .before .before .before .before .before .before .loop .inv), c .before .before .before .before .before .before .before .loop .inv .numbered, c .before .before .before .before .before .before .before .loop .inv .fits, fun-at (c .before .before .before) .past, fun-at (c .before .before .before) .within)
 
--- src/lib.rt:621:37
 enum-known-k : tie.Need-enum-known-k Inv-loop μ-loop
 enum-known-k c = search needs
 
--- src/lib.rt:621:46
 refused-requires-3 : tie.Need-refused-requires-3 Inv-loop μ-loop
 refused-requires-3 c κs = search needs
 
--- src/lib.rt:621:46
 returns-4 : tie.Need-returns-4 Inv-loop μ-loop
 returns-4 c = holding-stopped (c .before .before .before .before .before .before .before .before .before .before .before .before .loop .inv) (fun-at (c .before .before .before .before .before .before .before .before)) (c .before .before .before .before .before .before .before .if1 .left) _ _ (body-stopped (c .before)) (c .refused3 .ensures)
 
--- src/lib.rt:622:36
 enum-known-a : tie.Need-enum-known-a Inv-loop μ-loop
 enum-known-a c = search needs
 
--- src/lib.rt:623:25
 mul-heights : tie.Need-mul-heights Inv-loop μ-loop
 mul-heights c = omega (arith, c .before .before .before .before .before .before .before .before .before .before .before .loop .inv .few)
 
--- src/lib.rt:623:25
 array-write-heights : tie.Need-array-write-heights Inv-loop μ-loop
 array-write-heights c = omega (arith, c .before .before .before .before .before .before .before .before .before .before .before .loop .inv .few, c .before .before .before .before .before .before .if1 .left)
 
--- src/lib.rt:624:25
 add-own : tie.Need-add-own Inv-loop μ-loop
 add-own c = omega (arith, c .before .before .before .before .before .before .before .before .before .before .before .loop .inv .few)
 
--- src/lib.rt:625:25
 mul-bounds : tie.Need-mul-bounds Inv-loop μ-loop
 mul-bounds c = omega (arith, c .before .before .before .before .before .before .before .before .before .before .before .loop .inv .few)
 
--- src/lib.rt:625:25
 array-write-bounds : tie.Need-array-write-bounds Inv-loop μ-loop
 array-write-bounds c = omega (arith, c .before .before .before .before .before .before .before .before .before .before .before .loop .inv .few, c .before .before .before .before .before .before .if1 .left)
 
--- src/lib.rt:612:5
 loop-less : tie.Need-loop-less Inv-loop μ-loop
 loop-less c = omega (arith, fun-at (c .before .before .before .before .before .before .before) .past, body-closed c .came .past, body-closed c .came .within)
 
--- src/lib.rt:612:5
 loop-again : tie.Need-loop-again Inv-loop μ-loop
 loop-again c = holding-fun (c .before .before .before .before .before .before .before .before .before .before .before .loop .inv) (fun-at (c .before .before .before .before .before .before .before)) (c .before .before .before .before .before .before .if1 .left) (body-closed c)
 

@@ -4,15 +4,12 @@ use borrow.Author.Needs.{needs}
 use Rattle.reader.proofs.judged.Statement.{statement}
 use Rattle.reader.proofs.judged.Tie as tie
 
--- src/lib.rt:245:9
 block-fault-requires : tie.Need-block-fault-requires
 block-fault-requires c κs = search needs
 
--- src/lib.rt:232:1
 returns : tie.Need-returns
 returns c = rw (← (c .before .block-fault .ensures), c .if1 .taken)
 
--- src/lib.rt:232:1
 returns-2 : tie.Need-returns-2
 returns-2 c = judged-stop _ _ _ _ (c .before .block-fault .ensures) (c .if1 .left)
 

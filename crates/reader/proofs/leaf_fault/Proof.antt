@@ -4,23 +4,18 @@ use borrow.Author.Tests.{le-leb, lt-leb, lt-ltb, le-ltb}
 use Rattle.reader.proofs.leaf_fault.Statement.{statement}
 use Rattle.reader.proofs.leaf_fault.Tie as tie
 
--- src/lib.rt:137:9
 returns : tie.Need-returns
 returns c = rw (lt-leb (c .before .args .c) (2 ^ 20) (c .if1 .taken))
 
--- src/lib.rt:140:9
 returns-2 : tie.Need-returns-2
 returns-2 c = rw (le-leb (c .before .before .args .c) (2 ^ 20) (c .before .if1 .left), lt-leb (c .before .before .args .m) (2 ^ 20) (c .if2 .taken))
 
--- src/lib.rt:143:9
 returns-3 : tie.Need-returns-3
 returns-3 c = rw (le-leb (c .before .before .before .args .c) (2 ^ 20) (c .before .before .if1 .left), le-leb (c .before .before .before .args .m) (2 ^ 20) (c .before .if2 .left), le-ltb (c .before .before .before .args .n) (c .before .before .before .args .room) (c .if3 .taken))
 
--- src/lib.rt:133:1
 returns-4 : tie.Need-returns-4
 returns-4 c = rw (le-leb (c .before .before .before .before .args .c) (2 ^ 20) (c .before .before .before .if1 .left), le-leb (c .before .before .before .before .args .m) (2 ^ 20) (c .before .before .if2 .left), lt-ltb (c .before .before .before .before .args .n) (c .before .before .before .before .args .room) (c .before .if3 .left), lt-leb (c .before .before .before .before .args .c) (c .before .before .before .before .args .m) (c .if4 .taken))
 
--- src/lib.rt:133:1
 returns-5 : tie.Need-returns-5
 returns-5 c = rw (le-leb (c .before .before .before .before .args .c) (2 ^ 20) (c .before .before .before .if1 .left), le-leb (c .before .before .before .before .args .m) (2 ^ 20) (c .before .before .if2 .left), lt-ltb (c .before .before .before .before .args .n) (c .before .before .before .before .args .room) (c .before .if3 .left), le-leb (c .before .before .before .before .args .c) (c .before .before .before .before .args .m) (c .if4 .left))
 

@@ -3,15 +3,12 @@ use borrow.Author.Tests.{le-leb, lt-leb, lt-ltb, le-ltb}
 use Rattle.reader.proofs.open_fault.Statement.{statement}
 use Rattle.reader.proofs.open_fault.Tie as tie
 
--- src/lib.rt:160:9
 returns : tie.Need-returns
 returns c = rw (lt-leb (c .before .args .level) 32 (c .if1 .taken))
 
--- src/lib.rt:156:1
 returns-2 : tie.Need-returns-2
 returns-2 c = rw (le-leb (c .before .before .args .level) 32 (c .before .if1 .left), lt-ltb (c .before .before .args .d) 64 (c .if2 .taken))
 
--- src/lib.rt:156:1
 returns-3 : tie.Need-returns-3
 returns-3 c = rw (le-leb (c .before .before .args .level) 32 (c .before .if1 .left), le-ltb (c .before .before .args .d) 64 (c .if2 .left))
 

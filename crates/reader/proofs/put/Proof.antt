@@ -4,107 +4,81 @@ use borrow.Author.Needs.{needs}
 use Rattle.reader.proofs.put.Statement.{statement}
 use Rattle.reader.proofs.put.Tie as tie
 
--- src/lib.rt:382:14
 mul-at : tie.Need-mul-at
 mul-at c = search needs
 
--- src/lib.rt:383:5
 mul-row : tie.Need-mul-row
 mul-row c = search needs
 
--- src/lib.rt:383:5
 element-write-row : tie.Need-element-write-row
 element-write-row c = search needs
 
--- src/lib.rt:384:19
 point-mark-requires : tie.Need-point-mark-requires
 point-mark-requires c κs = search needs
 
--- src/lib.rt:384:9
 add-row : tie.Need-add-row
 add-row c = search needs
 
--- src/lib.rt:384:5
 mul-row-2 : tie.Need-mul-row-2
 mul-row-2 c = search needs
 
--- src/lib.rt:384:5
 element-write-row-2 : tie.Need-element-write-row-2
 element-write-row-2 c = search needs
 
--- src/lib.rt:385:9
 add-row-2 : tie.Need-add-row-2
 add-row-2 c = search needs
 
--- src/lib.rt:385:5
 mul-row-3 : tie.Need-mul-row-3
 mul-row-3 c = search needs
 
--- src/lib.rt:385:5
 element-write-row-3 : tie.Need-element-write-row-3
 element-write-row-3 c = search needs
 
--- src/lib.rt:386:9
 add-row-3 : tie.Need-add-row-3
 add-row-3 c = search needs
 
--- src/lib.rt:386:5
 mul-row-4 : tie.Need-mul-row-4
 mul-row-4 c = search needs
 
--- src/lib.rt:386:5
 element-write-row-4 : tie.Need-element-write-row-4
 element-write-row-4 c = search needs
 
--- src/lib.rt:387:9
 add-row-4 : tie.Need-add-row-4
 add-row-4 c = search needs
 
--- src/lib.rt:387:5
 mul-row-5 : tie.Need-mul-row-5
 mul-row-5 c = search needs
 
--- src/lib.rt:387:5
 element-write-row-5 : tie.Need-element-write-row-5
 element-write-row-5 c = search needs
 
--- src/lib.rt:388:9
 add-row-5 : tie.Need-add-row-5
 add-row-5 c = search needs
 
--- src/lib.rt:388:5
 mul-row-6 : tie.Need-mul-row-6
 mul-row-6 c = search needs
 
--- src/lib.rt:388:5
 element-write-row-6 : tie.Need-element-write-row-6
 element-write-row-6 c = search needs
 
--- src/lib.rt:389:9
 add-row-6 : tie.Need-add-row-6
 add-row-6 c = search needs
 
--- src/lib.rt:389:5
 mul-row-7 : tie.Need-mul-row-7
 mul-row-7 c = search needs
 
--- src/lib.rt:389:5
 element-write-row-7 : tie.Need-element-write-row-7
 element-write-row-7 c = search needs
 
--- src/lib.rt:390:9
 add-row-7 : tie.Need-add-row-7
 add-row-7 c = search needs
 
--- src/lib.rt:390:5
 mul-row-8 : tie.Need-mul-row-8
 mul-row-8 c = search needs
 
--- src/lib.rt:390:5
 element-write-row-8 : tie.Need-element-write-row-8
 element-write-row-8 c = search needs
 
--- src/lib.rt:367:1
 returns : tie.Need-returns
 returns c = rw (c .point-mark .ensures) (simp towards-suc)
 

@@ -3,11 +3,9 @@ use borrow.Author.Tests.{le-leb, lt-leb}
 use Rattle.reader.proofs.range_fault.Statement.{statement}
 use Rattle.reader.proofs.range_fault.Tie as tie
 
--- src/lib.rt:176:1
 returns : tie.Need-returns
 returns c = rw (lt-leb (c .before .args .f) 15 (c .if1 .taken))
 
--- src/lib.rt:176:1
 returns-2 : tie.Need-returns-2
 returns-2 c = rw (le-leb (c .before .args .f) 15 (c .if1 .left))
 

@@ -4,34 +4,27 @@ use borrow.Author.Needs.{needs}
 use Rattle.reader.proofs.read_raw.Statement.{statement}
 use Rattle.reader.proofs.read_raw.Tie as tie
 
--- src/lib.rt:706:9
 refused-requires : tie.Need-refused-requires
 refused-requires c κs = search needs
 
--- src/lib.rt:706:9
 returns : tie.Need-returns
 returns c = raw-oversize _ _ _ (c .before .if1 .taken) (c .refused .ensures)
 
--- src/lib.rt:709:32
 smaller-requires : tie.Need-smaller-requires
 smaller-requires c κs = search needs
 
--- src/lib.rt:709:9
 whole-task-requires : tie.Need-whole-task-requires
 whole-task-requires c κs = search needs
 
--- src/lib.rt:712:16
 enum-told : tie.Need-enum-told
 enum-told c = search needs
 
 enum-told-2 : tie.Need-enum-told-2
 enum-told-2 c = search needs
 
--- src/lib.rt:701:1
 returns-2 : tie.Need-returns-2
 returns-2 c = raw-accepted _ _ _ _ (c .before .before .before .before .before .before .if1 .left) (c .before .before .before .before .smaller .ensures) (c .before .before .whole-task .ensures) (c .enum-told .given .1)
 
--- src/lib.rt:701:1
 returns-3 : tie.Need-returns-3
 returns-3 c = raw-refused _ _ _ _ (c .before .before .before .before .before .before .if1 .left) (c .before .before .before .before .smaller .ensures) (c .before .before .whole-task .ensures) (c .enum-told2 .given .1)
 

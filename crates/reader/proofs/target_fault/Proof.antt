@@ -5,27 +5,21 @@ use borrow.Author.Needs.{needs}
 use Rattle.reader.proofs.target_fault.Statement.{statement}
 use Rattle.reader.proofs.target_fault.Tie as tie
 
--- src/lib.rt:188:9
 returns : tie.Need-returns
 returns c = target-out _ _ (omega arith) _ _ (c .if1 .taken)
 
--- src/lib.rt:191:9
 returns-2 : tie.Need-returns-2
 returns-2 c = target-high _ _ (omega arith) _ _ (c .before .if1 .left) (c .if2 .taken)
 
--- src/lib.rt:194:28
 mul-if3 : tie.Need-mul-if3
 mul-if3 c = search needs
 
--- src/lib.rt:194:28
 element-copy-out-if3 : tie.Need-element-copy-out-if3
 element-copy-out-if3 c = search needs
 
--- src/lib.rt:183:1
 returns-3 : tie.Need-returns-3
 returns-3 c = target-deep _ _ (omega arith) _ _ (c .before .before .before .if1 .left) (c .before .before .if2 .left) (c .if3 .taken)
 
--- src/lib.rt:183:1
 returns-4 : tie.Need-returns-4
 returns-4 c = target-fine _ _ (omega arith) _ _ (c .before .before .before .if1 .left) (c .before .before .if2 .left) (c .if3 .left)
 

@@ -4,19 +4,15 @@ use borrow.Author.Tests.{le-leb, lt-leb}
 use Rattle.reader.proofs.task_fault.Statement.{statement}
 use Rattle.reader.proofs.task_fault.Tie as tie
 
--- src/lib.rt:604:9
 returns : tie.Need-returns
 returns c = rw (lt-leb 1 (c .before .args .d) (c .if1 .taken))
 
--- src/lib.rt:607:9
 returns-2 : tie.Need-returns-2
 returns-2 c = rw (le-leb 1 (c .before .before .args .d) (c .before .if1 .left), lt-leb (c .before .before .args .d) (2 ^ 40) (c .if2 .taken))
 
--- src/lib.rt:600:1
 returns-3 : tie.Need-returns-3
 returns-3 c = rw (le-leb 1 (c .before .before .before .args .d) (c .before .before .if1 .left), le-leb (c .before .before .before .args .d) (2 ^ 40) (c .before .if2 .left), lt-leb (c .before .before .before .args .t) (2 ^ 20) (c .if3 .taken))
 
--- src/lib.rt:600:1
 returns-4 : tie.Need-returns-4
 returns-4 c = rw (le-leb 1 (c .before .before .before .args .d) (c .before .before .if1 .left), le-leb (c .before .before .before .args .d) (2 ^ 40) (c .before .if2 .left), le-leb (c .before .before .before .args .t) (2 ^ 20) (c .if3 .left))
 

@@ -10,31 +10,24 @@ opened : (c : tie.After-functions-arg) →
     HeadAt (c .before .before .before .before .before .before .args .text .now) (c .before .before .before .before .before .before .args .room) (Opens (c .before .before .d .given .0 .0) (c .before .before .d .given .0 .1 .0) (c .before .before .d .given .0 .1 .1 .0))
 opened c = head-means (c .before .before .before .before .before .before .args .text .now) (c .before .before .before .before .before .before .args .room) (sym (c .before .before .d .given .1) ∙ c .before .before .before .before .task-line .ensures)
 
--- src/lib.rt:687:11
 task-line-requires : tie.Need-task-line-requires
 task-line-requires c κs = search needs
 
--- src/lib.rt:688:19
 enum-known-k : tie.Need-enum-known-k
 enum-known-k c = search needs
 
--- src/lib.rt:688:25
 refused-requires : tie.Need-refused-requires
 refused-requires c κs = search needs
 
--- src/lib.rt:689:21
 enum-known-d : tie.Need-enum-known-d
 enum-known-d c = search needs
 
--- src/lib.rt:689:33
 functions-requires : tie.Need-functions-requires
 functions-requires c κs = (c .before .before .before .before .before .before .pre, opened c .0, opened c .1)
 
--- src/lib.rt:683:1
 returns : tie.Need-returns
 returns c = text-refused _ _ (head-means (c .before .before .before .before .before .before .args .text .now) (c .before .before .before .before .before .before .args .room) (sym (c .before .before .k .given .1) ∙ c .before .before .before .before .task-line .ensures)) (c .refused .ensures)
 
--- src/lib.rt:683:1
 returns-2 : tie.Need-returns-2
 returns-2 c = search needs
 

@@ -1,12 +1,10 @@
-use lib.ListN.{length, getD, length-set, length-take}
-use mathlib.Core.Path.{_≡_, sym, _∙_}
+-- `reader_cases::add` meets its contract. Assumes nothing.
+use lib.ListN.{length, length-take}
+use mathlib.Core.Path.{_≡_}
 use Prim.Native.Nat.{_≤_, _-_}
 use native.Mathlib.Omega.{arith}
 use Rattle.reader_cases.proofs.add.Statement.{statement}
 use Rattle.reader_cases.proofs.add.Tie as tie
-use Rattle.reader_cases.proofs.add.Reads as reads
-use Rattle.reader_cases.proofs.add.Lts as lts
-use Rattle.reader_cases.proofs.add_once.Reads as add-once-reads
 
 abbrev Inv-loop : tie.InvT-loop
 Inv-loop text₀ at piece times end₀ k₀ text end k = (end ≤ 65537) × (65537 ≡ length text)
@@ -14,27 +12,21 @@ Inv-loop text₀ at piece times end₀ k₀ text end k = (end ≤ 65537) × (655
 abbrev μ-loop : tie.MeasureT-loop
 μ-loop text₀ at piece times end₀ k₀ text end k = times - k
 
--- src/main.rt:70:5
 loop-holds : tie.Need-loop-holds Inv-loop μ-loop
 loop-holds c = omega arith
 
--- src/main.rt:71:9
 add-once-requires : tie.Need-add-once-requires Inv-loop μ-loop
 add-once-requires c κs = omega arith
 
--- src/main.rt:72:9
 add-k : tie.Need-add-k Inv-loop μ-loop
 add-k c = omega arith
 
--- src/main.rt:70:5
 loop-less : tie.Need-loop-less Inv-loop μ-loop
 loop-less c = omega arith
 
--- src/main.rt:70:5
 loop-again : tie.Need-loop-again Inv-loop μ-loop
 loop-again c = omega arith
 
--- src/main.rt:64:1
 returns : tie.Need-returns Inv-loop μ-loop
 returns c = omega (arith, length-take (c .before .loop .end) (c .before .loop .text))
 
