@@ -2,10 +2,10 @@
 -- stack and its remaining times are that run's 33. The document's 33 times are single numbers, so they can be compared.
 use mathlib.Core.Bool.{Bool, true, false}
 use mathlib.Core.List.{List, [], _∷_, _++_}
-use mathlib.Core.Logic.{_⊎_, _↔_, inl, inr}
-use mathlib.Core.Option.{Option, none, some}
+use mathlib.Core.Logic.{_↔_}
+use mathlib.Core.Option.{none, some}
 use mathlib.Core.Path.{_≡_, refl, ap, sym, _∙_, subst}
-use Prim.Native.Nat.{ℕ, zero, suc, _+_, _-_, _≤_, _<_}
+use Prim.Native.Nat.{ℕ, zero, suc, _+_, _-_, _≤_}
 use native.Mathlib.Omega.{arith}
 use native.Mathlib.Decide.{decLe}
 use lib.ListN.{length, getD, replicate, length-replicate}
@@ -20,13 +20,14 @@ use Rattle.model.specs.Places.{pick}
 use Rattle.model.specs.Stack.{Levels, decode, kept, times}
 use Rattle.model.proofs.Total.{total-largest}
 use Rattle.model.proofs.Decisions.{largest-unique}
-use Rattle.model.proofs.Decoded.{Decodes, standing-decodes}
+use Rattle.model.proofs.Decoded.{standing-decodes}
 use Rattle.model.proofs.Points.{standing-points}
 use Rattle.model.proofs.Reachable.{stack-stands}
 use Rattle.table.specs.Table.{same-numbers}
 use Rattle.table.proofs.Plans.{same-list}
 use Rattle.control.specs.declared.State.{State}
-use Rattle.control.specs.State.{frames, stack-of, points?, levels-of, timed, standing}
+use Rattle.control.specs.Meaning.{StandsSomewhere, at-the-release, at-a-report}
+use Rattle.control.specs.State.{frames, stack-of, levels-of, timed, standing}
 use Rattle.control.proofs.Places.{points-all, all-points}
 use Rattle.control.proofs.Alike.{timed-some, levels-inner, levels-some, timed-same}
 
@@ -77,11 +78,6 @@ times-one {fs} s ts us a b = same-entries ts us (a .count ∙ sym (b .count)) en
         ]
 
 -- GOOD STATES
-
--- Where a running state stands: at the release, with its times; or where a run of the plan stands, with that run's times.
-pub data StandsSomewhere (p : Plan) (s : State) : Type 0 where
-  at-the-release : s .level ≡ 0 → Total (main p) (getD (s .times) 0 0) → length (s .times) ≡ 33 → ((j : ℕ) → 1 ≤ j → getD (s .times) j 0 ≡ 0) → StandsSomewhere p s
-  at-a-report : (x : Standing (main p)) → stack [] (so-far x) ≡ stack-of s → Times x (s .times) → StandsSomewhere p s
 
 zeros : (k j : ℕ) → _≡_ {A = ℕ} (getD (replicate k 0) j 0) 0
 zeros zero j = refl

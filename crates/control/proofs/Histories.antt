@@ -2,26 +2,26 @@
 -- allow it, and a decision has the document's remaining and stretch.
 use mathlib.Core.Bool.{Bool, true, false}
 use mathlib.Core.List.{List, [], _∷_, _++_}
-use mathlib.Core.Logic.{_⊎_, _↔_, inl, inr}
+use mathlib.Core.Logic.{_↔_}
 use mathlib.Core.Option.{Option, none, some}
 use mathlib.Core.Path.{_≡_, refl, ap, sym, _∙_, subst}
-use Prim.Native.Nat.{ℕ, zero, suc, _+_, _-_, _≤_, _<_}
+use Prim.Native.Nat.{ℕ, _+_, _-_, _≤_}
 use native.Mathlib.Omega.{arith}
 use lib.Dec.{leb, ltb}
 use lib.ListN.{length}
 use borrow.Author.Tests.{ltb-false, le-ltb, leb-true, le-leb}
 use Rattle.model.specs.Plan.{C, Plan, all-leaves}
 use Rattle.model.specs.Forms.{Forms, main}
-use Rattle.model.specs.Total.{Total, total}
-use Rattle.model.specs.Remaining.{Reported, Ended, Remaining}
-use Rattle.model.specs.Stretch.{Stretch, ReleaseStretch, silence, stretch}
+use Rattle.model.specs.Total.{total}
+use Rattle.model.specs.Remaining.{Reported, Ended}
+use Rattle.model.specs.Stretch.{silence, stretch}
 use Rattle.model.specs.Condition.{Condition, need, margin, holds}
-use Rattle.model.specs.Levels.{Standing, so-far, history, Times, Frame, stack}
+use Rattle.model.specs.Levels.{Standing, so-far, history, Frame, stack}
 use Rattle.model.specs.Acceptance.{Accepted}
 use Rattle.model.specs.Places.{pick, locate}
 use Rattle.model.specs.Stack.{Levels, whole, flat, seek-at, decode, times}
-use Rattle.model.specs.Calls.{Call, release, report, end, Answer, refused, go, suspend, stay, resume, ended, Reply}
-use Rattle.model.specs.Timed.{PointOf, Fit, Decision, RemainingAt, StretchAt, Holds, Held}
+use Rattle.model.specs.Calls.{release, report, end, Answer, go, suspend, stay, resume, ended}
+use Rattle.model.specs.Timed.{PointOf, Fit, Decision, Held}
 use Rattle.model.specs.Controller as places
 use Rattle.model.specs.Controller.{is-point, find, ending, late}
 use Rattle.model.proofs.Total.{total-largest}
@@ -31,15 +31,16 @@ use Rattle.model.proofs.Blocks.{is-point-of, point-of-is}
 use Rattle.model.proofs.Histories.{leads-reported, locate-more, locate-first, ended-first, ended-later}
 use Rattle.model.proofs.Trails.{and-then, follow-at, locate-at, locate-snoc}
 use Rattle.model.proofs.Standing.{standing-of}
-use Rattle.model.proofs.Decoded.{Known, known-plan, Decodes, standing-decodes}
+use Rattle.model.proofs.Decoded.{known-plan, standing-decodes}
 use Rattle.model.proofs.OneStack.{one-stack}
 use Rattle.model.proofs.Refusing as refusing
 use Rattle.model.proofs.Theorems as model
 use Rattle.table.specs.Table.{table-of}
 use Rattle.control.specs.declared.State.{State}
 use Rattle.control.specs.State.{fresh, stack-of, levels-of, standing, at-release, at-report}
-use Rattle.control.specs.Calls.{refuse, word, decision, suspended-after, released, next-levels, reported, may-end, closed, running-call, idle-call, call-on}
+use Rattle.control.specs.Calls.{refuse, word, decision, suspended-after, released, next-levels, reported, may-end, closed, running-call, call-on}
 use Rattle.control.specs.Histories.{Accepts, Since}
+use Rattle.control.specs.Meaning.{Decides, DecidesRelease, HistoryState}
 use Rattle.control.specs.Histories as since
 use Rattle.control.proofs.Alike.{place-of, Stands, on-idle, on-running, stands-release, stands-report, same-next, next-moves, timed-some, levels-inner, may-end-is}
 use Rattle.control.proofs.Good.{stands-times}
@@ -246,16 +247,7 @@ module _ (p : Plan) (a : Accepted p) where
 
   -- WHAT A DECISION SAYS
 
-  -- An accepted report answers with the remaining of the history and the stretch of the point.
-  pub record Decides (s : State) (h : List ℕ) (n t : ℕ) : Type 0 where
-    pub remaining : ℕ
-    pub str : ℕ
-    pub is-remaining : Remaining (main p) (h ++ (n ∷ [])) remaining
-    pub is-stretch : Stretch (main p) n str
-    pub answer-is : call-on (table-of p) s (report n t) .answer ≡ decision p remaining str t (s .suspended)
-    pub suspended-is : call-on (table-of p) s (report n t) .state .suspended ≡ suspended-after p remaining str t (s .suspended)
-
-  pub report-decides : {s : State} {h : List ℕ} {ds : List Decision} → Since (table-of p) s h ds → (n t : ℕ) → Accepts (call-on (table-of p) s (report n t) .answer) → Decides s h n t
+  pub report-decides : {s : State} {h : List ℕ} {ds : List Decision} → Since (table-of p) s h ds → (n t : ℕ) → Accepts (call-on (table-of p) s (report n t) .answer) → Decides p s h n t
   report-decides {s} {h} w n t q =
       let k = state-of w in
       let e = on-running p a s (k .ls) (k .stands) (report n t) in
@@ -272,16 +264,7 @@ module _ (p : Plan) (a : Accepted p) where
         suspended-is = ap (λ x. x .state .suspended) (e ∙ v .reply);
       }
 
-  -- An accepted release answers with the total and the release's stretch.
-  pub record DecidesRelease (s : State) : Type 0 where
-    pub remaining : ℕ
-    pub str : ℕ
-    pub is-remaining : Total (main p) remaining
-    pub is-stretch : ReleaseStretch (main p) str
-    pub answer-is : call-on (table-of p) s release .answer ≡ decision p remaining str 0 false
-    pub suspended-is : call-on (table-of p) s release .state .suspended ≡ suspended-after p remaining str 0 false
-
-  pub release-decides : (s : State) → s .running ≡ false → Accepts (call-on (table-of p) s release .answer) → DecidesRelease s
+  pub release-decides : (s : State) → s .running ≡ false → Accepts (call-on (table-of p) s release .answer) → DecidesRelease p s
   release-decides s e q =
       let i = fit-exactly .1 (release-exactly s e .0 q) in
       let o : call-on (table-of p) s release ≡ record { state = at-release p (suspended-after p (total C (main p)) (silence (main p) 0) 0 false); answer = decision p (total C (main p)) (silence (main p) 0) 0 false } =
@@ -318,15 +301,8 @@ module _ (p : Plan) (a : Accepted p) where
 
   -- THE STATE IS THAT OF ITS HISTORY
 
-  -- A run with this history stands at the state's stack, and the state's remaining times are that run's 33.
-  pub record HistoryState (s : State) (h : List ℕ) : Type 0 where
-    pub run : Standing (main p)
-    pub history-is : history run ≡ h
-    pub stack-is : stack [] (so-far run) ≡ stack-of s
-    pub times-are : Times run (s .times)
-
   history-levels : (s : State) (h : List ℕ) (ls : Levels) → levels-of p (stack-of s) ≡ some ls → s .times ≡ times (main p) ls → (x : Standing (main p)) → history x ≡ h →
-      locate-at (main p) [] h ≡ some ls → decode (main p) [] (stack-of s) ≡ some ls → HistoryState s h
+      locate-at (main p) [] h ≡ some ls → decode (main p) [] (stack-of s) ≡ some ls → HistoryState p s h
   history-levels s h ls e t x q l d =
       let k = known-plan p a x in
       let z : some (k .ls) ≡ some ls = sym (k .located) ∙ (ap (locate-at (main p) []) q ∙ l) in
@@ -344,7 +320,7 @@ module _ (p : Plan) (a : Accepted p) where
   inner-decodes [] g ks e = absurd (let i : _≡_ {A = Levels} [] (g ∷ ks) = cc in let z : _≡_ {A = ℕ} 0 1 = cc in omega arith)
   inner-decodes (f ∷ fs) g ks e = levels-inner p a f fs (g ∷ ks) e .1
 
-  history-found : (s : State) (m : ℕ) (h : List ℕ) (ls : Levels) → standing p s ≡ some ls → Trail ls (m ∷ h) → Reported (main p) (m ∷ h) → HistoryState s (m ∷ h)
+  history-found : (s : State) (m : ℕ) (h : List ℕ) (ls : Levels) → standing p s ≡ some ls → Trail ls (m ∷ h) → Reported (main p) (m ∷ h) → HistoryState p s (m ∷ h)
   history-found s m h [] e t r = absurd (let z : _≡_ {A = ℕ} 0 1 = cc in omega arith)
   history-found s m h (g ∷ ks) e t r =
       let l = timed-some p a s (levels-of p (stack-of s)) (g ∷ ks) e in
@@ -355,5 +331,5 @@ module _ (p : Plan) (a : Accepted p) where
   leads-run [] m h e = absurd (let z : _≡_ {A = ℕ} 0 1 = cc in omega arith)
   leads-run (g ∷ ks) m h (n, k, e, l) = leads-reported (main p) (m ∷ h) (accepted-traceable p a) .0 (whole (g ∷ ks), l)
 
-  pub history-state : {s : State} {m : ℕ} {h : List ℕ} {ds : List Decision} → Since (table-of p) s (m ∷ h) ds → HistoryState s (m ∷ h)
+  pub history-state : {s : State} {m : ℕ} {h : List ℕ} {ds : List Decision} → Since (table-of p) s (m ∷ h) ds → HistoryState p s (m ∷ h)
   history-state {s} {m} {h} w = let k = state-of w in history-found s m h (k .ls) (k .stands .stands) (k .trail) (leads-run (k .ls) m h (k .leads))

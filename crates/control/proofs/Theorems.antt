@@ -21,12 +21,11 @@ use Rattle.control.specs.declared.State.{State}
 use Rattle.control.specs.State.{standing}
 use Rattle.control.specs.Calls.{decision, call-on, controller-of}
 use Rattle.control.specs.Histories.{Accepts, Since}
+use Rattle.control.specs.Meaning.{StandsSomewhere, DecidesRelease, Decides, HistoryState}
 use Rattle.control.proofs.Alike as alike
 use Rattle.control.proofs.Alike.{Tied}
 use Rattle.control.proofs.Histories as histories
-use Rattle.control.proofs.Histories.{HistoryState, DecidesRelease, Decides}
 use Rattle.control.proofs.Good as good
-use Rattle.control.proofs.Good.{StandsSomewhere}
 
 -- Rule 11, the state: consider the table of an accepted plan. A running state is good exactly when it stands at the release with the times of the
 -- release, or some run of the plan stands at its last point, open loops and calls with its visit counts and its remaining times are that run's 33.
@@ -41,7 +40,7 @@ calls-alike = alike.alike
 -- DEMAND 2: consider the table of an accepted plan, and any state after an accepted release and accepted reports from a fresh state (`Since`).
 
 -- The state is that of its history: some run with these reports stands at its stack, and its remaining times are that run's 33.
-pub state-is-of-history : (p : Plan) (a : Accepted p) {s : State} {m : ℕ} {h : List ℕ} {ds : List Decision} → Since (table-of p) s (m ∷ h) ds → HistoryState p a s (m ∷ h)
+pub state-is-of-history : (p : Plan) (a : Accepted p) {s : State} {m : ℕ} {h : List ℕ} {ds : List Decision} → Since (table-of p) s (m ∷ h) ds → HistoryState p s (m ∷ h)
 state-is-of-history = histories.history-state
 
 -- A release of an idle state is accepted exactly when total + T is within D; a report exactly when the number is a point, the reading is not below the
@@ -60,11 +59,11 @@ end-accepted-exactly = histories.end-exactly
 
 -- An accepted release answers with the total and the release's stretch; an accepted report with the largest isolated sum over all runs with this
 -- history, and with the point's stretch.
-pub release-answer : (p : Plan) (a : Accepted p) (s : State) → s .running ≡ false → Accepts (call-on (table-of p) s release .answer) → DecidesRelease p a s
+pub release-answer : (p : Plan) (a : Accepted p) (s : State) → s .running ≡ false → Accepts (call-on (table-of p) s release .answer) → DecidesRelease p s
 release-answer = histories.release-decides
 
 pub report-answer : (p : Plan) (a : Accepted p) {s : State} {h : List ℕ} {ds : List Decision} → Since (table-of p) s h ds → (n t : ℕ) →
-    Accepts (call-on (table-of p) s (report n t) .answer) → Decides p a s h n t
+    Accepts (call-on (table-of p) s (report n t) .answer) → Decides p s h n t
 report-answer = histories.report-decides
 
 -- A decision says stay where the others are suspended already; else go where the condition holds, and suspend where it does not.

@@ -1,4 +1,5 @@
 pub mod State
 pub mod Calls
 pub mod Histories
+pub mod Meaning
 pub mod Cases
