@@ -7,48 +7,26 @@ mod mock;
 mod probe;
 mod table;
 
-use std::path::PathBuf;
-
 use reference::aimed;
+use reference::count::Count;
 use reference::crossed;
 use reference::damage;
 use reference::gen::{self, Random};
 use reference::plan::{self, MOST_LEAVES};
 
-/// Failures past this many are counted but neither shown nor kept.
-const SHOWN: usize = 20;
-
-/// One of every form, so that each line's bytes can be changed.
-const EVERY_FORM: &str =
-    "(task 900 5\n(fun\n(leaf s 1 2)\n)\n(fun\n(call s 0 1 3)\n(loop p 7 2 4\n\
-    (if p 3 5\n(then\n(leaf p 10 20)\n)\n(else\n(call p 0 0 0)\n)\n)\n)\n(leaf s 6 8)\n)\n)\n";
-
 struct Comparison {
-    passed: usize,
-    failed: usize,
+    count: Count,
     /// How often each refusal was wanted; the first is for accepted texts.
     met: [usize; 8],
-    /// Where texts that failed are kept.
-    folder: PathBuf,
 }
 
 impl Comparison {
     fn text(&mut self, group: &str, text: &[u8], capacity: usize) {
         let wanted = probe::wanted(text, capacity);
         self.met[wanted.refusal.map_or(0, |refusal| refusal.0 as usize)] += 1;
-        let Some(difference) = probe::difference(&probe::proved(text, capacity), &wanted) else {
-            self.passed += 1;
-            return;
-        };
-        self.failed += 1;
-        if self.failed <= SHOWN {
-            let file = self.folder.join(format!("failed-{}.txt", self.failed));
-            println!("failed: {group}, {capacity} records lent: {difference}");
-            match std::fs::write(&file, text) {
-                Ok(()) => println!("  text in {}", file.display()),
-                Err(error) => println!("  text not kept: {error}"),
-            }
-        }
+        let different = probe::difference(&probe::proved(text, capacity), &wanted);
+        let failure = different.map(|what| format!("{group}, {capacity} records lent: {what}"));
+        self.count.note(failure, || text.to_vec());
     }
 
     fn all(&mut self, group: &str, texts: &[Vec<u8>], capacity: usize) {
@@ -77,7 +55,7 @@ fn fixed_texts(comparison: &mut Comparison) {
     for case in crossed::cases() {
         comparison.text(&case.name, &case.text, case.row);
     }
-    for base in [EVERY_FORM, aimed::SMALLEST] {
+    for base in [aimed::EVERY_FORM, aimed::SMALLEST] {
         let base = base.as_bytes();
         comparison.with_capacities("a base text", base);
         comparison.all(
@@ -120,12 +98,9 @@ fn random_texts(comparison: &mut Comparison) {
 }
 
 fn main() {
-    let folder = PathBuf::from(std::env::args().nth(1).unwrap_or_else(|| ".".to_string()));
     let mut comparison = Comparison {
-        passed: 0,
-        failed: 0,
+        count: Count::new(std::env::args().skip(1)),
         met: [0; 8],
-        folder,
     };
     fixed_texts(&mut comparison);
     random_texts(&mut comparison);
@@ -134,12 +109,9 @@ fn main() {
         println!("texts refused by {number}: {}", comparison.met[number]);
     }
     // A rule that no text meets would be a rule that was not compared.
-    match comparison.met.iter().all(|&count| count >= 100) {
-        true => comparison.passed += 1,
-        false => comparison.failed += 1,
-    }
-    println!("{} passed, {} failed", comparison.passed, comparison.failed);
-    if comparison.failed > 0 {
-        std::process::exit(1);
-    }
+    let met = comparison.met.iter().all(|&count| count >= 100);
+    comparison
+        .count
+        .holds(met, "each answer is met a hundred times");
+    comparison.count.finish();
 }

@@ -2,6 +2,7 @@
 //! difference planted on demand. It shows that the comparison finds them.
 
 use reference::plan::{self, MOST_LEAVES};
+use reference::records::{self, RECORD};
 
 use super::table;
 
@@ -94,13 +95,13 @@ pub unsafe extern "C" fn rolsipay_probe_read(
             return (u64::from(number) << 32) + line as u64;
         }
     };
-    let numbers = table::row(&plan);
+    let numbers = records::row(&plan);
     row[..numbers.len()].copy_from_slice(&numbers);
     head.copy_from_slice(&table::head(&plan));
-    let leaves = numbers.len() / table::RECORD;
+    let leaves = numbers.len() / RECORD;
     let functions = plan.functions.len();
     if planted("else-of-empty") {
-        for record in row.chunks_mut(table::RECORD).take(leaves) {
+        for record in row.chunks_mut(RECORD).take(leaves) {
             if record[0] == 3 && record[5] == record[6] {
                 record[5] = 0;
             }
@@ -108,7 +109,7 @@ pub unsafe extern "C" fn rolsipay_probe_read(
     }
     if planted("height-of-own") && functions > 1 {
         let own = numbers
-            .chunks(table::RECORD)
+            .chunks(RECORD)
             .skip(head[4 + functions - 1] as usize);
         head[21 + functions - 1] = own.map(|record| record[7]).max().unwrap_or(0);
     }

@@ -1,8 +1,9 @@
 //! The proved reader, called through the one function that its library exports.
 
 use reference::plan::{self, Refusal, MOST_LEAVES};
+use reference::records::{self, RECORD};
 
-use super::table::{self, HEAD, RECORD};
+use super::table::{self, HEAD};
 
 extern "C" {
     /// 0 where the text is accepted by rules 1 to 7, else number * 2^32 + line.
@@ -68,7 +69,7 @@ pub fn wanted(text: &[u8], capacity: usize) -> Outcome {
     let refusal = match plan::read_lines(text, capacity) {
         Err(refusal) => Some(refusal),
         Ok(plan) => {
-            let numbers = table::row(&plan);
+            let numbers = records::row(&plan);
             row[..numbers.len()].copy_from_slice(&numbers);
             head[..HEAD].copy_from_slice(&table::head(&plan));
             None

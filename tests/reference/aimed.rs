@@ -14,6 +14,11 @@ pub struct Case {
 
 pub const SMALLEST: &str = "(task 10 3\n(fun\n(leaf s 7 9)\n)\n)\n";
 
+/// One of every form, so that each line's bytes can be changed.
+pub const EVERY_FORM: &str =
+    "(task 900 5\n(fun\n(leaf s 1 2)\n)\n(fun\n(call s 0 1 3)\n(loop p 7 2 4\n\
+    (if p 3 5\n(then\n(leaf p 10 20)\n)\n(else\n(call p 0 0 0)\n)\n)\n)\n(leaf s 6 8)\n)\n)\n";
+
 pub fn joined<S: AsRef<str>>(lines: &[S]) -> String {
     lines
         .iter()
@@ -34,12 +39,12 @@ pub fn words(lines: &[&str]) -> Vec<String> {
     lines.iter().map(|line| line.to_string()).collect()
 }
 
-fn many(line: &str, count: usize) -> Vec<String> {
+pub fn many(line: &str, count: usize) -> Vec<String> {
     vec![line.to_string(); count]
 }
 
 /// `count` open brackets of one sort, what they hold, and the closing ones.
-fn nest(open: &[&str], count: usize, inner: &[&str], close: &[&str]) -> Vec<String> {
+pub fn nest(open: &[&str], count: usize, inner: &[&str], close: &[&str]) -> Vec<String> {
     let mut lines: Vec<String> = (0..count).flat_map(|_| words(open)).collect();
     lines.extend(words(inner));
     lines.extend((0..count).flat_map(|_| words(close)));

@@ -65,6 +65,7 @@ pub struct Composed<'a> {
     isolated: Vec<u128>,
     loaded: Vec<u128>,
     levels: Vec<usize>,
+    turns: Vec<u128>,
     tails: Vec<u128>,
     stretches: Vec<u128>,
     release_stretch: u128,
@@ -97,6 +98,7 @@ impl<'a> Composed<'a> {
             isolated: function_totals(plan, Cost::Isolated),
             loaded: function_totals(plan, Cost::Loaded),
             levels: vec![0; count],
+            turns: vec![0; count],
             tails: vec![0; count],
             stretches: vec![0; count],
             release_stretch: 0,
@@ -129,8 +131,9 @@ impl<'a> Composed<'a> {
         }
     }
 
-    /// `after` is the largest sum from the end of these forms, in the first
-    /// round of every loop around them, to the end of the function.
+    /// Sets turns and tails. `after` is the largest sum from the end of these
+    /// forms, in the first round of every loop around them, to the end of the
+    /// function.
     fn set_tails(&mut self, forms: &[Form], mut after: u128) {
         for form in forms.iter().rev() {
             let own = own_cost(form, Cost::Isolated);
@@ -138,6 +141,7 @@ impl<'a> Composed<'a> {
                 Kind::Leaf | Kind::Call(_) => {}
                 Kind::Loop(bound, body) => {
                     let body_sum = sum(body, &self.isolated, Cost::Isolated);
+                    self.turns[form.leaf] = own + body_sum;
                     self.set_tails(body, own + rounds_sum(bound - 1, body_sum, own) + after);
                 }
                 Kind::If(then_part, else_part) => {
@@ -329,8 +333,16 @@ impl Numbers for Composed<'_> {
         narrow(self.release_stretch)
     }
 
+    fn function_total(&self, function: usize) -> u64 {
+        narrow(self.isolated[function])
+    }
+
     fn level(&self, leaf: usize) -> usize {
         self.levels[leaf]
+    }
+
+    fn turn(&self, leaf: usize) -> u64 {
+        narrow(self.turns[leaf])
     }
 
     fn tail(&self, leaf: usize) -> u64 {

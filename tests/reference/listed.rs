@@ -3,7 +3,7 @@
 use std::collections::BTreeSet;
 
 use super::numbers::{Numbers, Times};
-use super::plan::{Form, Plan, MOST_LEVEL};
+use super::plan::{Form, Kind, Plan, MOST_LEVEL};
 use super::runs::{self, Run, Visit};
 
 /// A run with the positions of its points, and for each position the isolated
@@ -59,6 +59,13 @@ impl<'a> Listed<'a> {
 
     pub fn run_count(&self) -> usize {
         self.runs.len()
+    }
+
+    fn isolated(&self, visits: &[Visit]) -> u64 {
+        visits
+            .iter()
+            .map(|visit| self.leaves[visit.leaf].1.isolated)
+            .sum()
     }
 
     fn loaded(&self, visits: &[Visit]) -> u64 {
@@ -126,6 +133,10 @@ impl Numbers for Listed<'_> {
         }))
     }
 
+    fn function_total(&self, function: usize) -> u64 {
+        largest(self.alone[function].iter().map(|run| self.isolated(run)))
+    }
+
     fn level(&self, leaf: usize) -> usize {
         let visits = self.alone[self.leaves[leaf].0].iter().flatten();
         let levels: BTreeSet<usize> = visits
@@ -136,16 +147,32 @@ impl Numbers for Listed<'_> {
         levels.into_iter().sum()
     }
 
+    /// A round lies between two visits of the condition with nothing but visits
+    /// of higher levels between them.
+    fn turn(&self, leaf: usize) -> u64 {
+        let (function, form) = self.leaves[leaf];
+        if !matches!(form.kind, Kind::Loop(..)) {
+            return 0;
+        }
+        let mut most = None;
+        for run in &self.alone[function] {
+            for first in (0..run.len()).filter(|&place| run[place].leaf == leaf) {
+                let body = &run[first + 1..];
+                let inside = body.iter().take_while(|v| v.level > run[first].level);
+                let next = first + 1 + inside.count();
+                if run.get(next).is_some_and(|visit| visit.leaf == leaf) {
+                    most = most.max(Some(self.isolated(&run[first..next])));
+                }
+            }
+        }
+        most.expect("every loop has a round in some run")
+    }
+
     fn tail(&self, leaf: usize) -> u64 {
         let runs = &self.alone[self.leaves[leaf].0];
         largest(runs.iter().filter_map(|run| {
             let first = run.iter().position(|visit| visit.leaf == leaf)?;
-            Some(
-                run[first..]
-                    .iter()
-                    .map(|visit| self.leaves[visit.leaf].1.isolated)
-                    .sum(),
-            )
+            Some(self.isolated(&run[first..]))
         }))
     }
 

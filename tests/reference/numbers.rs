@@ -3,7 +3,8 @@
 
 use std::collections::BTreeSet;
 
-use super::plan::{Plan, MOST_LEVEL};
+use super::composed::Composed;
+use super::plan::{self, Plan, MOST_LEAVES, MOST_LEVEL};
 
 /// Remaining times of the levels 0 to 32.
 pub type Times = [u64; MOST_LEVEL + 1];
@@ -16,9 +17,14 @@ pub trait Numbers {
     fn total(&self) -> u64;
     fn max_load_total(&self) -> u64;
     fn release_stretch(&self) -> u64;
+    /// Of a function alone: largest isolated sum over its runs.
+    fn function_total(&self, function: usize) -> u64;
 
     /// Of a leaf: its level in its own function.
     fn level(&self, leaf: usize) -> usize;
+    /// Of a loop: largest isolated sum of a round, its condition and one pass of
+    /// its body. 0 of any other leaf.
+    fn turn(&self, leaf: usize) -> u64;
     /// Of a leaf: largest isolated sum from a first visit to the end of its function.
     fn tail(&self, leaf: usize) -> u64;
     /// Of a point: largest max-load sum up to the next point or the end.
@@ -58,4 +64,12 @@ pub fn listing<N: Numbers>(numbers: &N) -> String {
         }
     }
     lines
+}
+
+/// What the table program prints for a text.
+pub fn printed(text: &[u8]) -> String {
+    match plan::read(text, MOST_LEAVES) {
+        Ok(plan) => listing(&Composed::new(&plan)),
+        Err((number, line)) => format!("refused {number} {line}\n"),
+    }
 }

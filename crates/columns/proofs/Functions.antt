@@ -99,11 +99,12 @@ module _ {w starts : List ℕ} {n : ℕ} (v : Funs w starts n) where
   pub fun-order : (f g : ℕ) → f < g → g ≤ n → start (f + 1) ≤ start g
   fun-order f g h l = in-order (g - f) f g (omega arith) h l
 
--- The first f functions are measured.
+-- The first f functions are measured, and the totals behind them are 0.
 pub record Measuring (l : Bool) (w starts : List ℕ) (n f : ℕ) (ts o : List ℕ) : Type 0 where
   pub under : Under ceiling ts
   pub long : length ts ≡ 16
   pub wide : length o ≡ 512
+  pub behind : (g : ℕ) → f ≤ g → getD ts g 0 ≡ 0
   pub right : (v : Funs w starts n) (g : ℕ) → g < f → getD ts g 0 ≡ cap (tally (price l) (known (price l) (v .lines) g) (v .lines g))
   pub rounds : (v : Funs w starts n) (g : ℕ) → g < f → Holds o (getD starts g 0) (turns (price l) ts (v .lines g))
 
@@ -121,6 +122,7 @@ measure-start o h =
       under = zeros-under ceiling 16;
       long = length-replicate {A = ℕ} 16 0;
       wide = h;
+      behind = λ g i. zeros-at 16 g;
       right = λ v g i. absurd (omega arith);
       rounds = λ v g i. absurd (omega arith);
     }
@@ -144,6 +146,7 @@ measure-next {l} {w} {starts} {n} {f} {t} {ts} {o} {o′} lt few v₀ le ht ho q
       under = under-set ceiling ts f t le (q .under);
       long = length-set ts f t ∙ q .long;
       wide = ap length (ho (fun-laid v₀ f lt)) ∙ length-sets o s (turns k ts (v₀ .lines f)) ∙ q .wide;
+      behind = λ g i. getD-set-other ts f g t 0 (omega arith) ∙ q .behind g (omega arith);
       right = λ v g i. elim (decLt g f) [
         | yes h ↦ getD-set-other ts f g t 0 (omega arith) ∙ q .right v g h
         | no h ↦

@@ -11,7 +11,7 @@ use Rattle.model.specs.Forms.{done, linked, main}
 use Rattle.model.specs.Runs.{Among}
 use Rattle.model.specs.Total.{tallies}
 use Rattle.model.specs.Tail.{Tail, tail}
-use Rattle.model.specs.Stretch.{Stretch, ReleaseStretch, stretch}
+use Rattle.model.specs.Stretch.{Stretch, ReleaseStretch, silence, stretch}
 use Rattle.model.specs.Acceptance.{Accepted}
 use Rattle.model.specs.Static.{line-silence, static-stretch}
 use Rattle.model.proofs.Targets.{Below}
@@ -43,7 +43,7 @@ pub over-limit : (n : ℕ) → (cap n ≤ limit) ↔ (n ≤ limit)
 over-limit n = ((λ h. omega arith), λ h. omega arith)
 
 -- So where every function but the last is called (rule 9: `Called` of the plan), and the main function's totals are not over the limit, all totals are exact.
-pub totals-summed : {w starts cs o ms r : List ℕ} {n : ℕ} (v : Funs w starts n) → Named (v .lines) n
+abbrev pub totals-summed : {w starts cs o ms r : List ℕ} {n : ℕ} (v : Funs w starts n) → Named (v .lines) n
     → Measured false (v .lines) starts n cs o → Measured true (v .lines) starts n ms r → getD cs (n - 1) 0 ≤ limit → getD ms (n - 1) 0 ≤ limit
     → Summed w starts n cs o ms r
 totals-summed v c p q h k =
@@ -68,7 +68,8 @@ module _ (p : Plan) (a : Accepted p) {w starts cs o ms r : List ℕ} (v : Summed
   abbrev line : ℕ → Lines
   line f = getD (p .functions) f close
 
-  cs-known : Agree cs (tallies C [] (p .functions)) n
+  -- The totals are those of the plan's functions.
+  pub cs-known : Agree cs (tallies C [] (p .functions)) n
   cs-known = rw (known-tallies C (v .funs .lines) (p .functions) (λ f i. same f)) (exact-known (v .funs) (v .isolated))
 
   ms-known : Agree ms (tallies M [] (p .functions)) n
@@ -114,8 +115,11 @@ module _ (p : Plan) (a : Accepted p) {w starts cs o ms r : List ℕ} (v : Summed
   stretch-means c wide b m k = rw (stretch-entry c wide b m, ← static-stretches p a (b .number)) (stretch-is-largest p a b m k)
 
   -- The number that `derive` returns is the stretch of the release.
-  pub release-means : ReleaseStretch (main p) (line-silence ms (v .funs .lines (n - 1)) 0)
-  release-means =
+  pub release-entry : line-silence ms (v .funs .lines (n - 1)) 0 ≡ silence (main p) 0
+  release-entry =
       let h : n - 1 < n = omega (arith, a .formed .some-function) in
-      let e = silence-same ms (tallies M [] (p .functions)) n ms-known (v .funs .lines (n - 1)) 0 (below (n - 1) h) in
-      rw (e, same (n - 1), ← static-release-stretch p a) (release-stretch-is-largest p)
+      silence-same ms (tallies M [] (p .functions)) n ms-known (v .funs .lines (n - 1)) 0 (below (n - 1) h) ∙
+      ap (λ (l : Lines). line-silence (tallies M [] (p .functions)) l 0) (same (n - 1)) ∙ sym (static-release-stretch p a)
+
+  pub release-means : ReleaseStretch (main p) (line-silence ms (v .funs .lines (n - 1)) 0)
+  release-means = rw release-entry (release-stretch-is-largest p)

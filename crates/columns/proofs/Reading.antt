@@ -75,6 +75,21 @@ module _ (ms : List ℕ) (F : ℕ → Lines) (n : ℕ) where
       let c = ap (behind-calls ms g (F (n - suc k))) d in
       omega arith
 
+-- The columns of all functions are as long as what they are written over.
+pub length-tailed : (ts : List ℕ) (F : ℕ → Lines) (starts : List ℕ) (k : ℕ) (o : List ℕ) → length (tailed ts F starts k o) ≡ length o
+unfolding tailed
+length-tailed ts F starts zero o = refl
+length-tailed ts F starts (suc k) o =
+    length-sets (tailed ts F starts k o) (getD starts k 0) (column (tail-rule ts) (F k) 0) ∙ length-tailed ts F starts k o
+
+pub length-painted : (ms : List ℕ) (q : ℕ → ℕ → ℕ) (F : ℕ → Lines) (starts : List ℕ) (n k : ℕ) (o : List ℕ) → length (painted ms q F starts n k o) ≡ length o
+unfolding painted
+length-painted ms q F starts n zero o = refl
+length-painted ms q F starts n (suc k) o =
+    length-sets (painted ms q F starts n k o) (getD starts (n - suc k) 0)
+    (column (stretch-rule ms q) (F (n - suc k)) (getD (risen ms F n k) (n - suc k) 0)) ∙
+    length-painted ms q F starts n k o
+
 -- The columns of all functions, read at the leaf x of the function f.
 module _ {w starts : List ℕ} {n : ℕ} (v : Funs w starts n) (o : List ℕ) (wide : length o ≡ 512) (f x : ℕ) (lt : f < n)
     (low : getD starts f 0 ≤ x) (high : x < getD starts (f + 1) 0) where
@@ -83,11 +98,6 @@ module _ {w starts : List ℕ} {n : ℕ} (v : Funs w starts n) (o : List ℕ) (w
 
   abbrev start : ℕ → ℕ
   start g = getD starts g 0
-
-  length-tailed : (ts : List ℕ) (k : ℕ) → length (tailed ts F starts k o) ≡ 512
-  unfolding tailed
-  length-tailed ts zero = wide
-  length-tailed ts (suc k) = length-sets (tailed ts F starts k o) (start k) (column (tail-rule ts) (F k) 0) ∙ length-tailed ts k
 
   tailed-look : (ts : List ℕ) (k : ℕ) → f < k → k ≤ n → getD (tailed ts F starts k o) x 0 ≡ look (start f) x (column (tail-rule ts) (F f) 0)
   unfolding tailed
@@ -98,7 +108,7 @@ module _ {w starts : List ℕ} {n : ℕ} (v : Funs w starts n) (o : List ℕ) (w
         | no i ↦
             let e : k ≡ f = omega arith in
             let b = fill-of (tail-rule ts) w 1 (start f) (start (f + 1)) (F f) 0 (v .rep f lt) in
-            rw e (sets-look (column (tail-rule ts) (F f) 0) (tailed ts F starts f o) (start f) x (omega (arith, b, length-tailed ts f, v .inside f lt .1)) low (omega (arith, b)))
+            rw e (sets-look (column (tail-rule ts) (F f) 0) (tailed ts F starts f o) (start f) x (omega (arith, b, length-tailed ts F starts f o, wide, v .inside f lt .1)) low (omega (arith, b)))
       ]
 
   -- The entry of the leaf x is its tail.
@@ -121,12 +131,6 @@ module _ {w starts : List ℕ} {n : ℕ} (v : Funs w starts n) (o : List ℕ) (w
     spans : (g s : ℕ) → g < n → start (g + 1) ≡ start g + length (col g s)
     spans g s h = fill-of (stretch-rule ms q) w 1 (start g) (start (g + 1)) (F g) s (v .rep g h)
 
-    length-painted : (k : ℕ) → length (painted ms q F starts n k o) ≡ 512
-    unfolding painted
-    length-painted zero = wide
-    length-painted (suc k) =
-        length-sets (painted ms q F starts n k o) (start (n - suc k)) (col (n - suc k) (getD (risen ms F n k) (n - suc k) 0)) ∙ length-painted k
-
     painted-look : (k : ℕ) → n - suc f < k → k ≤ n → getD (painted ms q F starts n k o) x 0 ≡ look (start f) x (col f (A f))
     unfolding painted
     painted-look zero h j = absurd (omega arith)
@@ -143,7 +147,7 @@ module _ {w starts : List ℕ} {n : ℕ} (v : Funs w starts n) (o : List ℕ) (w
               let d : n - suc k ≡ f = omega arith in
               let a : getD (risen ms F n k) f 0 ≡ A f = ap (λ y. getD (risen ms F n y) f 0) e ∙ handed f lt in
               let b = spans f (A f) lt in
-              rw (d, a) (sets-look (col f (A f)) (painted ms q F starts n k o) (start f) x (omega (arith, b, length-painted k, v .inside f lt .1)) low (omega (arith, b)))
+              rw (d, a) (sets-look (col f (A f)) (painted ms q F starts n k o) (start f) x (omega (arith, b, length-painted ms q F starts n k o, wide, v .inside f lt .1)) low (omega (arith, b)))
         ]
 
     -- Of the functions' own stretches only that of the function that holds x counts.

@@ -4,7 +4,7 @@ ghost use mathlib.Core.Path.{_≡_};
 ghost use mathlib.Core.Bool.{true, false};
 ghost use mathlib.Core.List.{[], _∷_};
 ghost use Prim.Native.Nat.{ℕ, _+_, _-_, _*_, _≤_, _<_};
-ghost use lib.ListN.{length};
+ghost use lib.ListN.{length, getD};
 ghost use lib.Seq.{sets};
 ghost use Rattle.model.specs.Plan.{C, M};
 ghost use Rattle.model.specs.Total.{tally};
@@ -528,7 +528,7 @@ fn stretch_block(
     t
 }
 
-// The totals of the n functions at one cost, each held at the ceiling. Writes the sums of the rounds of their loops.
+// The totals of the n functions at one cost, each held at the ceiling, and 0 behind the last. Writes the sums of the rounds of their loops.
 pub fn measure(
     row: &[u64],
     starts: &[usize],
@@ -539,6 +539,7 @@ pub fn measure(
     requires { ⌜ (n < length (now starts)) × (n ≤ 16) × (length (now turn) ≡ 512) ⌝ }
     requires { ⌜ Funs (now row) (now starts) n ⌝ }
     ensures { λ r. ⌜ ((v : Funs (now (row .entry)) (now (starts .entry)) n) → Measured load (v .lines) (now (starts .entry)) n r (now (turn .exit))) ⌝ }
+    ensures { λ r. ⌜ ((f : ℕ) → n ≤ f → getD r f 0 ≡ 0) × (length (now (turn .exit)) ≡ 512) ⌝ }
 {
     let mut totals: [u64; 16] = [0; 16];
     let mut f = 0;

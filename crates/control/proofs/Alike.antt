@@ -26,8 +26,9 @@ use Rattle.model.proofs.Levels.{flat-seek, flat-onward}
 use Rattle.model.proofs.Frames.{framed-leaf}
 use Rattle.table.specs.Table.{Table, table-of, plan-of, same-numbers}
 use Rattle.table.proofs.Plans.{plan-of-exactly, same-list}
+use Rattle.place.specs.Stack.{frames}
 use Rattle.control.specs.declared.State.{State}
-use Rattle.control.specs.State.{fresh, frames, stack-of, points?, levels-of, timed, standing, put, at-release, at-report}
+use Rattle.control.specs.State.{fresh, stack-of, points?, levels-of, timed, standing, put, at-release, at-report}
 use Rattle.control.specs.Calls.{refuse, word, decision, suspended-after, released, next-levels, reported, may-end, closed, running-call, idle-call, at-levels, by-phase, on-plan, call-on}
 use Rattle.control.proofs.Arrays.{length-put, length-frames, frames-moved}
 use Rattle.control.proofs.Places.{Top, decode-top, moved, Moved, first-moved, next-moved}
@@ -99,7 +100,7 @@ module _ (p : Plan) (a : Accepted p) where
   new-frame : (n : ℕ) (above : List Frame) → framed n above ≡ record { leaf = n; earlier = framed n above .earlier }
   new-frame n above = λ i. record { leaf = framed-leaf n above i; earlier = framed n above .earlier }
 
-  stack-moved : (s : State) (n : ℕ) (ls : Levels) (t : ℕ) (suspended : Bool) → length (s .leaves) ≡ 33 → length (s .earlier) ≡ 33 → 1 ≤ length ls → length ls ≤ 32 →
+  pub stack-moved : (s : State) (n : ℕ) (ls : Levels) (t : ℕ) (suspended : Bool) → length (s .leaves) ≡ 33 → length (s .earlier) ≡ 33 → 1 ≤ length ls → length ls ≤ 32 →
       length ls - 1 ≤ length (stack-of s) → stack-of (at-report p s n ls t suspended) ≡ moved (stack-of s) n (length ls)
   stack-moved s n ls t suspended x y l h f =
       let c = framed n (drop (length ls - 1) (stack-of s)) .earlier in

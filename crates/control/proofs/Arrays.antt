@@ -3,9 +3,12 @@ use mathlib.Core.List.{List, [], _∷_, _++_}
 use mathlib.Core.Path.{_≡_, refl, ap, sym, _∙_, subst}
 use Prim.Native.Nat.{ℕ, zero, suc, _+_, _-_, _≤_, _<_, min}
 use native.Mathlib.Omega.{arith}
+use native.Mathlib.Decide.{decLt}
 use lib.ListN.{length, getD, take, drop, replicate, length-append, length-take, length-replicate}
 use Rattle.model.specs.Levels.{Frame}
-use Rattle.control.specs.State.{frames, put}
+use lib.Seq.{ext-getD}
+use Rattle.place.specs.Stack.{Put, frames}
+use Rattle.control.specs.State.{put}
 
 pub length-put : (a : List ℕ) (l v : ℕ) → length a ≡ 33 → l ≤ 32 → length (put a l v) ≡ 33
 length-put a l v h q =
@@ -28,6 +31,33 @@ put-below a l v k h q i = getD-take a (v ∷ replicate (32 - l) 0) l k i (omega 
 
 pub put-at : (a : List ℕ) (l v : ℕ) → length a ≡ 33 → l ≤ 32 → getD (put a l v) l 0 ≡ v
 put-at a l v h q = getD-at a v (replicate (32 - l) 0) l (omega arith)
+
+-- A row of zeros holds 0 everywhere.
+pub zeros : (k j : ℕ) → _≡_ {A = ℕ} (getD (replicate k 0) j 0) 0
+zeros zero j = refl
+zeros (suc k) zero = refl
+zeros (suc k) (suc j) = zeros k j
+
+getD-past : (a : List ℕ) (v m l k : ℕ) → l ≤ length a → l < k → getD (take l a ++ (v ∷ replicate m 0)) k 0 ≡ 0
+getD-past a v m zero zero q h = absurd (omega arith)
+getD-past a v m zero (suc k) q h = zeros m k
+getD-past [] v m (suc l) k q h = absurd (omega arith)
+getD-past (x ∷ a) v m (suc l) zero q h = absurd (omega arith)
+getD-past (x ∷ a) v m (suc l) (suc k) q h = getD-past a v m l k (omega arith) (omega arith)
+
+-- An array that keeps what is below l, has v at l and 0 above is that array.
+pub put-is : {a b : List ℕ} {l v : ℕ} → Put a b l v → length a ≡ 33 → length b ≡ 33 → l ≤ 32 → b ≡ put a l v
+put-is {a} {b} {l} {v} p ha hb q = ext-getD 0 b (put a l v) (hb ∙ sym (length-put a l v ha q)) entry
+  where
+    entry : (i : ℕ) → i < length b → getD b i 0 ≡ getD (put a l v) i 0
+    entry i h =
+        elim (decLt i l) [
+          | yes lt ↦ p .under i lt ∙ sym (put-below a l v i ha q lt)
+          | no ge ↦ elim (decLt l i) [
+            | yes lt ↦ p .above i lt ∙ sym (getD-past a v (32 - l) l i (omega arith) lt)
+            | no le ↦ let z : i ≡ l = omega arith in rw z (p .here ∙ sym (put-at a l v ha q))
+          ]
+        ]
 
 pub length-frames : (a b : List ℕ) (l k : ℕ) → length (frames a b l k) ≡ k
 unfolding frames

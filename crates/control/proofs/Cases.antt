@@ -18,8 +18,9 @@ use Rattle.model.proofs.Worked.{plan-A-accepted, plan-B-accepted, smallest-acce
 use Rattle.table.specs.Table.{table-of, same-numbers}
 use Rattle.table.proofs.Plans.{plan-of-exactly}
 use Rattle.model.specs.Plan as plans
+use Rattle.place.specs.Stack.{frames}
 use Rattle.control.specs.declared.State.{State}
-use Rattle.control.specs.State.{fresh, frames, points?}
+use Rattle.control.specs.State.{fresh, points?}
 use Rattle.control.specs.Calls.{on-plan, by-phase, call-on}
 use Rattle.control.specs.Cases.{answers, Case, cases, Right, AllRight}
 
@@ -35,7 +36,7 @@ on-plans p a s (c ∷ cs) =
     let e : call-on (table-of p) s c ≡ by-phase p s c (s .running) = ap (λ o. on-plan s c o) (plan-of-exactly (table-of p) p .1 (a, refl)) in
     ap (λ r. r .answer ∷ answers (table-of p) (r .state) cs) e ∙ ap (λ l. by-phase p s c (s .running) .answer ∷ l) (on-plans p a (by-phase p s c (s .running) .state) cs)
 
-right : (c : Case) → Accepted (c .plan) → table-of (c .plan) .total ≡ c .total → table-of (c .plan) .max-total ≡ c .max-total → table-of (c .plan) .stretches ≡ c .stretches →
+right : (c : Case) → Accepted (c .plan) → table-of (c .plan) .head .total ≡ c .total → table-of (c .plan) .head .loaded ≡ c .max-total → table-of (c .plan) .stretches ≡ c .stretches →
     answers-on (c .plan) fresh (c .calls) ≡ c .expected → Right c
 right c a t m s e = record { accepted = a; total-is = t; max-total-is = m; stretches-are = s; right = on-plans (c .plan) a fresh (c .calls) ∙ e }
 

@@ -8,7 +8,7 @@ use mathlib.Core.Path.{_≡_, refl, ap, sym, _∙_, subst}
 use Prim.Native.Nat.{ℕ, zero, suc, _+_, _-_, _≤_}
 use native.Mathlib.Omega.{arith}
 use native.Mathlib.Decide.{decLe}
-use lib.ListN.{length, getD, replicate, length-replicate}
+use lib.ListN.{length, getD, length-replicate}
 use Rattle.model.specs.Plan.{C, Plan}
 use Rattle.model.specs.Forms.{Forms, main}
 use Rattle.model.specs.Runs.{reports}
@@ -25,9 +25,11 @@ use Rattle.model.proofs.Points.{standing-points}
 use Rattle.model.proofs.Reachable.{stack-stands}
 use Rattle.table.specs.Table.{same-numbers}
 use Rattle.table.proofs.Plans.{same-list}
+use Rattle.place.specs.Stack.{frames}
 use Rattle.control.specs.declared.State.{State}
 use Rattle.control.specs.Meaning.{StandsSomewhere, at-the-release, at-a-report}
-use Rattle.control.specs.State.{frames, stack-of, levels-of, timed, standing}
+use Rattle.control.specs.State.{stack-of, levels-of, timed, standing}
+use Rattle.control.proofs.Arrays.{zeros}
 use Rattle.control.proofs.Places.{points-all, all-points}
 use Rattle.control.proofs.Alike.{timed-some, levels-inner, levels-some, timed-same}
 
@@ -79,11 +81,6 @@ times-one {fs} s ts us a b = same-entries ts us (a .count ∙ sym (b .count)) en
 
 -- GOOD STATES
 
-zeros : (k j : ℕ) → _≡_ {A = ℕ} (getD (replicate k 0) j 0) 0
-zeros zero j = refl
-zeros (suc k) zero = refl
-zeros (suc k) (suc j) = zeros k j
-
 module _ (p : Plan) (a : Accepted p) where
   release-times : (ts : List ℕ) → Total (main p) (getD ts 0 0) → length ts ≡ 33 → ((j : ℕ) → 1 ≤ j → getD ts j 0 ≡ 0) → ts ≡ times (main p) []
   unfolding kept
@@ -129,7 +126,7 @@ module _ (p : Plan) (a : Accepted p) where
       at-a-report r (i ∙ sym q) (rw (t ∙ ap (times (main p)) (sym y)) (k .times-are))
 
   -- And back.
-  release-stands : (s : State) → s .level ≡ 0 → s .times ≡ times (main p) [] → standing p s ≡ some []
+  pub release-stands : (s : State) → s .level ≡ 0 → s .times ≡ times (main p) [] → standing p s ≡ some []
   unfolding frames
   release-stands s e t = rw e (timed-same p a s [] t)
 

@@ -1,8 +1,17 @@
+pub mod Columns
+pub mod Tabled
+pub mod Margins
+pub mod Deciding
 pub mod Arrays
 pub mod Moving
 pub mod Places
 pub mod Alike
 pub mod Good
+pub mod Judging
+pub mod Lending
+pub mod Reporting
+pub mod Ending
+pub mod Calling
 pub mod Histories
 pub mod Cases
 pub mod Theorems

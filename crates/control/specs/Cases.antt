@@ -108,8 +108,8 @@ cases =
 -- A case holds: its plan is accepted, its table has these totals and stretches, and the calls on it answer so.
 pub record Right (c : Case) : Type 0 where
   pub accepted : Accepted (c .plan)
-  pub total-is : table-of (c .plan) .total ≡ c .total
-  pub max-total-is : table-of (c .plan) .max-total ≡ c .max-total
+  pub total-is : table-of (c .plan) .head .total ≡ c .total
+  pub max-total-is : table-of (c .plan) .head .loaded ≡ c .max-total
   pub stretches-are : table-of (c .plan) .stretches ≡ c .stretches
   pub right : answers (table-of (c .plan)) fresh (c .calls) ≡ c .expected
 

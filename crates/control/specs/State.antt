@@ -3,14 +3,15 @@
 use mathlib.Core.Bool.{Bool, true, false, _&&_}
 use mathlib.Core.List.{List, [], _∷_, _++_}
 use mathlib.Core.Option.{Option, none, some}
-use Prim.Native.Nat.{ℕ, zero, suc, _+_, _-_}
-use lib.ListN.{length, getD, take, drop, replicate}
+use Prim.Native.Nat.{ℕ, _-_}
+use lib.ListN.{length, take, drop, replicate}
 use Rattle.model.specs.Plan.{Plan, all-leaves}
 use Rattle.model.specs.Forms.{main}
 use Rattle.model.specs.Levels.{Frame, framed}
 use Rattle.model.specs.Places.{pick}
 use Rattle.model.specs.Stack.{Levels, decode, times}
 use Rattle.model.specs.Controller.{is-point}
+use Rattle.place.specs.Stack.{frames}
 use Rattle.table.specs.Table.{same-numbers}
 use Rattle.control.specs.declared.State.{State}
 
@@ -26,11 +27,7 @@ fresh = record {
   times = replicate 33 0;
 }
 
--- The frames of k levels from level l on: the leaf reported last there, and its earlier visits there.
-unfoldable pub frames : List ℕ → List ℕ → ℕ → ℕ → List Frame
-frames leaves earlier l zero = []
-frames leaves earlier l (suc k) = record { leaf = getD leaves l 0; earlier = getD earlier l 0 } ∷ frames leaves earlier (suc l) k
-
+-- The state's stack: for each level from 1 up to its own, the leaf reported last there, and its earlier visits there.
 abbrev pub stack-of : State → List Frame
 stack-of s = frames (s .leaves) (s .earlier) 1 (s .level)
 

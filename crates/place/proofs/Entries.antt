@@ -47,6 +47,12 @@ past [] ys j h = let z : j - 0 ≡ j = omega arith in rw z refl
 past (x ∷ xs) ys zero h = absurd (omega arith)
 past (x ∷ xs) ys (suc j) h = let z : suc j - length (x ∷ xs) ≡ j - length xs = omega arith in past xs ys j (omega arith) ∙ ap (λ (k : ℕ). getD ys k 0) (sym z)
 
+-- The model's times above the levels of a place.
+pub times-above : (main : Forms) (ls : Levels) (k : ℕ) → length ls < k → getD (times main ls) k 0 ≡ 0
+times-above main ls zero h = absurd (omega arith)
+times-above main ls (suc j) h =
+    past (kept ls) (replicate (32 - length ls) 0) j (omega (arith, kept-length ls)) ∙ zeros (32 - length ls) (j - length (kept ls))
+
 pub entries : (main : Forms) (r : List ℕ) (ls : Levels) → Times main r ls → ((k : ℕ) → length ls < k → getD r k 0 ≡ 0) → (k : ℕ) →
     getD r k 0 ≡ getD (times main ls) k 0
 entries main r ls t above zero = entry-none main r ls t
@@ -54,7 +60,7 @@ entries main r ls t above (suc j) =
     let n = kept-length ls in
     let z : j + 1 ≡ suc j = omega arith in
     elim (decLe (length ls) j) [
-      | yes q ↦ above (suc j) (omega arith) ∙ sym (past (kept ls) (replicate (32 - length ls) 0) j (omega arith) ∙ zeros (32 - length ls) (j - length (kept ls)))
+      | yes q ↦ above (suc j) (omega arith) ∙ sym (times-above main ls (suc j) (omega arith))
       | no q ↦ ap (λ (k : ℕ). getD r k 0) (sym z) ∙ kept-entries main r ls t j (omega arith) ∙ sym (List·getD-append (kept ls) (replicate (32 - length ls) 0) 0 j (omega arith))
     ]
 

@@ -8,6 +8,7 @@ use lib.ListN.{length, getD}
 use Rattle.model.specs.Plan.{C, close, leaves, all-leaves}
 use Rattle.model.specs.Forms.{done, leaf, call, loop, forms, linked, last, main, _⊕_}
 use Rattle.model.specs.Total.{total, tally, tallies}
+use Rattle.model.specs.Acceptance.{size, sizes}
 use Rattle.model.specs.Stack.{Levels, behind, below, whole, kept, times, suffix, turned, inside-of, decode}
 use Rattle.model.specs.Worked.{point-block, silent-block, plan-A, plan-B}
 use Rattle.model.proofs.Points.{AllPoints}
@@ -70,8 +71,8 @@ filled-A zero h = (refl, (refl, refl, (refl, refl, (refl, refl, tt), (refl, refl
 filled-A (suc f) h = absurd (omega arith)
 
 pub columns-A : Filled plan-A tails-A turns-A totals-A
-unfolding plan-A
-columns-A = record { totals-are = λ f h. filled-A f h .0; priced = λ f h. filled-A f h .1 }
+unfolding plan-A size sizes
+columns-A = record { long-tails = omega arith; long-turns = omega arith; totals-are = λ f h. filled-A f h .0; priced = λ f h. filled-A f h .1 }
 
 -- The stack after the reports 0, 1 and 1: the loop was visited once before.
 abbrev pub leaves-A : List ℕ
@@ -134,7 +135,7 @@ abbrev pub tails-B : List ℕ
 tails-B = 3 ∷ 15 ∷ 8 ∷ 13 ∷ 4 ∷ []
 
 abbrev pub turns-B : List ℕ
-turns-B = []
+turns-B = 0 ∷ 0 ∷ 0 ∷ 0 ∷ 0 ∷ []
 
 abbrev pub totals-B : List ℕ
 totals-B = 3 ∷ 15 ∷ []
@@ -146,8 +147,8 @@ filled-B (suc zero) h = (refl, (refl, refl, (refl, refl, tt), (refl, refl, tt), 
 filled-B (suc (suc f)) h = absurd (omega arith)
 
 pub columns-B : Filled plan-B tails-B turns-B totals-B
-unfolding plan-B
-columns-B = record { totals-are = λ f h. filled-B f h .0; priced = λ f h. filled-B f h .1 }
+unfolding plan-B size sizes
+columns-B = record { long-tails = omega arith; long-turns = omega arith; totals-are = λ f h. filled-B f h .0; priced = λ f h. filled-B f h .1 }
 
 -- The stack after the reports 1, 4 and 0: the call of leaf 4 at level 1, the called leaf at level 2.
 abbrev pub leaves-B : List ℕ

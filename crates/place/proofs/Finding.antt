@@ -228,7 +228,7 @@ module _ {w starts : List ℕ} {n : ℕ} {leaves counts : List ℕ} {l : ℕ} (q
   finds-as : (x : ℕ) {r v : ℕ} → onward-at (q .levels) x ≡ fall-at (q .levels) x → Under x r v → Answers x r v
   finds-as x {r} {v} e u = rw e u
 
-  none-found : (x : ℕ) {r v : ℕ} → r ≤ 0 → Under x r v → fall-at (q .levels) x ≡ none
+  pub none-found : (x : ℕ) {r v : ℕ} → r ≤ 0 → Under x r v → fall-at (q .levels) x ≡ none
   none-found x h u = elim u [ inl y ↦ y .1 | inr y ↦ absurd (omega (arith, y .0)) ]
 
   -- a leaf or an if.

@@ -15,9 +15,10 @@ use Rattle.model.specs.Forms.{Forms, done, loop, forms}
 use Rattle.model.specs.Stack.{Levels, suffix, turned, inside-of}
 use Rattle.model.proofs.Places.{never, known}
 use Rattle.rows.specs.Rows.{field, block-at}
+use Rattle.rows.specs.Answers.{Says}
 use Rattle.place.specs.Pieces.{Piece, Spanned}
 use Rattle.place.specs.Scan.{trail, tracked}
-use Rattle.place.specs.Stack.{Table, Level, Stands, Placed, ground, Says, Enters, Counted, Settled, Held, Decodes, Head, inner-from, inner-to, base-from, base-to}
+use Rattle.place.specs.Stack.{Table, Level, Stands, Placed, ground, Enters, Counted, Settled, Held, Decodes, Head, inner-from, inner-to, base-from, base-to}
 use Rattle.place.proofs.Answers.{trail-is, beyond-small, suffix-headed}
 use Rattle.place.proofs.Suffixes.{suffix-in}
 use Rattle.place.proofs.Views.{View, a-leaf, a-call, a-loop, an-if, view, level-spanned}
@@ -227,15 +228,6 @@ module _ {w starts : List ℕ} {n : ℕ} (p : Table w starts n) {leaves counts :
       let i′ : i ≡ inner-from w starts (getD leaves (l - 1) 0) = hi ∙ ap (λ (p : ℕ). inner-from w starts p) hh in
       let e′ : e ≡ inner-to w starts (getD leaves (l - 1) 0) = he ∙ ap (λ (p : ℕ). inner-to w starts p) hh in
       says-held p (omega arith) r (rw z i′) (rw z e′) h (o .0, o .1, rw (i′, e′) (o .2)) (rw (hq, hd′) at u)
-
--- What a test said.
-pub said-true : {A : Type 0} (b : Bool) → b ≡ true → Says b A → A
-said-true true e h = h
-said-true false e h = absurd (let z : _≡_ {A = ℕ} 0 1 = cc in omega arith)
-
-pub said-false : {A : Type 0} (b : Bool) → b ≡ false → Says b A → A → ⊥
-said-false true e h = absurd (let z : _≡_ {A = ℕ} 0 1 = cc in omega arith)
-said-false false e h = h
 
 pub says-counted : {w : List ℕ} {G : List Forms} {n i e : ℕ} {f : Forms} (sp : Spanned w G n i e f) (p x count : ℕ) {v m : ℕ}
     (hv : (q : Piece w 62 i e) (G : List Forms) → v ≡ trail (forms G (q .part .lines)) p x) → (v ≡ 3 → ⊥) → m ≡ field w p 1 → m ≡ 1 → (r : Bool) → Says r (Counted w p count) → Says r (Settled w f p count)

@@ -15,6 +15,7 @@ pub mod Putting
 pub mod Ending
 pub mod Holding
 pub mod Pricing
+pub mod Counts
 pub mod Floors
 pub mod Timing
 pub mod Tables

@@ -20,8 +20,9 @@ use Rattle.model.proofs.Points.{AllPoints}
 use Rattle.model.proofs.Statics.{main-last}
 use Rattle.model.proofs.Theorems.{standing-has-stack, stack-is-of-points, stack-has-run}
 use Rattle.rows.specs.Rows.{field}
+use Rattle.rows.specs.Answers.{Says}
 use Rattle.rows.proofs.Shape.{rep-le}
-use Rattle.place.specs.Stack.{Table, Decoded, Decodes, Next, Says, frames}
+use Rattle.place.specs.Stack.{Table, Decoded, Decodes, Next, frames}
 use Rattle.place.specs.Times.{Times, Costed, Clocked, rest-of}
 use Rattle.place.specs.Plans.{Laid, Filled}
 use Rattle.place.specs.Scan.{Headed}
@@ -103,8 +104,8 @@ module _ {w starts : List ℕ} (p : Plan) (a : Accepted p) (d : Laid w starts p)
 
       -- `next_place`: the new stack decodes to the model's next place, `onward-at ls x`; or there is none.
       pub next-place-is : (x : ℕ) (new more : List ℕ) (r : ℕ) →
-          ((q : Decoded w starts count leaves counts l) → Next w (getD (q .table .funs) (count - 1) done) (onward-at (q .levels) x) new more r) →
-          Next w (main p) (onward-at ls x) new more r
+          ((q : Decoded w starts count leaves counts l) → Next w (getD (q .table .funs) (count - 1) done) (onward-at (q .levels) x) leaves counts x new more r) →
+          Next w (main p) (onward-at ls x) leaves counts x new more r
       next-place-is x new more r e = rw (main-last p) (e decoded)
 
       -- `can_end`: the model's possible end of what is left to run.
@@ -135,11 +136,11 @@ module _ {w starts : List ℕ} (p : Plan) (a : Accepted p) (d : Laid w starts p)
         times-ok-is most ts e above false h = λ z. h costed (rw (sym (main-last p)) (times-are (main p) ts ls z))
 
   -- `first_place`: the new stack decodes to the model's first place, `seek-at (main p) [] x`; or there is none.
-  pub first-place-is : (x : ℕ) (new more : List ℕ) (r : ℕ) →
-      ((t : Table w starts count) → Next w (getD (t .funs) (count - 1) done) (onto [] (seek (getD (t .funs) (count - 1) done) x)) new more r) →
-      Next w (main p) (seek-at (main p) [] x) new more r
+  pub first-place-is : (leaves counts : List ℕ) (x : ℕ) (new more : List ℕ) (r : ℕ) →
+      ((t : Table w starts count) → Next w (getD (t .funs) (count - 1) done) (onto [] (seek (getD (t .funs) (count - 1) done) x)) leaves counts x new more r) →
+      Next w (main p) (seek-at (main p) [] x) leaves counts x new more r
   unfolding seek-at
-  first-place-is x new more r e = rw (main-last p) (e (table-of p a d))
+  first-place-is leaves counts x new more r e = rw (main-last p) (e (table-of p a d))
 
   -- `first_end`: whether the main function can be passed in silence.
   pub first-end-is : (r : Bool) → ((t : Table w starts count) → r ≡ passes (getD (t .funs) (count - 1) done)) → r ≡ passes (main p)

@@ -37,11 +37,11 @@ placed {n = n} {leaves = leaves} {counts = counts} {l = l} h q =
     record { table = q .table; levels = q .levels; depth = d; stands = st; marked = q .marked }
 
 module _ (w : List ℕ) (l : ℕ) {main : Forms} {leaves counts : List ℕ} {o : Option Levels} {x r v : ℕ} (z : Finds l main leaves counts o x r v) where
-  pub next-none : r ≡ 0 → (new more : List ℕ) → Next w main o new more 0
+  pub next-none : r ≡ 0 → (new more : List ℕ) → Next w main o leaves counts x new more 0
   next-none e new more = elim z [ inl y ↦ inl (refl, y .1) | inr y ↦ absurd (omega (arith, y .0)) ]
 
   pub next-some : ((k : ℕ) → 1 ≤ k → k ≤ l → field w (getD leaves k 0) 1 ≡ 1) → (r ≡ 0 → ⊥) → field w x 1 ≡ 1 →
-      {new more : List ℕ} → Put leaves new r x → Put counts more r v → Next w main o new more r
+      {new more : List ℕ} → Put leaves new r x → Put counts more r v → Next w main o leaves counts x new more r
   next-some marks nz px {new} {more} p c =
       elim z [
         | inl y ↦ absurd (nz (y .0))
@@ -52,12 +52,16 @@ module _ (w : List ℕ) (l : ℕ) {main : Forms} {leaves counts : List ℕ} {o :
             inr (record {
               least = y .0;
               most = y .1 .0;
-              decodes = (rw d at t) ∙ sym e;
+              levels = ks;
+              found = e;
+              decodes = rw d at t;
               marked = λ k lo hi. elim (decLe r k) [
                 | yes g ↦ let i : k ≡ r = omega arith in ap (λ (j : ℕ). field w (getD new j 0) 1) i ∙ ap (λ (j : ℕ). field w j 1) (p .here) ∙ px
                 | no g ↦ ap (λ (j : ℕ). field w j 1) (p .under k (omega arith)) ∙ marks k lo (omega (arith, y .1 .1))
               ];
-              above = λ k lt. (p .above k lt, c .above k lt);
+              leaf = p;
+              count = v;
+              visited = c;
             })
       ]
 

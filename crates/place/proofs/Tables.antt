@@ -147,15 +147,20 @@ module _ {w starts : List ℕ} (p : Plan) (a : Accepted p) (d : Laid w starts p)
         traceable = rw (main-last p) at (accepted-traceable p a);
       }
 
+  -- No function ends behind the last leaf.
+  pub ends-low-plan : (f : ℕ) → f < length (p .functions) → getD starts (f + 1) 0 ≤ sizes (p .functions)
+  ends-low-plan f h =
+      let z : (j : ℕ) → 0 + j ≡ j = λ j. omega arith in
+      let m = ends-low w starts (p .functions) 0 (λ j q. rw (z j) (d .each j q)) f h in
+      omega (arith, rw (z f) at m, d .first)
+
   -- Its columns.
   abbrev pub columns-of : {tails turns totals : List ℕ} → Filled p tails turns totals → Columns table-of tails turns totals
   columns-of {tails} {turns} {totals} c =
       record {
         few-functions = a .formed .few-functions;
-        few-leaves = λ f h.
-            let z : (j : ℕ) → 0 + j ≡ j = λ j. omega arith in
-            let m = ends-low w starts (p .functions) 0 (λ j q. rw (z j) (d .each j q)) f h in
-            omega (arith, rw (z f) at m, d .first, a .formed .few-leaves);
+        long-tails = λ f h. omega (arith, ends-low-plan f h, c .long-tails);
+        long-turns = λ f h. omega (arith, ends-low-plan f h, c .long-turns);
         totals-are = λ f h. c .totals-are f h ∙ plan-totals C p f h;
         priced = c .priced;
         bounded = short-main p a;

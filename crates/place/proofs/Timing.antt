@@ -120,8 +120,8 @@ module _ {w tails turns totals leaves counts : List ℕ} {n l : ℕ} (q : Fares 
   own : At totals tails turns (q .placed .table .funs) n (getD leaves l 0) (tip .level .start) (stage .e)
   own = at-leaf (q .placed .table) (q .columns) (stage .inner) (getD leaves l 0) (tip .level .start) (tip .level .found)
 
-  leaf-small : (k : ℕ) → 1 ≤ k → k ≤ l → getD leaves k 0 < 512
-  leaf-small k lo hi = leaf-low (q .placed .table) 512 (q .columns .few-leaves) leaves counts (q .placed .levels) (q .placed .stands) k lo (omega (arith, q .placed .depth))
+  leaf-small : (m : ℕ) → ((f : ℕ) → f < n → getD (q .starts) (f + 1) 0 ≤ m) → (k : ℕ) → 1 ≤ k → k ≤ l → getD leaves k 0 < m
+  leaf-small m h k lo hi = leaf-low (q .placed .table) m h leaves counts (q .placed .levels) (q .placed .stands) k lo (omega (arith, q .placed .depth))
 
 module _ {w tails turns totals leaves counts : List ℕ} {n l : ℕ} (q : Fares w tails turns totals leaves counts n l) (one : 1 ≤ l) where
   -- The visits made took as many rounds.
@@ -174,10 +174,11 @@ module _ {w tails turns totals leaves counts : List ℕ} {n l : ℕ} (q : Fares 
     pub level-fits : Level-fits w tails turns totals leaves counts times l
     level-fits =
         record {
-          small = leaf-small q one l one (omega arith);
+          has-tail = leaf-small q one (length tails) (q .columns .long-tails) l one (omega arith);
+          has-turn = leaf-small q one (length turns) (q .columns .long-turns) l one (omega arith);
           opens = λ h. record {
             room = head-of (running (q .placed)) h .room;
-            small = leaf-small q one (l - 1) (omega arith) (omega arith);
+            small = leaf-small q one (length tails) (q .columns .long-tails) (l - 1) (omega arith) (omega arith);
             loop-fits = above h .loop-fits;
             call-fits = above h .call-fits;
           };

@@ -159,22 +159,21 @@ pub record Decoded (w starts : List ℕ) (n : ℕ) (leaves counts : List ℕ) (l
   pub decodes : decode (getD (table .funs) (n - 1) done) [] (frames leaves counts 1 l) ≡ some levels
   pub marked : (k : ℕ) → 1 ≤ k → k ≤ l → field w (getD leaves k 0) 1 ≡ 1
 
--- The place o as a new stack: the stack decodes to it, its leaves are points, and it holds 0 above its level.
-pub record Stacked (w : List ℕ) (main : Forms) (o : Option Levels) (leaves counts : List ℕ) (l : ℕ) : Type 0 where
+-- The place o is there, and is a new stack: the old one with x put at its level and 0 above; it decodes to the place, and its leaves are points.
+pub record Stacked (w : List ℕ) (main : Forms) (o : Option Levels) (old olds : List ℕ) (x : ℕ) (leaves counts : List ℕ) (l : ℕ) : Type 0 where
   pub least : 1 ≤ l
   pub most : l ≤ 32
-  pub decodes : decode main [] (frames leaves counts 1 l) ≡ o
+  pub levels : Levels
+  pub found : o ≡ some levels
+  pub decodes : decode main [] (frames leaves counts 1 l) ≡ some levels
   pub marked : (k : ℕ) → 1 ≤ k → k ≤ l → field w (getD leaves k 0) 1 ≡ 1
-  pub above : (k : ℕ) → l < k → (getD leaves k 0 ≡ 0) × (getD counts k 0 ≡ 0)
+  pub leaf : Put old leaves l x
+  pub count : ℕ
+  pub visited : Put olds counts l count
 
 -- The same, or level 0 where there is no such place.
-abbrev pub Next : List ℕ → Forms → Option Levels → List ℕ → List ℕ → ℕ → Type 0
-Next w main o leaves counts l = ((l ≡ 0) × (o ≡ none)) ⊎ Stacked w main o leaves counts l
-
--- What a test's answer says of a claim.
-abbrev pub Says : Bool → Type 0 → Type 0
-Says true A = A
-Says false A = A → ⊥
+abbrev pub Next : List ℕ → Forms → Option Levels → List ℕ → List ℕ → ℕ → List ℕ → List ℕ → ℕ → Type 0
+Next w main o old olds x leaves counts l = ((l ≡ 0) × (o ≡ none)) ⊎ Stacked w main o old olds x leaves counts l
 
 -- The leaf h is open after `count` earlier visits: a call, or a loop that may turn again.
 abbrev pub Enters : List ℕ → ℕ → ℕ → Type 0

@@ -30,7 +30,8 @@ Priced ts tails turns (if-line b t s r) e =
 -- The columns of a table: the tails and turns of its leaves, and the isolated totals of its functions, of which the main one's is at most 2^40.
 pub record Columns {w starts : List ℕ} {n : ℕ} (p : Table w starts n) (tails turns totals : List ℕ) : Type 0 where
   pub few-functions : n ≤ 16
-  pub few-leaves : (f : ℕ) → f < n → getD starts (f + 1) 0 ≤ 512
+  pub long-tails : (f : ℕ) → f < n → getD starts (f + 1) 0 ≤ length tails
+  pub long-turns : (f : ℕ) → f < n → getD starts (f + 1) 0 ≤ length turns
   pub totals-are : (f : ℕ) → f < n → getD totals f 0 ≡ total C (getD (p .funs) f done)
   pub priced : (f : ℕ) (h : f < n) → Priced totals tails turns (p .each f h .piece .part .lines) 0
   pub bounded : total C (getD (p .funs) (n - 1) done) ≤ 1099511627776
@@ -52,14 +53,15 @@ level-time w tails turns totals leaves counts times l = first-time w tails total
 -- The records and numbers that a first visit inside the loop or call at a looks at are there, and no difference falls below 0.
 pub record Opens (w tails totals : List ℕ) (a time tail : ℕ) : Type 0 where
   pub room : a * 8 + 8 ≤ length w
-  pub small : a < 512
+  pub small : a < length tails
   pub loop-fits : field w a 0 ≡ 2 → (tail ≤ getD tails a 0) × (getD tails a 0 - tail ≤ time)
   pub call-fits : (field w a 0 ≡ 2 → ⊥) →
       (field w a 4 < 16) × (field w a 2 + getD totals (field w a 4) 0 ≤ time) × (time - field w a 2 - getD totals (field w a 4) 0 + tail ≤ 1099511627776)
 
 -- The same of the leaf of level l, and its earlier visits took no more than remained at its first.
 pub record Level-fits (w tails turns totals leaves counts times : List ℕ) (l : ℕ) : Type 0 where
-  pub small : getD leaves l 0 < 512
+  pub has-tail : getD leaves l 0 < length tails
+  pub has-turn : getD leaves l 0 < length turns
   pub opens : 2 ≤ l → Opens w tails totals (getD leaves (l - 1) 0) (getD times (l - 1) 0) (getD tails (getD leaves l 0) 0)
   pub rounds : getD counts l 0 * getD turns (getD leaves l 0) 0 ≤ first-time w tails totals leaves times l
   pub bounded : first-time w tails totals leaves times l ≤ 1099511627776

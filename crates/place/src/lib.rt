@@ -2,14 +2,16 @@
 ghost use mathlib.Core.Path.{_≡_};
 ghost use mathlib.Core.Bool.{true, false};
 ghost use mathlib.Core.List.{List, []};
+ghost use mathlib.Core.Option.{none};
 ghost use Prim.Native.Nat.{ℕ, _+_, _-_, _*_, _≤_, _<_};
 ghost use lib.ListN.{length, getD};
 ghost use Rattle.model.specs.Forms.{Forms, done, forms};
 ghost use Rattle.model.specs.Places.{seek, passes, can-end};
 ghost use Rattle.model.specs.Stack.{onward-at, onto, whole};
 ghost use Rattle.rows.specs.Rows.{field, end-at};
+ghost use Rattle.rows.specs.Answers.{Says};
 ghost use Rattle.place.specs.Pieces.{Piece, Spanned};
-ghost use Rattle.place.specs.Stack.{Table, Says, Enters, Counted, Settled, Held, Decodes, Head, Running, Placed, Decoded, Put, Next, Lands, Finds, fall-at, inner-from, inner-to, base-from, base-to};
+ghost use Rattle.place.specs.Stack.{Table, Enters, Counted, Settled, Held, Decodes, Head, Running, Placed, Decoded, Put, Next, Lands, Finds, fall-at, inner-from, inner-to, base-from, base-to};
 ghost use Rattle.place.specs.Scan.{look, opened, hits, trail, inner};
 ghost use Rattle.place.specs.Times.{Opens, Level-fits, Fares, Costed, Clocked, Times, inner-time, first-time, level-time};
 
@@ -66,9 +68,6 @@ const NO_LEVEL: usize = 33;
 
 // A number for each level, from 0 on.
 pub type ByLevel = [u64; 33];
-
-// A derived column: a number for each leaf.
-pub type Column = [u64; 512];
 
 // A number for each function.
 pub type Totals = [u64; 16];
@@ -299,6 +298,43 @@ fn sought(row: &[u64], starts: &[u64], head: usize, x: usize) -> u64
     scan(row, from, to, x, BRACKETS)
 }
 
+// Where x comes next inside the loop that was reported at level l, or at its next visit, where x cannot come once the loop is left.
+fn round_again(
+    row: &[u64],
+    starts: &[u64],
+    n: usize,
+    leaves: &ByLevel,
+    earlier: &ByLevel,
+    l: usize,
+    x: usize,
+) -> Found
+    requires { ⌜ (1 ≤ l) × (l ≤ 32) × (field (now row) (getD (now leaves) l 0) 0 ≡ 2) ⌝ }
+    requires { ⌜ Placed (now row) (now starts) n (now leaves) (now earlier) l ⌝ }
+    requires { ⌜ ((q : Placed (now row) (now starts) n (now leaves) (now earlier) l) → fall-at (q .levels) x ≡ none) ⌝ }
+    ensures { λ r. ⌜ ((q : Placed (now (row .entry)) (now (starts .entry)) n (now (leaves .entry)) (now (earlier .entry)) l)
+        → Finds l (getD (q .table .funs) (n - 1) done) (now (leaves .entry)) (now (earlier .entry)) (onward-at (q .levels) x) x (r .at) (r .count)) ⌝ }
+{
+    let here = leaf_at(leaves, l);
+    let count = earlier[l];
+    if count >= rows::get(row, here, NUMBER) {
+        return Found { at: 0, count: 0 };
+    }
+    let v = sought(row, starts, here, x);
+    if v == MEET {
+        return Found {
+            at: l + 1,
+            count: 0,
+        };
+    }
+    if v == PASS {
+        if here == x {
+            let more = count + 1;
+            return Found { at: l, count: more };
+        }
+    }
+    Found { at: 0, count: 0 }
+}
+
 // Where x comes next behind the report at level l.
 pub fn find(
     row: &[u64],
@@ -314,14 +350,16 @@ pub fn find(
     ensures { λ r. ⌜ ((q : Placed (now (row .entry)) (now (starts .entry)) n (now (leaves .entry)) (now (earlier .entry)) l)
         → Finds l (getD (q .table .funs) (n - 1) done) (now (leaves .entry)) (now (earlier .entry)) (onward-at (q .levels) x) x (r .at) (r .count)) ⌝ }
 {
-    let up = l + 1;
     let here = leaf_at(leaves, l);
     let kind = rows::get(row, here, KIND);
     let under = below(row, starts, n, leaves, earlier, l, x);
     if kind == CALL {
         let v = sought(row, starts, here, x);
         if v == MEET {
-            return Found { at: up, count: 0 };
+            return Found {
+                at: l + 1,
+                count: 0,
+            };
         }
         if v == PASS {
             return under;
@@ -334,21 +372,7 @@ pub fn find(
     if under.at > 0 {
         return under;
     }
-    let count = earlier[l];
-    if count >= rows::get(row, here, NUMBER) {
-        return Found { at: 0, count: 0 };
-    }
-    let v = sought(row, starts, here, x);
-    if v == MEET {
-        return Found { at: up, count: 0 };
-    }
-    if v == PASS {
-        if here == x {
-            let more = count + 1;
-            return Found { at: l, count: more };
-        }
-    }
-    Found { at: 0, count: 0 }
+    round_again(row, starts, n, leaves, earlier, l, x)
 }
 
 // v at l, and 0 above it.
@@ -394,7 +418,7 @@ pub fn next_place(row: &[u64], starts: &[u64], n: usize, place: Place, x: usize)
     requires { ⌜ field (now row) x 1 ≡ 1 ⌝ }
     requires { ⌜ Decoded (now row) (now starts) n (place .leaves) (place .earlier) (place .level) ⌝ }
     ensures { λ r. ⌜ ((q : Decoded (now (row .entry)) (now (starts .entry)) n (place .leaves) (place .earlier) (place .level))
-        → Next (now (row .entry)) (getD (q .table .funs) (n - 1) done) (onward-at (q .levels) x) (r .leaves) (r .earlier) (r .level)) ⌝ }
+        → Next (now (row .entry)) (getD (q .table .funs) (n - 1) done) (onward-at (q .levels) x) (place .leaves) (place .earlier) x (r .leaves) (r .earlier) (r .level)) ⌝ }
 {
     let leaves = place.leaves;
     let earlier = place.earlier;
@@ -419,11 +443,18 @@ pub fn next_place(row: &[u64], starts: &[u64], n: usize, place: Place, x: usize)
 }
 
 // The place when the point x is reported first; level 0 where x cannot come first.
-pub fn first_place(row: &[u64], starts: &[u64], n: usize, x: usize) -> Place
+pub fn first_place(
+    row: &[u64],
+    starts: &[u64],
+    n: usize,
+    leaves: ByLevel,
+    earlier: ByLevel,
+    x: usize,
+) -> Place
     requires { ⌜ field (now row) x 1 ≡ 1 ⌝ }
     requires { ⌜ Table (now row) (now starts) n ⌝ }
     ensures { λ r. ⌜ ((p : Table (now (row .entry)) (now (starts .entry)) n)
-        → Next (now (row .entry)) (getD (p .funs) (n - 1) done) (onto [] (seek (getD (p .funs) (n - 1) done) x)) (r .leaves) (r .earlier) (r .level)) ⌝ }
+        → Next (now (row .entry)) (getD (p .funs) (n - 1) done) (onto [] (seek (getD (p .funs) (n - 1) done) x)) leaves earlier x (r .leaves) (r .earlier) (r .level)) ⌝ }
 {
     let from = entry(starts, n - 1);
     let to = entry(starts, n);
@@ -435,8 +466,8 @@ pub fn first_place(row: &[u64], starts: &[u64], n: usize, x: usize) -> Place
             earlier: [0; 33],
         };
     }
-    let new = put([0; 33], 1, x as u64);
-    let counts = put([0; 33], 1, 0);
+    let new = put(leaves, 1, x as u64);
+    let counts = put(earlier, 1, 0);
     Place {
         level: 1,
         leaves: new,
@@ -580,14 +611,7 @@ pub fn place_ok(row: &[u64], starts: &[u64], n: usize, place: Place) -> bool
 }
 
 // What remains at a first visit of a leaf with this tail inside the loop or call at `head`, where `time` remained at the visit of `head`.
-fn inner_time(
-    row: &[u64],
-    tails: &Column,
-    totals: &Totals,
-    head: usize,
-    time: u64,
-    tail: u64,
-) -> u64
+fn inner_time(row: &[u64], tails: &[u64], totals: &Totals, head: usize, time: u64, tail: u64) -> u64
     requires { ⌜ Opens (now row) (now tails) (now totals) head time tail ⌝ }
     ensures { λ r. ⌜ r ≡ inner-time (now (row .entry)) (now (tails .entry)) (now (totals .entry)) head time tail ⌝ }
 {
@@ -604,14 +628,14 @@ fn inner_time(
 // What remains at a first visit of the leaf of level l.
 fn first_time(
     row: &[u64],
-    tails: &Column,
+    tails: &[u64],
     totals: &Totals,
     leaves: &ByLevel,
     times: &ByLevel,
     l: usize,
 ) -> u64
     requires { ⌜ (1 ≤ l) × (l ≤ 32) ⌝ }
-    requires { ⌜ getD (now leaves) l 0 < 512 ⌝ }
+    requires { ⌜ getD (now leaves) l 0 < length (now tails) ⌝ }
     requires { ⌜ (2 ≤ l → Opens (now row) (now tails) (now totals) (getD (now leaves) (l - 1) 0) (getD (now times) (l - 1) 0) (getD (now tails) (getD (now leaves) l 0) 0)) ⌝ }
     ensures { λ r. ⌜ r ≡ first-time (now (row .entry)) (now (tails .entry)) (now (totals .entry)) (now (leaves .entry)) (now (times .entry)) l ⌝ }
 {
@@ -628,8 +652,8 @@ fn first_time(
 // What remains at the leaf of level l: a round less for each earlier visit there.
 fn level_time(
     row: &[u64],
-    tails: &Column,
-    turns: &Column,
+    tails: &[u64],
+    turns: &[u64],
     totals: &Totals,
     leaves: &ByLevel,
     earlier: &ByLevel,
@@ -650,8 +674,8 @@ fn level_time(
 // The remaining times with that of the place's level, and 0 above it.
 pub fn next_times(
     row: &[u64],
-    tails: &Column,
-    turns: &Column,
+    tails: &[u64],
+    turns: &[u64],
     totals: &Totals,
     place: Place,
     times: ByLevel,
@@ -672,8 +696,8 @@ pub fn next_times(
 fn times_hold(
     row: &[u64],
     n: usize,
-    tails: &Column,
-    turns: &Column,
+    tails: &[u64],
+    turns: &[u64],
     totals: &Totals,
     leaves: &ByLevel,
     earlier: &ByLevel,
@@ -703,8 +727,8 @@ fn times_hold(
 pub fn times_ok(
     row: &[u64],
     n: usize,
-    tails: &Column,
-    turns: &Column,
+    tails: &[u64],
+    turns: &[u64],
     totals: &Totals,
     place: Place,
     times: ByLevel,

@@ -4,7 +4,7 @@ use mathlib.Core.Path.{_≡_, refl, sym, ap, ap₂, subst, _∙_}
 use mathlib.Core.List.{List, [], _∷_, _++_}
 use mathlib.Core.Bool.{Bool, true, false}
 use native.Mathlib.Omega.{arith}
-use lib.ListN.{length, set, take, drop, length-append}
+use lib.ListN.{length, getD, set, take, drop, length-append}
 use lib.Seq.{sets}
 use lib.Dec.{eqb, ltb}
 use borrow.Author.Tests.{le-ltb, eqb-true, eqb-false, ltb-true, ltb-false}
@@ -50,10 +50,19 @@ set-padded zero xs v h = absurd (omega arith)
 set-padded (suc N) [] v h = refl
 set-padded (suc N) (x ∷ xs) v h = ap (λ r. x ∷ r) (set-padded N xs v (omega arith))
 
-length-padded : (N : ℕ) (xs : List ℕ) → length (padded N xs) ≡ N
+pub length-padded : (N : ℕ) (xs : List ℕ) → length (padded N xs) ≡ N
 length-padded zero xs = refl
 length-padded (suc N) [] = ap suc (length-padded N [])
 length-padded (suc N) (x ∷ xs) = ap suc (length-padded N xs)
+
+-- The zeros behind a list are what it gives past its end.
+pub padded-same : (N : ℕ) (xs : List ℕ) (j : ℕ) → length xs ≤ N → getD (padded N xs) j 0 ≡ getD xs j 0
+padded-same zero [] j h = refl
+padded-same zero (x ∷ xs) j h = absurd (omega arith)
+padded-same (suc N) [] zero h = refl
+padded-same (suc N) [] (suc j) h = padded-same N [] j (omega arith) ∙ refl
+padded-same (suc N) (x ∷ xs) zero h = refl
+padded-same (suc N) (x ∷ xs) (suc j) h = padded-same N xs j (omega arith)
 
 -- THE ANSWER
 

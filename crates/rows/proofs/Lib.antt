@@ -1,1 +1,3 @@
 pub mod Shape
+pub mod Reading
+pub mod Answers

@@ -1,2 +1,4 @@
 pub mod Rows
 pub mod First
+pub mod Reading
+pub mod Answers

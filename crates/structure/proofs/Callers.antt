@@ -12,9 +12,9 @@ use Rattle.model.specs.Plan.{Lines, close, leaf-line, call-line, loop-line, if-
 use Rattle.model.specs.Acceptance.{Names, Called}
 use Rattle.rows.specs.Rows.{field, end-at, Rep}
 use Rattle.rows.proofs.Shape.{rep-le}
-use Rattle.structure.specs.Answers.{Says}
+use Rattle.rows.specs.Answers.{Says}
+use Rattle.rows.proofs.Answers.{said-true, said-false}
 use Rattle.structure.specs.Plans.{Lies, Plan-of}
-use Rattle.structure.proofs.Answers.{said-true, said-false}
 use Rattle.structure.proofs.Found.{found, found-sound}
 use Rattle.structure.proofs.Measures.{function-part}
 use Rattle.structure.proofs.Functions.{lies-at, functions-at, bound-le}

@@ -14,10 +14,10 @@ use Rattle.model.specs.Forms.{Forms, call, loop, forms}
 use Rattle.model.specs.Acceptance.{Ranged, Seen}
 use Rattle.rows.specs.Rows.{field, end-at, block-at, Rep}
 use Rattle.rows.proofs.Shape.{rep-le}
-use Rattle.structure.specs.Answers.{Says}
+use Rattle.rows.specs.Answers.{Says}
+use Rattle.rows.proofs.Answers.{says}
 use Rattle.structure.specs.Tops.{when}
 use Rattle.structure.specs.Points.{Text, Pointed, Flags, Loud, silent-end, Allowed}
-use Rattle.structure.proofs.Answers.{says}
 use Rattle.structure.proofs.Sounds.{Noise, point-true, point-false, flag-on, flag-off, pointed-noise, noise-pointed}
 
 -- Every loud record from i up to e is a point, and none is inside a silent loop.

@@ -1,4 +1,3 @@
-pub mod Answers
 pub mod Deciding
 pub mod Found
 pub mod Levels
@@ -8,6 +7,5 @@ pub mod Callers
 pub mod Sounds
 pub mod Hearing
 pub mod Listening
-pub mod Decoded
 pub mod Theorems
 pub mod Worked

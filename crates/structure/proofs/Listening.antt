@@ -13,10 +13,10 @@ use Rattle.model.specs.Plan.{Lines, close}
 use Rattle.model.specs.Forms.{Forms, done, forms, linked}
 use Rattle.model.specs.Levels.{height, heights}
 use Rattle.model.specs.Acceptance.{Seen, Seen-all}
-use Rattle.structure.specs.Answers.{Says}
+use Rattle.rows.specs.Answers.{Says}
+use Rattle.rows.proofs.Answers.{said-true, said-false}
 use Rattle.structure.specs.Plans.{Plan-of}
 use Rattle.structure.specs.Points.{Text, Pointed, Flags}
-use Rattle.structure.proofs.Answers.{said-true, said-false}
 use Rattle.structure.proofs.Functions.{functions-at}
 use Rattle.structure.proofs.Callers.{plan-rep}
 

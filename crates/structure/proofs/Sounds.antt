@@ -13,8 +13,8 @@ use Rattle.model.specs.Forms.{Forms, done, forms, Is, Has}
 use Rattle.model.specs.Acceptance.{Ranged}
 use Rattle.rows.specs.Rows.{field, end-at, block-at, Rep}
 use Rattle.rows.proofs.Shape.{rep-le}
+use Rattle.rows.proofs.Answers.{said-true, said-yes}
 use Rattle.structure.specs.Points.{Pointed, Flags, Loud}
-use Rattle.structure.proofs.Answers.{said-true, said-yes}
 
 -- A loud record from i up to e.
 pub record Noise (w : List ℕ) (loud : List Bool) (i e : ℕ) : Type 0 where

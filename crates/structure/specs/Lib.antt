@@ -1,7 +1,5 @@
-pub mod Answers
 pub mod Records
 pub mod Tops
 pub mod Plans
 pub mod Points
-pub mod Reading
 pub mod Worked

@@ -10,7 +10,7 @@ use Rattle.model.specs.Plan.{Lines}
 use Rattle.model.specs.Forms.{Forms, done, Has}
 use Rattle.model.specs.Acceptance.{Ranged}
 use Rattle.rows.specs.Rows.{field, end-at, Rep}
-use Rattle.structure.specs.Answers.{Says}
+use Rattle.rows.specs.Answers.{Says}
 use Rattle.structure.specs.Tops.{when}
 
 -- The records from i up to e are the lines of function number k, and keep rules 3, 5 and 6.

@@ -8,7 +8,7 @@ ghost use Rattle.model.specs.Acceptance.{Called, Seen, Seen-all};
 ghost use Rattle.model.specs.Forms.{Forms, forms};
 ghost use Rattle.model.specs.Levels.{height, heights};
 ghost use Rattle.rows.specs.Rows.{field, Part};
-ghost use Rattle.structure.specs.Answers.{Says};
+ghost use Rattle.rows.specs.Answers.{Says};
 ghost use Rattle.structure.specs.Plans.{Bounds, Plan-of, Structured};
 ghost use Rattle.structure.specs.Points.{Text, Pointed, Flags, Loud, silent-end, Allowed};
 ghost use Rattle.structure.specs.Records.{Priced, Placed, Leaf-right, Call-right, Loop-right, If-right, Sound, Head};

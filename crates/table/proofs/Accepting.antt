@@ -160,7 +160,7 @@ seen-exactly (call b fun rest) = both _ _ (silent-exactly b fun) (seen-exactly r
 seen-exactly (loop b n body rest) = three _ _ _ (silent-exactly b body) (seen-exactly body) (seen-exactly rest)
 seen-exactly (cond b then else rest) = three _ _ _ (seen-exactly then) (seen-exactly else) (seen-exactly rest)
 
-seen-all-exactly : (fs : List Forms) (ls : List Lines) → (seen-all? fs ls ≡ true) ↔ Seen-all fs ls
+pub seen-all-exactly : (fs : List Forms) (ls : List Lines) → (seen-all? fs ls ≡ true) ↔ Seen-all fs ls
 unfolding seen-all? Seen-all
 seen-all-exactly fs [] = yes-always
 seen-all-exactly fs (l ∷ ls) = both _ _ (seen-exactly (forms fs l)) (seen-all-exactly (fs ++ (forms fs l ∷ [])) ls)
@@ -214,7 +214,7 @@ called-from-exactly ls f (suc k) =
       λ u. q .1 (u f (omega arith) (omega arith), λ g x y. u g (omega arith) (omega arith)),
     )
 
-called-exactly : (ls : List Lines) → (called-from? ls 0 (length ls - 1) ≡ true) ↔ Called ls
+pub called-exactly : (ls : List Lines) → (called-from? ls 0 (length ls - 1) ≡ true) ↔ Called ls
 called-exactly ls =
     let k = called-from-exactly ls 0 (length ls - 1) in
     ((λ e f h. k .0 e f (omega arith) (omega arith)), λ u. k .1 (λ g x y. u g (omega arith)))

@@ -1,6 +1,15 @@
 pub mod Tests
+pub mod Lists
 pub mod Accepting
 pub mod Storing
+pub mod Bridge
 pub mod Plans
 pub mod Reading
+pub mod Holding
+pub mod Deriving
+pub mod Agreeing
+pub mod Checking
+pub mod Judging
+pub mod Writing
+pub mod Written
 pub mod Theorems

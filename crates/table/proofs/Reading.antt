@@ -35,7 +35,8 @@ judged-plan true true false p q e = not-plan e
 judged-plan true false c p q e = not-plan e
 judged-plan false b c p q e = not-plan e
 
-after-plan : (o : Outcome) (q : Plan) → after-lines o ≡ plan q → (o ≡ plan q) × (judged q ≡ plan q)
+-- Lines that are read as a plan are that plan's.
+pub after-plan : (o : Outcome) (q : Plan) → after-lines o ≡ plan q → (o ≡ plan q) × (judged q ≡ plan q)
 after-plan (refused k j) q e = not-plan e
 after-plan (plan p) q e =
     let (a, b, c, z) = judged-plan (seen-all? [] (p .functions)) (called-from? (p .functions) 0 (length (p .functions) - 1))

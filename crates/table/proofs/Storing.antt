@@ -1,44 +1,21 @@
--- The records of lines, standing in a row, say these lines: a row that begins with them at a record is `Rep`, and reading it back gives the lines.
+-- The records of lines, standing in a row, say these lines: a row that begins with them at a record is `Rep`.
 use mathlib.Core.Bool.{Bool, true, false}
-use mathlib.Core.List.{List, [], _∷_, _++_, append-assoc}
-use mathlib.Core.Path.{_≡_, refl, ap, sym, _∙_, subst}
-use Prim.Native.Nat.{ℕ, zero, suc, _+_, _*_, _≤_, _<_}
+use mathlib.Core.List.{List, _++_, append-assoc}
+use mathlib.Core.Path.{_≡_, refl, ap, sym, _∙_}
+use Prim.Native.Nat.{ℕ, suc, _+_, _*_, _≤_, _<_}
 use native.Mathlib.Omega.{arith}
-use lib.Dec.{eqb, ltb}
+use lib.Dec.{eqb}
 use lib.ListN.{length, getD, drop, List·getD-append}
-use borrow.Author.Tests.{lt-ltb, le-ltb}
+use lib.Seq.{getD-drop, drop-drop, drop-at}
 use Rattle.model.specs.Plan.{Block, Lines, close, leaf-line, call-line, loop-line, if-line}
 use Rattle.model.specs.Acceptance.{size, Numbered}
-use Rattle.model.specs.Places.{pick}
 use Rattle.reader.specs.Records.{mark, entry, records}
 use Rattle.reader.proofs.Records.{records-length}
-use Rattle.rows.specs.Rows.{field, end-at, block-at, Rep}
-use Rattle.rows.proofs.Shape.{rep-le}
-use Rattle.table.specs.Table.{by-kind, lines-at}
+use Rattle.rows.specs.Rows.{field, block-at, Rep}
 
 -- The row has these numbers from record i on.
 abbrev pub Begins : List ℕ → ℕ → List ℕ → Type 0
 Begins w i rs = (v : List ℕ) × (drop (i * 8) w ≡ rs ++ v)
-
-getD-drop : (w : List ℕ) (k j : ℕ) → getD (drop k w) j 0 ≡ getD w (k + j) 0
-getD-drop w zero j = let e : 0 + j ≡ j = omega arith in ap (λ m. getD w m 0) (sym e)
-getD-drop [] (suc k) j = let e : suc k + j ≡ suc (k + j) = omega arith in sym (ap (λ m. getD [] m 0) e)
-getD-drop (x ∷ w) (suc k) j = let e : suc k + j ≡ suc (k + j) = omega arith in getD-drop w k j ∙ sym (ap (λ m. getD (x ∷ w) m 0) e)
-
-drop-none : (j : ℕ) → _≡_ {A = List ℕ} (drop j []) []
-drop-none zero = refl
-drop-none (suc j) = refl
-
-drop-drop : (w : List ℕ) (k j : ℕ) → drop j (drop k w) ≡ drop (k + j) w
-drop-drop w zero j = let e : 0 + j ≡ j = omega arith in ap (λ m. drop m w) (sym e)
-drop-drop [] (suc k) j = let e : suc k + j ≡ suc (k + j) = omega arith in drop-none j ∙ sym (ap (λ m. drop m []) e)
-drop-drop (x ∷ w) (suc k) j = let e : suc k + j ≡ suc (k + j) = omega arith in drop-drop w k j ∙ sym (ap (λ m. drop m (x ∷ w)) e)
-
-drop-length : (u v : List ℕ) (k : ℕ) → k ≡ length u → drop k (u ++ v) ≡ v
-drop-length [] v zero e = refl
-drop-length [] v (suc k) e = absurd (omega arith)
-drop-length (x ∷ u) v zero e = absurd (omega arith)
-drop-length (x ∷ u) v (suc k) e = drop-length u v k (omega arith)
 
 -- Its parts, one after the other.
 pub begins-left : (w : List ℕ) (i : ℕ) (rs us : List ℕ) → Begins w i (rs ++ us) → Begins w i rs
@@ -47,10 +24,10 @@ begins-left w i rs us (v, e) = (us ++ v, e ∙ append-assoc rs us v)
 pub begins-right : (w : List ℕ) (i k j : ℕ) (rs us : List ℕ) → length rs ≡ 8 * k → j ≡ i + k → Begins w i (rs ++ us) → Begins w j us
 begins-right w i k j rs us h q (v, e) =
     let z : j * 8 ≡ i * 8 + 8 * k = omega arith in
-    (v, ap (λ m. drop m w) z ∙ (sym (drop-drop w (i * 8) (8 * k)) ∙ (ap (λ u. drop (8 * k) u) (e ∙ append-assoc rs us v) ∙ drop-length rs (us ++ v) (8 * k) (sym h))))
+    (v, ap (λ m. drop m w) z ∙ (sym (drop-drop (8 * k) (i * 8) w) ∙ (ap (λ u. drop (8 * k) u) (e ∙ append-assoc rs us v) ∙ drop-at rs (us ++ v) (8 * k) h)))
 
 begins-field : (w : List ℕ) (i : ℕ) (rs : List ℕ) → Begins w i rs → (j : ℕ) → j < length rs → field w i j ≡ getD rs j 0
-begins-field w i rs (v, e) j h = sym (getD-drop w (i * 8) j) ∙ (ap (λ u. getD u j 0) e ∙ List·getD-append rs v 0 j h)
+begins-field w i rs (v, e) j h = sym (getD-drop (i * 8) w j 0) ∙ (ap (λ u. getD u j 0) e ∙ List·getD-append rs v 0 j h)
 
 marked : (p : Bool) → eqb (mark p) 1 ≡ p
 marked true = refl
@@ -154,42 +131,3 @@ records-rep w L (loop-line b m body rest) n e (i, h, j) q s = rep-loop w L b m b
 records-rep w L (if-line b then else rest) n e (i, h, j, k) q s = rep-if w L b then else rest n e i s
     (λ v. records-rep w L then (n + 1) (n + 1 + size then) h refl v) (λ v. records-rep w L else (n + 1 + size then) (n + 1 + size then + size else) j refl v)
     (λ v. records-rep w L rest (n + 1 + size then + size else) e k (omega arith) v)
-
--- READING BACK
-
-nothing-more : (fuel : ℕ) (w : List ℕ) (i e : ℕ) → e ≤ i → lines-at fuel w i e ≡ close
-unfolding lines-at
-nothing-more zero w i e h = refl
-nothing-more (suc fuel) w i e h = rw (le-ltb i e h)
-
-pub rep-lines : (l : Lines) (fuel : ℕ) (w : List ℕ) (L i e : ℕ) → size l < fuel → Rep w L i e l → lines-at fuel w i e ≡ l
-unfolding Rep size lines-at by-kind
-rep-lines close fuel w L i e h r = nothing-more fuel w i e (omega arith)
-rep-lines (leaf-line b rest) zero w L i e h r = absurd (omega arith)
-rep-lines (leaf-line b rest) (suc k) w L i e h r =
-    rw (lt-ltb i e (omega (arith, r .3, rep-le w L (end-at w i) e rest (r .4))), r .0 .0, rep-lines rest k w L (end-at w i) e (omega arith) (r .4))
-    (ap (λ x. leaf-line x rest) (sym (r .0 .1)))
-rep-lines (call-line b f rest) zero w L i e h r = absurd (omega arith)
-rep-lines (call-line b f rest) (suc k) w L i e h r =
-    rw (lt-ltb i e (omega (arith, r .3, rep-le w L (end-at w i) e rest (r .4))), r .0 .0, rep-lines rest k w L (end-at w i) e (omega arith) (r .4), r .1)
-    (ap (λ x. call-line x f rest) (sym (r .0 .1)))
-rep-lines (loop-line b n body rest) zero w L i e h r = absurd (omega arith)
-rep-lines (loop-line b n body rest) (suc k) w L i e h r =
-    rw (
-      lt-ltb i e (omega (arith, rep-le w (suc L) (i + 1) (end-at w i) body (r .3), rep-le w L (end-at w i) e rest (r .4))),
-      r .0 .0,
-      rep-lines rest k w L (end-at w i) e (omega arith) (r .4),
-      rep-lines body k w (suc L) (i + 1) (end-at w i) (omega arith) (r .3),
-      r .1,
-    )
-    (ap (λ x. loop-line x n body rest) (sym (r .0 .1)))
-rep-lines (if-line b then else rest) zero w L i e h r = absurd (omega arith)
-rep-lines (if-line b then else rest) (suc k) w L i e h r =
-    rw (
-      lt-ltb i e (omega (arith, rep-le w L (i + 1) (field w i 5) then (r .2), rep-le w L (field w i 5) (end-at w i) else (r .3), rep-le w L (end-at w i) e rest (r .4))),
-      r .0 .0,
-      rep-lines rest k w L (end-at w i) e (omega arith) (r .4),
-      rep-lines then k w L (i + 1) (field w i 5) (omega arith) (r .2),
-      rep-lines else k w L (field w i 5) (end-at w i) (omega arith) (r .3),
-    )
-    (ap (λ x. if-line x then else rest) (sym (r .0 .1)))

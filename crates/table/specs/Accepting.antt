@@ -83,8 +83,10 @@ unfoldable pub called-from? : List Lines → ℕ → ℕ → Bool
 called-from? ls f zero = true
 called-from? ls f (suc k) = named? f ls && called-from? ls (suc f) k
 
--- All of them, with rule 10 read from the totals.
+-- Rule 10, read from the totals.
+abbrev pub short? : Plan → Bool
+short? p = leb (total C (main p)) (2 ^ 40) && leb (total M (main p)) (2 ^ 40)
+
+-- All of them.
 abbrev pub accepted? : Plan → Bool
-accepted? p =
-    formed? p && (seen-all? [] (p .functions) && (called-from? (p .functions) 0 (length (p .functions) - 1) &&
-    (leb (total C (main p)) (2 ^ 40) && leb (total M (main p)) (2 ^ 40))))
+accepted? p = formed? p && (seen-all? [] (p .functions) && (called-from? (p .functions) 0 (length (p .functions) - 1) && short? p))

@@ -1,3 +1,4 @@
 pub mod Accepting
 pub mod Table
 pub mod Reading
+pub mod Deriving

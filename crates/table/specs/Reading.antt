@@ -1,23 +1,24 @@
 -- Reading a plan whole (01, 'Calls'): 1; then line by line, in a line 2 to 7; then 8, 9, 10, with line 0.
 -- Assumes nothing: these are definitions.
-use mathlib.Core.Bool.{_&&_}
 use mathlib.Core.List.{List, []}
-use Prim.Native.Nat.{ℕ, _-_, _^_}
-use lib.Dec.{leb}
+use Prim.Native.Nat.{ℕ, _-_}
 use lib.ListN.{length}
-use Rattle.model.specs.Plan.{C, M, Plan}
-use Rattle.model.specs.Forms.{main}
-use Rattle.model.specs.Total.{total}
+use Rattle.model.specs.Plan.{Plan}
 use Rattle.model.specs.Places.{pick}
+use lib.Seq.{sets}
+use Rattle.reader.specs.declared.Answer.the-variants.{Accepted, Refused}
 use Rattle.reader.specs.Machine.{Outcome, plan, refused, outcome}
-use Rattle.table.specs.Accepting.{seen-all?, called-from?}
+use Rattle.table.specs.declared.Head.{Head}
+use Rattle.table.specs.declared.Verdict.{Verdict}
+use Rattle.table.specs.Accepting.{seen-all?, called-from?, short?}
+use Rattle.table.specs.Table.{Table, head-of, table-of}
 
 -- Unseen (8), uncalled (9), long (10), in this order, of a plan whose lines were read.
 abbrev pub judged : Plan → Outcome
 judged p =
     pick (seen-all? [] (p .functions))
     (pick (called-from? (p .functions) 0 (length (p .functions) - 1))
-    (pick (leb (total C (main p)) (2 ^ 40) && leb (total M (main p)) (2 ^ 40)) (plan p) (refused 10 0))
+    (pick (short? p) (plan p) (refused 10 0))
     (refused 9 0))
     (refused 8 0)
 
@@ -28,3 +29,13 @@ after-lines (refused k j) = refused k j
 -- What reading a text into a lent row of so many records answers: the plan, or a refusal's number and line.
 abbrev pub verdict : ℕ → List ℕ → Outcome
 verdict row text = after-lines (outcome row text)
+
+-- What `read` answers, with the head afterwards: a plan is accepted and its head given; a refusal gives number and line, and the head is as it was.
+abbrev pub verdict-of : Outcome → Head → Verdict
+verdict-of (plan p) h = record { answer = Accepted; head = head-of p }
+verdict-of (refused k j) h = record { answer = Refused k j; head = h }
+
+-- One of the lent lists afterwards: its part of the plan's table stands at its beginning, and what is behind it is kept; a refusal keeps all of it.
+abbrev pub stored : Outcome → (Table → List ℕ) → List ℕ → List ℕ
+stored (plan p) part o = sets o 0 (part (table-of p))
+stored (refused k j) part o = o

@@ -1,1 +1,372 @@
-// The table of a plan.
+// The table of a plan: made from a text, and checked.
+ghost use mathlib.Core.Path.{_≡_};
+ghost use mathlib.Core.List.{List};
+ghost use Prim.Native.Nat.{ℕ, _+_, _*_, _≤_, _<_};
+ghost use lib.ListN.{length, getD, take};
+ghost use lib.Seq.{sets};
+ghost use Rattle.model.specs.Plan.{Plan};
+ghost use Rattle.model.specs.Acceptance.{sizes};
+ghost use Rattle.rows.specs.Answers.{Says};
+ghost use Rattle.structure.specs.Plans.{Structured};
+ghost use Rattle.table.specs.Table.{Table, zeros, table-at, good};
+ghost use Rattle.reader.specs.Machine.{Outcome, refused};
+ghost use Rattle.table.specs.Reading.{after-lines, verdict, verdict-of, stored};
+ghost use Rattle.table.specs.Deriving.{Ranged, Wide, Derives, Same, Agrees, Came, Filled, headed};
+use columns::derive;
+use columns::measure;
+use reader::Answer;
+use reader::Raw;
+use reader::read_raw;
+use structure::called;
+use structure::seen_all;
+use structure::structured;
+
+// What stands beside the row of leaf records: deadline and switch cost, the total and the max-load total, the stretch of the release, how many leaves
+// and functions there are, the functions' bounds, and their isolated totals.
+pub struct Head {
+    pub deadline: u64,
+    pub switch: u64,
+    pub total: u64,
+    pub loaded: u64,
+    pub stretch: u64,
+    pub leaves: usize,
+    pub functions: usize,
+    pub bounds: [u64; 17],
+    pub totals: [u64; 16],
+}
+
+// What reading a plan answers, and the head afterwards.
+pub struct Verdict {
+    pub answer: Answer,
+    pub head: Head,
+}
+
+// A head of zeros, to hand in where no plan was read before.
+pub fn no_head() -> Head
+    ensures { λ r. ⌜ r ≡ zeros ⌝ }
+{
+    Head {
+        deadline: 0,
+        switch: 0,
+        total: 0,
+        loaded: 0,
+        stretch: 0,
+        leaves: 0,
+        functions: 0,
+        bounds: [0; 17],
+        totals: [0; 16],
+    }
+}
+
+// The derived numbers beside the columns: whether rule 10 is kept and, if it is, both totals, the stretch of the release, and the functions' isolated totals.
+struct Derived {
+    fits: bool,
+    total: u64,
+    loaded: u64,
+    stretch: u64,
+    totals: [u64; 16],
+}
+
+// The largest deadline and total, 2^40.
+const LIMIT: u64 = 1099511627776;
+
+// The largest switch cost, 2^20.
+const SWITCH: u64 = 1048576;
+
+// The most leaves.
+const LEAVES: usize = 512;
+
+// The most functions.
+const FUNCTIONS: usize = 16;
+
+// The numbers of a record.
+const STRIDE: usize = 8;
+
+// Unseen, uncalled and long, by their numbers.
+const UNSEEN: u64 = 8;
+
+const UNCALLED: u64 = 9;
+
+const LONG: u64 = 10;
+
+// The bounds as indexes.
+fn indexes(bounds: [u64; 17]) -> [usize; 17]
+    ensures { λ r. ⌜ r ≡ bounds ⌝ }
+{
+    let mut starts: [usize; 17] = [0; 17];
+    for f in 0..17 {
+        starts[f] = bounds[f] as usize;
+    }
+    starts
+}
+
+// The derived numbers of a row that keeps rules 3 to 9; the columns are written.
+fn derive_all(
+    row: &[u64],
+    bounds: [u64; 17],
+    n: usize,
+    turns: &mut [u64; 512],
+    tails: &mut [u64; 512],
+    stretches: &mut [u64; 512],
+) -> Derived
+    requires { ⌜ Structured (now row) bounds n ⌝ }
+    requires { ⌜ Wide (now turns) (now tails) (now stretches) ⌝ }
+    ensures { λ r. ⌜ ((p : Plan) (q : Structured (now (row .entry)) bounds n) → p .functions ≡ q .plan .functions
+        → Derives p r (now (turns .exit)) (now (tails .exit)) (now (stretches .exit))) ⌝ }
+    ensures { λ _. ⌜ Wide (now (turns .exit)) (now (tails .exit)) (now (stretches .exit)) ⌝ }
+{
+    let starts = indexes(bounds);
+    let mut burden: [u64; 512] = [0; 512];
+    let totals = measure(row, &starts, n, false, turns);
+    let loads = measure(row, &starts, n, true, &mut burden);
+    let total = totals[n - 1];
+    let loaded = loads[n - 1];
+    if LIMIT < total || LIMIT < loaded {
+        return Derived {
+            fits: false,
+            total,
+            loaded,
+            stretch: 0,
+            totals,
+        };
+    }
+    let stretch = derive(
+        row,
+        &starts,
+        n,
+        &totals,
+        turns,
+        &loads,
+        &burden,
+        tails,
+        stretches,
+    );
+    Derived {
+        fits: true,
+        total,
+        loaded,
+        stretch,
+        totals,
+    }
+}
+
+// Whether the first n numbers of both are the same.
+fn same(lent: &[u64], derived: &[u64], n: usize) -> bool
+    requires { ⌜ n ≤ length (now derived) ⌝ }
+    ensures { λ r. ⌜ Says r (take n (now (lent .entry)) ≡ take n (now (derived .entry))) ⌝ }
+{
+    if lent.len() < n {
+        return false;
+    }
+    let mut i = 0;
+    while i < n {
+        if lent[i] != derived[i] {
+            return false;
+        }
+        i += 1;
+    }
+    true
+}
+
+// Whether the head has the derived numbers.
+fn same_head(head: Head, d: Derived) -> bool
+    ensures { λ r. ⌜ Says r (Same head d) ⌝ }
+{
+    let lent = head.totals;
+    let totals = d.totals;
+    if head.total != d.total {
+        return false;
+    }
+    if head.loaded != d.loaded {
+        return false;
+    }
+    if head.stretch != d.stretch {
+        return false;
+    }
+    same(&lent, &totals, FUNCTIONS)
+}
+
+// Whether deadline and switch cost are in range, and a lent row of so many numbers holds the leaves.
+fn ranged(head: Head, room: usize) -> bool
+    ensures { λ r. ⌜ Says r (Ranged room head) ⌝ }
+{
+    if head.deadline < 1 {
+        return false;
+    }
+    if LIMIT < head.deadline {
+        return false;
+    }
+    if SWITCH < head.switch {
+        return false;
+    }
+    if LEAVES < head.leaves {
+        return false;
+    }
+    if room < head.leaves * STRIDE {
+        return false;
+    }
+    true
+}
+
+// Writes the numbers at the beginning, as far as there is room.
+fn store(numbers: &[u64], lent: &mut [u64])
+    ensures { λ _. ⌜ now (lent .exit) ≡ sets (now (lent .entry)) 0 (now (numbers .entry)) ⌝ }
+{
+    let mut i = 0;
+    while i < numbers.len() {
+        if i < lent.len() {
+            lent[i] = numbers[i];
+        }
+        i += 1;
+    }
+}
+
+// Whether the lent columns and the head have the derived numbers of a row that keeps rules 3 to 9.
+fn agrees(row: &[u64], turns: &[u64], tails: &[u64], stretches: &[u64], head: Head) -> bool
+    requires { ⌜ Structured (now row) (head .bounds) (head .functions) × (head .leaves ≤ 512) ⌝ }
+    ensures { λ r. ⌜ ((p : Plan) (q : Structured (now (row .entry)) (head .bounds) (head .functions)) → p .functions ≡ q .plan .functions
+        → sizes (p .functions) ≡ head .leaves → Says r (Agrees p (now (turns .entry)) (now (tails .entry)) (now (stretches .entry)) head)) ⌝ }
+{
+    let mut t: [u64; 512] = [0; 512];
+    let mut u: [u64; 512] = [0; 512];
+    let mut v: [u64; 512] = [0; 512];
+    let bounds = head.bounds;
+    let d = derive_all(row, bounds, head.functions, &mut t, &mut u, &mut v);
+    if !d.fits {
+        return false;
+    }
+    if !same_head(head, d) {
+        return false;
+    }
+    if !same(turns, &t, head.leaves) {
+        return false;
+    }
+    if !same(tails, &u, head.leaves) {
+        return false;
+    }
+    same(stretches, &v, head.leaves)
+}
+
+// Whether the first records of these lists, as many as the head says, are with the head the table of an accepted plan.
+pub fn check(row: &[u64], turns: &[u64], tails: &[u64], stretches: &[u64], head: Head) -> bool
+    ensures { λ r. ⌜ r ≡ good (table-at (now (row .entry)) (now (turns .entry)) (now (tails .entry)) (now (stretches .entry)) head) ⌝ }
+{
+    if !ranged(head, row.len()) {
+        return false;
+    }
+    let n = head.functions;
+    let bounds = head.bounds;
+    let end = head.leaves * STRIDE;
+    let mut heights: [u64; 16] = [0; 16];
+    if !structured(&row[..end], &bounds, n, &mut heights) {
+        return false;
+    }
+    if bounds[n] as usize != head.leaves {
+        return false;
+    }
+    agrees(&row[..end], turns, tails, stretches, head)
+}
+
+// A refusal with line 0; the head is as it was.
+fn refused(k: u64, head: Head) -> Verdict
+    ensures { λ r. ⌜ r ≡ verdict-of (refused k 0) head ⌝ }
+{
+    Verdict {
+        answer: Answer::Refused(k, 0),
+        head,
+    }
+}
+
+// The head of an accepted plan, from what was read and what was derived.
+fn head_from(raw: Raw, d: Derived) -> Head
+    ensures { λ r. ⌜ r ≡ headed raw d ⌝ }
+{
+    let bounds = raw.bounds;
+    let totals = d.totals;
+    Head {
+        deadline: raw.deadline,
+        switch: raw.switch,
+        total: d.total,
+        loaded: d.loaded,
+        stretch: d.stretch,
+        leaves: raw.leaves,
+        functions: raw.functions,
+        bounds,
+        totals,
+    }
+}
+
+// What to say of a text whose lines gave these raw numbers and this row: rules 8 to 10. The columns are written.
+fn judge(
+    raw: Raw,
+    row: &[u64],
+    turns: &mut [u64; 512],
+    tails: &mut [u64; 512],
+    stretches: &mut [u64; 512],
+    head: Head,
+) -> Verdict
+    requires { ⌜ ((o : Outcome) × Came o raw (now row)) × Wide (now turns) (now tails) (now stretches) ⌝ }
+    ensures { λ r. ⌜ ((o : Outcome) → Came o raw (now (row .entry)) → r ≡ verdict-of (after-lines o) head) ⌝ }
+    ensures { λ _. ⌜ ((o : Outcome) → Came o raw (now (row .entry)) → Filled (after-lines o) (now (turns .exit)) (now (tails .exit)) (now (stretches .exit))) ⌝ }
+    ensures { λ _. ⌜ Wide (now (turns .exit)) (now (tails .exit)) (now (stretches .exit)) ⌝ }
+{
+    let answer = raw.answer;
+    if let Answer::Refused(k, j) = answer {
+        return Verdict {
+            answer: Answer::Refused(k, j),
+            head,
+        };
+    }
+    let n = raw.functions;
+    let bounds = raw.bounds;
+    let end = raw.leaves * STRIDE;
+    if !seen_all(&row[..end], &bounds, n) {
+        return refused(UNSEEN, head);
+    }
+    if !called(&row[..end], &bounds, n) {
+        return refused(UNCALLED, head);
+    }
+    let d = derive_all(&row[..end], bounds, n, turns, tails, stretches);
+    if !d.fits {
+        return refused(LONG, head);
+    }
+    let accepted = head_from(raw, d);
+    Verdict {
+        answer: Answer::Accepted,
+        head: accepted,
+    }
+}
+
+// Reads a plan: its table goes to the beginning of the lent lists, as many records as it has leaves and as the caller lends (`capacity`, of which 512
+// are used), and its head is given; or it is refused, by a number and a line, and everything is as it was.
+pub fn read(
+    text: &[u8],
+    capacity: usize,
+    row: &mut [u64; 4096],
+    turns: &mut [u64; 512],
+    tails: &mut [u64; 512],
+    stretches: &mut [u64; 512],
+    head: Head,
+) -> Verdict
+    ensures answers { λ r. ⌜ r ≡ verdict-of (verdict capacity (now (text .entry))) head ⌝ }
+    ensures row { λ _. ⌜ now (row .exit) ≡ stored (verdict capacity (now (text .entry))) (λ t. t .row) (now (row .entry)) ⌝ }
+    ensures turns { λ _. ⌜ now (turns .exit) ≡ stored (verdict capacity (now (text .entry))) (λ t. t .turns) (now (turns .entry)) ⌝ }
+    ensures tails { λ _. ⌜ now (tails .exit) ≡ stored (verdict capacity (now (text .entry))) (λ t. t .tails) (now (tails .entry)) ⌝ }
+    ensures stretches { λ _. ⌜ now (stretches .exit) ≡ stored (verdict capacity (now (text .entry))) (λ t. t .stretches) (now (stretches .entry)) ⌝ }
+{
+    let mut w: [u64; 4096] = [0; 4096];
+    let mut t: [u64; 512] = [0; 512];
+    let mut u: [u64; 512] = [0; 512];
+    let mut v: [u64; 512] = [0; 512];
+    let raw = read_raw(text, capacity, &mut w);
+    let n = raw.leaves;
+    let said = judge(raw, &w, &mut t, &mut u, &mut v, head);
+    let answer = said.answer;
+    if let Answer::Accepted = answer {
+        store(&w[..n * STRIDE], row);
+        store(&t[..n], turns);
+        store(&u[..n], tails);
+        store(&v[..n], stretches);
+    }
+    said
+}

@@ -24,10 +24,20 @@ fn tables(tally: &mut Tally, plan: &Plan, listed: &Listed, composed: &Composed) 
     tally.equal(by_runs, by_forms, || {
         format!("stretch of the release, {}", shown())
     });
+    for function in 0..plan.functions.len() {
+        let (by_runs, by_forms) = (
+            listed.function_total(function),
+            composed.function_total(function),
+        );
+        tally.equal(by_runs, by_forms, || {
+            format!("total of function {function}, {}", shown())
+        });
+    }
     for (_, form) in plan.leaves() {
         let leaf = form.leaf;
         let what = |which: &str| format!("{which} of leaf {leaf}, {}", shown());
         tally.equal(listed.level(leaf), composed.level(leaf), || what("level"));
+        tally.equal(listed.turn(leaf), composed.turn(leaf), || what("turn"));
         tally.equal(listed.tail(leaf), composed.tail(leaf), || what("tail"));
         if form.point {
             tally.equal(listed.stretch(leaf), composed.stretch(leaf), || {

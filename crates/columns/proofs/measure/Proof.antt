@@ -60,7 +60,9 @@ loop-again c =
     (omega arith, measure-next lt (s .pre .0 .1) v (c .sum-block .ensures .0) (c .sum-block .ensures .1 .0) (c .sum-block .ensures .1 .1) (a .inv .1))
 
 returns : tie.Need-returns Inv-loop μ-loop
-returns c = λ v. measured (c .loop-test .left) (c .before .loop .inv .1) v
+returns c =
+    let q = c .before .loop .inv in
+    ((λ v. measured (c .loop-test .left) (q .1) v), ((λ f h. q .1 .behind f (omega (arith, q .0, h))), q .1 .wide))
 
 pub measure-spec : {M : Type 1} → statement M
 measure-spec =

@@ -1,4 +1,3 @@
-use mathlib.Core.List.{[]}
 use Rattle.place.proofs.Ending.{main-spanned, first-none, first-some}
 use Rattle.place.proofs.Stacking.{next-none, next-some}
 use mathlib.Core.Path.{refl}
@@ -25,7 +24,7 @@ scan-requires : tie.Need-scan-requires
 scan-requires c κs = let s = c .before .before .before .before in let sp = main-spanned (s .pre .1) (c .before .entry .ensures) (c .entry2 .ensures) in (sp .room, sp .piece)
 
 returns : tie.Need-returns
-returns c = let s = c .before .before .before .before .before .before in λ p. next-none (s .args .row .now) 0 (first-none p [] [] (s .args .x) (c .before .before .before .entry .ensures) (c .before .before .entry2 .ensures) (c .before .scan .ensures) (c .if1 .taken)) refl _ _
+returns c = let s = c .before .before .before .before .before .before in λ p. next-none (s .args .row .now) 0 (first-none p _ _ (s .args .x) (c .before .before .before .entry .ensures) (c .before .before .entry2 .ensures) (c .before .scan .ensures) (c .if1 .taken)) refl _ _
 
 put-requires : tie.Need-put-requires
 put-requires c κs = search needs

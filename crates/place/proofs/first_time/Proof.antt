@@ -17,11 +17,11 @@ leaf-at-requires c κs = search needs
 mul-tail : tie.Need-mul-tail
 mul-tail c = search needs
 
-element-copy-out-tail : tie.Need-element-copy-out-tail
-element-copy-out-tail c = search needs
+shared-slice-read-tail : tie.Need-shared-slice-read-tail
+shared-slice-read-tail c = search needs
 
 returns : tie.Need-returns
-returns c = let s = c .before .before .before .before in let l = s .args .l in let z : eqb l 1 ≡ true = eq-eqb l 1 (c .if1 .taken) in rw (z, c .before .before .leaf-at .ensures)
+returns c = let s = c .before .before .before .before .before in let l = s .args .l in let z : eqb l 1 ≡ true = eq-eqb l 1 (c .if1 .taken) in rw (z, c .before .before .leaf-at .ensures)
 
 sub-leaf-at : tie.Need-sub-leaf-at
 sub-leaf-at c = search needs
@@ -39,10 +39,10 @@ element-copy-out-time : tie.Need-element-copy-out-time
 element-copy-out-time c = search needs
 
 inner-time-requires : tie.Need-inner-time-requires
-inner-time-requires c κs = let s = c .before .before .before .before .before .before in let l = s .args .l in rw (c .before .leaf-at2 .ensures, c .before .before .before .before .leaf-at .ensures) (s .pre .1 .1 (omega (arith, s .pre .0, c .before .before .if1 .left)))
+inner-time-requires c κs = let s = c .before .before .before .before .before .before .before in let l = s .args .l in rw (c .before .leaf-at2 .ensures, c .before .before .before .before .leaf-at .ensures) (s .pre .1 .1 (omega (arith, s .pre .0, c .before .before .if1 .left)))
 
 returns-2 : tie.Need-returns-2
-returns-2 c = let s = c .before .before .before .before .before .before .before in let l = s .args .l in let z : eqb l 1 ≡ false = ne-eqb l 1 (c .before .before .before .if1 .left) in c .inner-time .ensures ∙ rw (z, c .before .before .leaf-at2 .ensures, c .before .before .before .before .before .leaf-at .ensures)
+returns-2 c = let s = c .before .before .before .before .before .before .before .before in let l = s .args .l in let z : eqb l 1 ≡ false = ne-eqb l 1 (c .before .before .before .if1 .left) in c .inner-time .ensures ∙ rw (z, c .before .before .leaf-at2 .ensures, c .before .before .before .before .before .leaf-at .ensures)
 
 pub first-time-spec : {M : Type 1} → statement M
 first-time-spec =
@@ -50,7 +50,7 @@ first-time-spec =
     (tie.spec
     leaf-at-requires
     mul-tail
-    element-copy-out-tail
+    shared-slice-read-tail
     returns
     sub-leaf-at
     leaf-at-requires-2

@@ -25,17 +25,17 @@ element-copy-out-count c = search needs
 mul-turn : tie.Need-mul-turn
 mul-turn c = search needs
 
-element-copy-out-turn : tie.Need-element-copy-out-turn
-element-copy-out-turn c = search needs
+shared-slice-read-turn : tie.Need-shared-slice-read-turn
+shared-slice-read-turn c = search needs
 
 mul-result : tie.Need-mul-result
-mul-result c = let s = c .before .before .before .before .before in let x = c .before .before .leaf-at .ensures in let f = c .before .before .before .first-time .ensures in let m : getD (s .args .earlier .now) (s .args .l) 0 * getD (s .args .turns .now) (c .before .before .leaf-at .result) 0 ≡ getD (s .args .earlier .now) (s .args .l) 0 * getD (s .args .turns .now) (getD (s .args .leaves .now) (s .args .l) 0) 0 = ap (λ (j : ℕ). getD (s .args .earlier .now) (s .args .l) 0 * getD (s .args .turns .now) j 0) x in omega (arith, m, s .pre .1 .rounds, s .pre .1 .bounded)
+mul-result c = let s = c .before .before .before .before .before .before .before in let x = c .before .before .leaf-at .ensures in let f = c .before .before .before .first-time .ensures in let m : getD (s .args .earlier .now) (s .args .l) 0 * getD (s .args .turns .now) (c .before .before .leaf-at .result) 0 ≡ getD (s .args .earlier .now) (s .args .l) 0 * getD (s .args .turns .now) (getD (s .args .leaves .now) (s .args .l) 0) 0 = ap (λ (j : ℕ). getD (s .args .earlier .now) (s .args .l) 0 * getD (s .args .turns .now) j 0) x in omega (arith, m, s .pre .1 .rounds, s .pre .1 .bounded)
 
 sub-result : tie.Need-sub-result
-sub-result c = let s = c .before .before .before .before .before in let x = c .before .before .leaf-at .ensures in let f = c .before .before .before .first-time .ensures in let m : getD (s .args .earlier .now) (s .args .l) 0 * getD (s .args .turns .now) (c .before .before .leaf-at .result) 0 ≡ getD (s .args .earlier .now) (s .args .l) 0 * getD (s .args .turns .now) (getD (s .args .leaves .now) (s .args .l) 0) 0 = ap (λ (j : ℕ). getD (s .args .earlier .now) (s .args .l) 0 * getD (s .args .turns .now) j 0) x in omega (arith, m, f, s .pre .1 .rounds)
+sub-result c = let s = c .before .before .before .before .before .before .before in let x = c .before .before .leaf-at .ensures in let f = c .before .before .before .first-time .ensures in let m : getD (s .args .earlier .now) (s .args .l) 0 * getD (s .args .turns .now) (c .before .before .leaf-at .result) 0 ≡ getD (s .args .earlier .now) (s .args .l) 0 * getD (s .args .turns .now) (getD (s .args .leaves .now) (s .args .l) 0) 0 = ap (λ (j : ℕ). getD (s .args .earlier .now) (s .args .l) 0 * getD (s .args .turns .now) j 0) x in omega (arith, m, f, s .pre .1 .rounds)
 
 returns : tie.Need-returns
-returns c = let s = c .before .before .before .before .before in let x = c .before .before .leaf-at .ensures in let f = c .before .before .before .first-time .ensures in let m : getD (s .args .earlier .now) (s .args .l) 0 * getD (s .args .turns .now) (c .before .before .leaf-at .result) 0 ≡ getD (s .args .earlier .now) (s .args .l) 0 * getD (s .args .turns .now) (getD (s .args .leaves .now) (s .args .l) 0) 0 = ap (λ (j : ℕ). getD (s .args .earlier .now) (s .args .l) 0 * getD (s .args .turns .now) j 0) x in omega (arith, m, f)
+returns c = let s = c .before .before .before .before .before .before .before in let x = c .before .before .leaf-at .ensures in let f = c .before .before .before .first-time .ensures in let m : getD (s .args .earlier .now) (s .args .l) 0 * getD (s .args .turns .now) (c .before .before .leaf-at .result) 0 ≡ getD (s .args .earlier .now) (s .args .l) 0 * getD (s .args .turns .now) (getD (s .args .leaves .now) (s .args .l) 0) 0 = ap (λ (j : ℕ). getD (s .args .earlier .now) (s .args .l) 0 * getD (s .args .turns .now) j 0) x in omega (arith, m, f)
 
 pub level-time-spec : {M : Type 1} → statement M
 level-time-spec =
@@ -46,7 +46,7 @@ level-time-spec =
     mul-count
     element-copy-out-count
     mul-turn
-    element-copy-out-turn
+    shared-slice-read-turn
     mul-result
     sub-result
     returns)

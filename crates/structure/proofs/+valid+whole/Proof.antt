@@ -1,5 +1,4 @@
 use Rattle.structure.proofs.Deciding.{head-of, head-sound, head-flat, head-loop, head-if, head-body, head-then, head-else, join, nothing}
-use Rattle.structure.proofs.Answers.{said-true, said-false, same-answer}
 use Rattle.rows.proofs.Shape.{rep-le, after}
 use Rattle.rows.specs.Rows.{Part}
 use Prim.Native.Nat.{_+_, _-_}
@@ -18,6 +17,7 @@ use Rattle.structure.proofs.whole.Kinds as whole-kinds
 use Rattle.structure.proofs.+valid+whole.Lts-whole as whole-lts
 use Rattle.rows.proofs.get.Reads as get-reads
 use Rattle.rows.proofs.index.Reads as index-reads
+use Rattle.rows.proofs.Answers.{said-true, said-false, same-answer}
 use Rattle.structure.proofs.sound.Reads as sound-reads
 use Rattle.structure.proofs.+valid+whole.{statement}
 use Rattle.structure.proofs.+valid+whole.Tie.{close}

@@ -1,8 +1,8 @@
-use Rattle.structure.proofs.Answers.{said-true, said-false}
 use borrow.Author.Tests.{not-true, not-false}
 use mathlib.Core.Path.{_∙_}
 use native.Mathlib.Omega.{arith}
 use borrow.Author.Needs.{needs}
+use Rattle.rows.proofs.Answers.{said-true, said-false}
 use Rattle.structure.proofs.allowed.Statement.{statement}
 use Rattle.structure.proofs.allowed.Tie as tie
 

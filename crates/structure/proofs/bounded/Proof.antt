@@ -1,7 +1,7 @@
-use Rattle.structure.proofs.Answers.{said-true, said-false}
 use borrow.Author.Tests.{not-true, not-false}
 use native.Mathlib.Omega.{arith}
 use borrow.Author.Needs.{needs}
+use Rattle.rows.proofs.Answers.{said-true, said-false}
 use Rattle.structure.proofs.bounded.Statement.{statement}
 use Rattle.structure.proofs.bounded.Tie as tie
 

@@ -1,5 +1,5 @@
+use Rattle.rows.proofs.Answers.{said-true, said-false}
 use Rattle.structure.proofs.Functions.{Read, Held, read-none, held-none, read-more, held-more, read-all, held-all, bound-le, plan-part}
-use Rattle.structure.proofs.Answers.{said-true, said-false}
 use Rattle.structure.specs.Plans.{Plan-of}
 use lib.Seq.{length-take-le}
 use lib.ListN.{length, length-set}

@@ -1,7 +1,7 @@
 use Rattle.structure.proofs.Hearing.{text-noise, noise-text, known-target}
-use Rattle.structure.proofs.Answers.{said-true, said-false}
 use Rattle.structure.specs.Points.{Loud}
 use Rattle.rows.proofs.Shape.{rep-le}
+use Rattle.rows.proofs.Answers.{said-true, said-false}
 use Prim.Native.Nat.{ℕ, _-_, _≤_, _<_}
 use mathlib.Core.Path.{_≡_}
 use native.Mathlib.Decide.{decLt}

@@ -1,6 +1,6 @@
 use Rattle.structure.proofs.Hearing.{Quiet, quiet-none, quiet-more, heard-allowed, text-heard, heard-text, known-target}
-use Rattle.structure.proofs.Answers.{said-true, said-false}
 use Rattle.rows.proofs.Shape.{rep-le}
+use Rattle.rows.proofs.Answers.{said-true, said-false}
 use Prim.Native.Nat.{_-_, _≤_}
 use mathlib.Core.Path.{_≡_}
 use borrow.Author.Tests.{not-true, not-false}

@@ -1,5 +1,5 @@
+use Rattle.rows.proofs.Answers.{said-true, said-false, same-answer}
 use Rattle.structure.proofs.Deciding.{sound-leaf, sound-call, sound-loop, sound-if}
-use Rattle.structure.proofs.Answers.{said-true, said-false, same-answer}
 use borrow.Author.Tests.{not-true, not-false}
 use mathlib.Core.Path.{_∙_, sym}
 use native.Mathlib.Omega.{arith}

@@ -1,6 +1,6 @@
-use Rattle.structure.proofs.Answers.{said-true, said-false}
 use borrow.Author.Tests.{not-true, not-false}
 use borrow.Author.Needs.{needs}
+use Rattle.rows.proofs.Answers.{said-true, said-false}
 use Rattle.structure.proofs.structured.Statement.{statement}
 use Rattle.structure.proofs.structured.Tie as tie
 

@@ -3,17 +3,19 @@ use mathlib.Core.Path.{_≡_, refl}
 use mathlib.Core.Bool.{Bool, true, false}
 use Prim.Native.Nat.{ℕ}
 use native.Mathlib.Omega.{arith}
-use Rattle.structure.specs.Answers.{Says}
+use Rattle.rows.specs.Answers.{Says}
 
--- An answer's claim, from what each answer means.
+-- An answer says its claim, from what each answer means.
 pub says : {A : Type 0} (b : Bool) → (b ≡ true → A) → (b ≡ false → A → ⊥) → Says b A
 says true t f = t refl
 says false t f = f refl
 
+-- What a yes said.
 pub said-true : {A : Type 0} (b : Bool) → b ≡ true → Says b A → A
 said-true true e h = h
 said-true false e h = let z : _≡_ {A = ℕ} 0 1 = cc in absurd (omega arith)
 
+-- What a no said.
 pub said-false : {A : Type 0} (b : Bool) → b ≡ false → Says b A → A → ⊥
 said-false true e h = let z : _≡_ {A = ℕ} 0 1 = cc in absurd (omega arith)
 said-false false e h = h

@@ -1,0 +1,47 @@
+-- `control::arrive` meets its contract. Assumes nothing.
+use mathlib.Core.Path.{_≡_}
+use lib.ListN.{length}
+use Rattle.control.proofs.Reporting.{clocked-here, new-times, arrived}
+use borrow.Author.Needs.{needs}
+use Rattle.control.proofs.arrive.Statement.{statement}
+use Rattle.control.proofs.arrive.Tie as tie
+
+-- Arrays of the state, of the place and of the new times have 33 numbers.
+leaves-33 : (c : tie.Start) → length (c .args .state .leaves) ≡ 33
+leaves-33 c = search needs
+
+earlier-33 : (c : tie.Start) → length (c .args .state .earlier) ≡ 33
+earlier-33 c = search needs
+
+place-33 : (c : tie.Start) → length (c .args .place .leaves) ≡ 33
+place-33 c = search needs
+
+visits-33 : (c : tie.Start) → length (c .args .place .earlier) ≡ 33
+visits-33 c = search needs
+
+times-33 : (c : tie.After-next-times) → length (c .next-times .result) ≡ 33
+times-33 c = search needs
+
+next-times-requires : tie.Need-next-times-requires
+next-times-requires c κs = let k = c .before .before .before .before .before .before .pre in ((k .new .least, k .new .most), clocked-here k)
+
+mul-remaining : tie.Need-mul-remaining
+mul-remaining c = search needs
+
+array-read-remaining : tie.Need-array-read-remaining
+array-read-remaining c = search needs
+
+weigh-requires : tie.Need-weigh-requires
+weigh-requires c κs = search needs
+
+returns : tie.Need-returns
+returns c = λ k.
+    let s = c .before .before .before .before .before .before .before .before .before .before in
+    let t = c .before .before .before .next-times in
+    arrived k (place-33 s) (visits-33 s) (leaves-33 s) (earlier-33 s) (t .result) (s .args .reading) (new-times k (t .result) (times-33 (c .before .before .before)) (t .ensures))
+    (c .before .before .weigh .result) (c .before .before .weigh .ensures (k .lent .rowed .head))
+
+pub arrive-spec : {M : Type 1} → statement M
+arrive-spec =
+    tie.close
+    (tie.spec next-times-requires mul-remaining array-read-remaining weigh-requires returns)

@@ -1,0 +1,96 @@
+-- Lent slices that hold the table of an accepted plan, and what the private functions promise on them. Nothing of this stands in the contracts of
+-- `release` and `report`.
+-- Assumes nothing: these are definitions.
+use mathlib.Core.Path.{_≡_}
+use mathlib.Core.Bool.{Bool, true}
+use mathlib.Core.List.{List, _∷_}
+use mathlib.Core.Option.{some}
+use Prim.Native.Nat.{ℕ}
+use lib.IntN.{ℤ, subℕ}
+use lib.ListN.{replicate}
+use Rattle.model.specs.Plan.{Plan}
+use Rattle.model.specs.Forms.{main}
+use Rattle.model.specs.Stretch.{stretch}
+use Rattle.model.specs.Condition.{held}
+use Rattle.model.specs.Acceptance.{Accepted}
+use Rattle.model.specs.Stack.{Levels}
+use Rattle.reader.specs.Records.{row-of}
+use Rattle.place.specs.Stack.{Stacked}
+use Rattle.place.specs.declared.Place.{Place}
+use Rattle.table.specs.declared.Head.{Head}
+use Rattle.table.specs.Table.{table-of, head-of}
+use Rattle.control.specs.declared.State.{State}
+use Rattle.control.specs.declared.Weighing.{Weighing}
+use Rattle.control.specs.State.{standing}
+use Rattle.control.specs.Calls.{decision, suspended-after, next-levels}
+use Rattle.control.specs.Answers.{answer-of}
+
+-- A margin: what D leaves of what is weighed against it, held at −2^62.
+abbrev pub weighed : ℕ → ℕ → ℤ
+weighed deadline need = held (subℕ deadline need)
+
+-- The state that an accepted release leaves, where `total` remains.
+abbrev pub opened : ℕ → Bool → State
+opened total suspended = record {
+  running = true;
+  suspended = suspended;
+  reading = 0;
+  level = 0;
+  leaves = replicate 33 0;
+  earlier = replicate 33 0;
+  times = total ∷ replicate 32 0;
+}
+
+-- The head is that of an accepted plan.
+pub record Headed (h : Head) : Type 0 where
+  pub plan : Plan
+  pub accepted : Accepted plan
+  pub is : h ≡ head-of plan
+
+-- A decision of this plan: its answer, and whether the others are suspended then.
+pub record Decides (p : Plan) (remaining str reading : ℕ) (suspended : Bool) (w : Weighing) : Type 0 where
+  pub answer : w .answer ≡ answer-of (decision p remaining str reading suspended)
+  pub suspended-then : w .suspended ≡ suspended-after p remaining str reading suspended
+
+-- The row is that of this plan.
+pub record Rowed (row : List ℕ) (h : Head) : Type 0 where
+  pub head : Headed h
+  pub row-is : row ≡ row-of (head .plan)
+
+-- So are the columns of turns and tails.
+pub record Lent (row turns tails : List ℕ) (h : Head) : Type 0 where
+  pub rowed : Rowed row h
+  pub turns-are : turns ≡ table-of (rowed .head .plan) .turns
+  pub tails-are : tails ≡ table-of (rowed .head .plan) .tails
+
+-- And so is the column of stretches.
+pub record Whole (row turns tails stretches : List ℕ) (h : Head) : Type 0 where
+  pub lent : Lent row turns tails h
+  pub stretches-are : stretches ≡ table-of (lent .rowed .head .plan) .stretches
+
+-- Where a running state stands, as crate `place` has it.
+abbrev pub spot : State → Place
+spot s = record { level = s .level; leaves = s .leaves; earlier = s .earlier }
+
+-- The running state is good: it stands at some levels of the plan (01, refusal 11).
+abbrev pub Stands : Plan → State → Type 0
+Stands p s = (ls : Levels) × (standing p s ≡ some ls)
+
+-- A running state that is good, on a row.
+pub record Open (row : List ℕ) (h : Head) (s : State) : Type 0 where
+  pub rowed : Rowed row h
+  pub stands : Stands (rowed .head .plan) s
+
+-- The same on a whole table.
+pub record Running (row turns tails stretches : List ℕ) (h : Head) (s : State) : Type 0 where
+  pub whole : Whole row turns tails stretches h
+  pub stands : Stands (whole .lent .rowed .head .plan) s
+
+-- A good state that comes to the point next: x is its place then, and str the point's stretch.
+pub record Arriving (row turns tails : List ℕ) (h : Head) (s : State) (x : Place) (str : ℕ) : Type 0 where
+  pub lent : Lent row turns tails h
+  pub levels : Levels
+  pub stands : standing (lent .rowed .head .plan) s ≡ some levels
+  pub point : ℕ
+  pub new : Stacked row (main (lent .rowed .head .plan)) (next-levels (lent .rowed .head .plan) levels point) (s .leaves) (s .earlier) point (x .leaves) (x .earlier) (x .level)
+  pub stretch-is : str ≡ stretch point (main (lent .rowed .head .plan)) 0

@@ -1,0 +1,127 @@
+-- `control_cases::play` stays inside its memory and ends. Assumes nothing.
+use mathlib.Core.Path.{sym, ap, _∙_}
+use Prim.Native.Nat.{ℕ, _-_, _≤_}
+use native.Mathlib.Omega.{arith}
+use borrow.Author.Needs.{needs}
+use lib.ListN.{length, replicate, length-replicate}
+use Rattle.table.specs.Reading.{verdict}
+use Rattle.table.proofs.Written.{stored-long}
+use Rattle.control_cases.proofs.play.Statement.{statement}
+use Rattle.control_cases.proofs.play.Tie as tie
+
+abbrev Inv-loop : tie.InvT-loop
+Inv-loop text calls row turns tails stretches head state₀ k₀ state k = k ≤ 7
+
+abbrev μ-loop : tie.MeasureT-loop
+μ-loop text calls row turns tails stretches head state₀ k₀ state k = 7 - k
+
+no-head-requires : tie.Need-no-head-requires Inv-loop μ-loop
+no-head-requires c κs = search needs
+
+read-requires : tie.Need-read-requires Inv-loop μ-loop
+read-requires c κs = search needs
+
+fresh-requires : tie.Need-fresh-requires Inv-loop μ-loop
+fresh-requires c κs = search needs
+
+loop-holds : tie.Need-loop-holds Inv-loop μ-loop
+loop-holds c = omega arith
+
+mul-i : tie.Need-mul-i Inv-loop μ-loop
+mul-i c = omega arith
+
+add-if1 : tie.Need-add-if1 Inv-loop μ-loop
+add-if1 c = omega arith
+
+slice-aggregate-call : tie.Need-slice-aggregate-call Inv-loop μ-loop
+slice-aggregate-call c =
+    let a = c .before .before .before .before .before .before .before .before .before .before .before .before .before .before .args in
+    sym (ap length (c .before .before .before .before .before .before .read .ensures .1 .0) ∙ (stored-long (verdict 512 (a .text .now)) (λ t. t .row) (replicate 4096 0) ∙ length-replicate {A = ℕ} 4096 0))
+
+slice-aggregate-call-2 : tie.Need-slice-aggregate-call-2 Inv-loop μ-loop
+slice-aggregate-call-2 c =
+    let a = c .before .before .before .before .before .before .before .before .before .before .before .before .before .before .before .args in
+    sym (ap length (c .before .before .before .before .before .before .before .read .ensures .1 .1 .0) ∙ (stored-long (verdict 512 (a .text .now)) (λ t. t .turns) (replicate 512 0) ∙ length-replicate {A = ℕ} 512 0))
+
+slice-aggregate-call-3 : tie.Need-slice-aggregate-call-3 Inv-loop μ-loop
+slice-aggregate-call-3 c =
+    let a = c .before .before .before .before .before .before .before .before .before .before .before .before .before .before .before .before .args in
+    sym (ap length (c .before .before .before .before .before .before .before .before .read .ensures .1 .1 .1 .0) ∙ (stored-long (verdict 512 (a .text .now)) (λ t. t .tails) (replicate 512 0) ∙ length-replicate {A = ℕ} 512 0))
+
+slice-aggregate-call-4 : tie.Need-slice-aggregate-call-4 Inv-loop μ-loop
+slice-aggregate-call-4 c =
+    let a = c .before .before .before .before .before .before .before .before .before .before .before .before .before .before .before .before .before .args in
+    sym (ap length (c .before .before .before .before .before .before .before .before .before .read .ensures .1 .1 .1 .1) ∙ (stored-long (verdict 512 (a .text .now)) (λ t. t .stretches) (replicate 512 0) ∙ length-replicate {A = ℕ} 512 0))
+
+mul-call : tie.Need-mul-call Inv-loop μ-loop
+mul-call c = omega arith
+
+shared-slice-read-call : tie.Need-shared-slice-read-call Inv-loop μ-loop
+shared-slice-read-call c = omega arith
+
+add-call : tie.Need-add-call Inv-loop μ-loop
+add-call c = omega arith
+
+mul-call-2 : tie.Need-mul-call-2 Inv-loop μ-loop
+mul-call-2 c = omega arith
+
+shared-slice-read-call-2 : tie.Need-shared-slice-read-call-2 Inv-loop μ-loop
+shared-slice-read-call-2 c = omega arith
+
+add-call-2 : tie.Need-add-call-2 Inv-loop μ-loop
+add-call-2 c = omega arith
+
+mul-call-3 : tie.Need-mul-call-3 Inv-loop μ-loop
+mul-call-3 c = omega arith
+
+shared-slice-read-call-3 : tie.Need-shared-slice-read-call-3 Inv-loop μ-loop
+shared-slice-read-call-3 c = omega arith
+
+call-requires : tie.Need-call-requires Inv-loop μ-loop
+call-requires c κs = search needs
+
+show-requires : tie.Need-show-requires Inv-loop μ-loop
+show-requires c κs = search needs
+
+add-k : tie.Need-add-k Inv-loop μ-loop
+add-k c = omega arith
+
+loop-less : tie.Need-loop-less Inv-loop μ-loop
+loop-less c = omega arith
+
+loop-again : tie.Need-loop-again Inv-loop μ-loop
+loop-again c = omega arith
+
+returns : tie.Need-returns Inv-loop μ-loop
+returns c = search needs
+
+pub play-spec : {M : Type 1} → statement M
+play-spec =
+    tie.close
+    (tie.spec
+    Inv-loop
+    μ-loop
+    no-head-requires
+    read-requires
+    fresh-requires
+    loop-holds
+    mul-i
+    add-if1
+    slice-aggregate-call
+    slice-aggregate-call-2
+    slice-aggregate-call-3
+    slice-aggregate-call-4
+    mul-call
+    shared-slice-read-call
+    add-call
+    mul-call-2
+    shared-slice-read-call-2
+    add-call-2
+    mul-call-3
+    shared-slice-read-call-3
+    call-requires
+    show-requires
+    add-k
+    loop-less
+    loop-again
+    returns)

@@ -1,0 +1,209 @@
+// Plays the marked cases m1 to m12 of document 01 and prints each answer as the document has it. What must be printed is worked out by hand beside each
+// list of calls, and stands in the file stdout.
+use control::Answer;
+use control::State;
+use control::Step;
+use control::end;
+use control::fresh;
+use control::release;
+use control::report;
+use libc::STDOUT_FILENO;
+use print::Ending;
+use print::Word;
+use print::decision_line;
+use print::end_line;
+use print::refused_call_line;
+use table::Head;
+use table::no_head;
+use table::read;
+
+// The most leaves.
+const LEAVES: usize = 512;
+
+// A call in a list is three numbers: its kind (0 release, 1 report, 2 end), the point, and the reading.
+const RELEASE: u64 = 0;
+
+const REPORT: u64 = 1;
+
+// The most calls of a list.
+const CALLS: usize = 7;
+
+// Prints the answer of a decision.
+fn show_decision(word: Word, remaining: u64, margin: i64, late: bool) {
+    let mut out = [0; 128];
+    let size = decision_line(&mut out, word, remaining, margin, late);
+    io::write_all(STDOUT_FILENO, &out[..size]);
+}
+
+// Prints the answer of an end.
+fn show_end(ending: Ending, late: bool) {
+    let mut out = [0; 128];
+    let size = end_line(&mut out, ending, late);
+    io::write_all(STDOUT_FILENO, &out[..size]);
+}
+
+// Prints a refusal.
+fn show_refusal(number: u64) {
+    let mut out = [0; 128];
+    let size = refused_call_line(&mut out, number);
+    io::write_all(STDOUT_FILENO, &out[..size]);
+}
+
+// Prints an answer.
+fn show(answer: Answer) {
+    match answer {
+        Answer::Refused(number) => show_refusal(number),
+        Answer::Go(r, m, late) => show_decision(Word::Go, r, m, late),
+        Answer::Suspend(r, m, late) => show_decision(Word::Suspend, r, m, late),
+        Answer::Stay(r, m, late) => show_decision(Word::Stay, r, m, late),
+        Answer::Resume(late) => show_end(Ending::Resume, late),
+        Answer::Ended(late) => show_end(Ending::Ended, late),
+    }
+}
+
+// One call on a table.
+fn call(
+    row: &[u64],
+    turns: &[u64],
+    tails: &[u64],
+    stretches: &[u64],
+    head: Head,
+    state: State,
+    kind: u64,
+    point: u64,
+    reading: u64,
+) -> Step {
+    if kind == RELEASE {
+        return release(row, turns, tails, stretches, head, state);
+    }
+    if kind == REPORT {
+        return report(row, turns, tails, stretches, head, state, point, reading);
+    }
+    end(row, turns, tails, stretches, head, state, reading)
+}
+
+// Reads a plan, plays a list of at most seven calls on its table from a fresh state, and prints the answers.
+fn play(text: &[u8], calls: &[u64]) {
+    let mut row = [0; 4096];
+    let mut turns = [0; LEAVES];
+    let mut tails = [0; LEAVES];
+    let mut stretches = [0; LEAVES];
+    let verdict = read(
+        text,
+        LEAVES,
+        &mut row,
+        &mut turns,
+        &mut tails,
+        &mut stretches,
+        no_head(),
+    );
+    let head = verdict.head;
+    let mut state = fresh();
+    for k in 0..CALLS {
+        let i = k * 3;
+        if i + 2 < calls.len() {
+            let step = call(
+                &row,
+                &turns,
+                &tails,
+                &stretches,
+                head,
+                state,
+                calls[i],
+                calls[i + 1],
+                calls[i + 2],
+            );
+            let answer = step.answer;
+            show(answer);
+            state = step.state;
+        }
+    }
+}
+
+// Plan A: D 100, T 4; stretches 0 (release), 9 and 24. The margin is 100 less reading, remaining, stretch and 4.
+fn plan_a(calls: &[u64]) {
+    play(
+        b"(task 100 4\n(fun\n(leaf p 5 9)\n(loop p 3 2 4\n(leaf s 10 20)\n)\n(leaf s 6 8)\n)\n)\n",
+        calls,
+    );
+}
+
+// Plan B: D 200, T 5; stretches 0 (release), 4, 13, 2 and 2 of the points 0, 1, 2 and 4.
+fn plan_b(calls: &[u64]) {
+    play(
+        b"(task 200 5\n(fun\n(leaf p 3 4)\n)\n(fun\n(if p 2 3\n(then\n(call p 0 1 2)\n)\n(else\n(leaf s 9 10)\n)\n)\n(call p 0 1 2)\n)\n)\n",
+        calls,
+    );
+}
+
+fn main() {
+    // m1, m4 and the first half of m5: go 49 47, go 49 38, go 44 19, go 32 7, go 20 2, go 8 0; a fifth visit is 17.
+    plan_a(
+        &[
+            0,
+            0,
+            0,
+            1,
+            0,
+            0,
+            1,
+            1,
+            9,
+            1,
+            1,
+            33,
+            1,
+            1,
+            50,
+            1,
+            1,
+            64,
+            1,
+            1,
+            64,
+        ],
+    );
+    // m2: at 28 go 44 0.
+    plan_a(&[0, 0, 0, 1, 0, 0, 1, 1, 28]);
+    // And at 29 suspend 44 -1.
+    plan_a(&[0, 0, 0, 1, 0, 0, 1, 1, 29]);
+    // m3: visit 3 at 57 gives suspend 20 -5, visit 4 at 73 stay 8 -9, and the end at 81 resumes.
+    plan_a(
+        &[
+            0,
+            0,
+            0,
+            1,
+            0,
+            0,
+            1,
+            1,
+            9,
+            1,
+            1,
+            33,
+            1,
+            1,
+            57,
+            1,
+            1,
+            73,
+            2,
+            0,
+            81,
+        ],
+    );
+    // m5: visit 4 at 65 gives suspend 8 -1.
+    plan_a(&[0, 0, 0, 1, 0, 0, 1, 1, 9, 1, 1, 33, 1, 1, 50, 1, 1, 65]);
+    // m6 to m9: go 15 180, go 15 167, go 4 189, go 3 188, ended.
+    plan_b(&[0, 0, 0, 1, 1, 0, 1, 4, 0, 1, 0, 0, 2, 0, 9]);
+    // m8 and m9: go 15 180, go 15 167, then point 0 is 17, then go 8 185 and go 7 184.
+    plan_b(&[0, 0, 0, 1, 1, 0, 1, 0, 0, 1, 2, 0, 1, 0, 0]);
+    // m10: D 9 is 13.
+    play(b"(task 9 3\n(fun\n(leaf s 7 9)\n)\n)\n", &[0, 0, 0]);
+    // m11: D 10 gives suspend 7 -9, and D 18 suspend 7 -1.
+    play(b"(task 10 3\n(fun\n(leaf s 7 9)\n)\n)\n", &[0, 0, 0]);
+    play(b"(task 18 3\n(fun\n(leaf s 7 9)\n)\n)\n", &[0, 0, 0]);
+    // m12: D 19 gives go 7 0.
+    play(b"(task 19 3\n(fun\n(leaf s 7 9)\n)\n)\n", &[0, 0, 0]);
+}

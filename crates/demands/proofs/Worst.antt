@@ -1,0 +1,116 @@
+-- The worst case of plan A: a timed run in which every visit takes the most ticks that it may, and the switch too. Its answers are those of the marked
+-- case m3.
+use mathlib.Core.Bool.{Bool, true, false}
+use mathlib.Core.List.{List, [], _∷_, map}
+use mathlib.Core.Path.{_≡_, refl, ap, sym, subst}
+use Prim.Native.Nat.{ℕ, _+_, _≤_}
+use native.Mathlib.Omega.{arith}
+use Rattle.model.specs.Plan.{Block, Plan}
+use Rattle.model.specs.Forms.{forms, linked, last, main}
+use Rattle.model.specs.Runs.{Run, ends, visit, leave, turn, visits}
+use Rattle.model.specs.Calls.{Call, release, report, end, Answer, others-after, clock-after}
+use Rattle.model.specs.Timed.{Phase, opened, closed, Open, cost, passed-point, passed-silent, CallList, stops, releases, silent-visit, point-visit}
+use Rattle.model.specs.Timed as timed
+use Rattle.model.specs.Worked.{plan-A, point-block, silent-block}
+use Rattle.model.proofs.Worked.{plan-A-accepted}
+use Rattle.text.specs.Spelling.{decimal, numerals, spell}
+use Rattle.reader.specs.Machine.{plan}
+use Rattle.reader.specs.Print as printed
+use Rattle.reader.specs.Print.{forms-all, forms-of, join-all, print}
+use Rattle.table.specs.Table.{Table, table-of}
+use Rattle.table.specs.Reading.{verdict}
+use Rattle.table.proofs.Theorems as table
+use Rattle.control.specs.declared.State.{State}
+use Rattle.control.specs.State.{fresh}
+use Rattle.control.specs.Calls.{call-on, controller-of}
+use Rattle.control.specs.Cases.{answers, cases, AllRight}
+use Rattle.control.proofs.Cases.{cases-right}
+use Rattle.demands.specs.Lists.{Exchange, _gets_, exchanges, text-A, worst-of-A}
+use Rattle.demands.specs.Rules.{TableOf}
+
+module _ (p : Plan) (t : Table) where
+  -- A list of calls on the table from a state on, with these exchanges.
+  abbrev Played : State → Bool → Phase → List Exchange → Type 0
+  Played s others phase xs = (z : CallList p (controller-of t) s others phase) × (exchanges p (controller-of t) z ≡ xs)
+
+  -- The calls of these exchanges, made from a state on, have these answers.
+  abbrev Answered : State → List Exchange → Type 0
+  Answered s xs = answers t s (map (λ x. x .call) xs) ≡ map (λ x. x .answer) xs
+
+  -- The first answer, and those behind it.
+  first-answer : (s : State) (c : Call) (a : Answer) (xs : List Exchange) → Answered s ((c gets a) ∷ xs) → (call-on t s c .answer ≡ a) × Answered (call-on t s c .state) xs
+  unfolding answers
+  first-answer s c a xs e = (cc, cc)
+
+  -- Lists that begin with a release, a silent visit, a point's visit and an end, where the answers are known.
+  release-played : {s : State} {others : Bool} {a : Answer} {xs : List Exchange} (r : Run (main p)) (switch : ℕ) → switch ≤ p .switch →
+      Answered s ((release gets a) ∷ xs) →
+      (Answered (call-on t s release .state) xs →
+      Played (call-on t s release .state) (others-after a others) (opened (timed.released (clock-after a switch 0) (visits r))) xs) →
+      Played s others closed ((release gets a) ∷ xs)
+  unfolding exchanges
+  release-played {s} {others} {a} {xs} r switch q e f =
+      let (i, j) = first-answer s release a xs e in
+      subst (λ y. Played (call-on t s release .state) (others-after y others) (opened (timed.released (clock-after y switch 0) (visits r))) xs → Played s others closed ((release gets y) ∷ xs)) i
+      (λ (z, w). (releases r switch q z, ap (λ l. (release gets call-on t s release .answer) ∷ l) w)) (f j)
+
+  silent-played : {s : State} {others : Bool} {o : Open} {xs : List Exchange} (b : Block) (w : List Block) (ticks : ℕ) → o .to-come ≡ b ∷ w → b .point ≡ false →
+      ticks ≤ cost others b → Played s others (opened (passed-silent o w ticks)) xs → Played s others (opened o) xs
+  unfolding exchanges
+  silent-played b w ticks d q h (z, i) = (silent-visit b w ticks d q h z, i)
+
+  point-played : {s : State} {others : Bool} {o : Open} {a : Answer} {xs : List Exchange} (b : Block) (w : List Block) (switch ticks : ℕ) →
+      o .to-come ≡ b ∷ w → b .point ≡ true → switch ≤ p .switch → Answered s ((report (b .number) (o .clock) gets a) ∷ xs) → ticks ≤ cost (others-after a others) b →
+      (Answered (call-on t s (report (b .number) (o .clock)) .state) xs →
+      Played (call-on t s (report (b .number) (o .clock)) .state) (others-after a others) (opened (passed-point o (b .number) w (clock-after a switch (o .clock) + ticks))) xs) →
+      Played s others (opened o) ((report (b .number) (o .clock) gets a) ∷ xs)
+  unfolding exchanges
+  point-played {s} {others} {o} {a} {xs} b w switch ticks d q h e l f =
+      let c = report (b .number) (o .clock) in
+      let (i, j) = first-answer s c a xs e in
+      subst (λ y. ticks ≤ cost (others-after y others) b → Played (call-on t s c .state) (others-after y others) (opened (passed-point o (b .number) w (clock-after y switch (o .clock) + ticks))) xs → Played s others (opened o) ((c gets y) ∷ xs)) i
+      (λ l (z, v). (point-visit b w switch ticks d q h l z, ap (λ k. (c gets call-on t s c .answer) ∷ k) v)) l (f j)
+
+  end-played : {s : State} {others : Bool} {o : Open} {a : Answer} → o .to-come ≡ [] → Answered s ((end (o .clock) gets a) ∷ []) →
+      Played s others (opened o) ((end (o .clock) gets a) ∷ [])
+  unfolding exchanges
+  end-played {s} {others} {o} {a} d e = (timed.ends d stops, ap (λ y. (end (o .clock) gets y) ∷ []) (first-answer s (end (o .clock)) a [] e .0))
+
+-- Plan A's longest run: three rounds of the loop.
+run-A : Run (main plan-A)
+unfolding plan-A forms linked last
+run-A = visit (turn (visit ends) (turn (visit ends) (turn (visit ends) (leave (visit ends)))))
+
+-- The list of calls that it makes, where the calls have these answers.
+played-A : (t : Table) → Answered plan-A t fresh worst-of-A → Played plan-A t fresh true closed worst-of-A
+unfolding run-A worst-of-A plan-A forms linked last visits
+played-A t e =
+    release-played plan-A t run-A 0 (omega arith) e (λ e.
+    point-played plan-A t (point-block 0 5 9) _ 0 9 refl refl (omega arith) e (omega arith) (λ e.
+    point-played plan-A t (point-block 1 2 4) _ 0 4 refl refl (omega arith) e (omega arith) (λ e.
+    silent-played plan-A t (silent-block 2 10 20) _ 20 refl refl (omega arith) (
+    point-played plan-A t (point-block 1 2 4) _ 0 4 refl refl (omega arith) e (omega arith) (λ e.
+    silent-played plan-A t (silent-block 2 10 20) _ 20 refl refl (omega arith) (
+    point-played plan-A t (point-block 1 2 4) _ 4 2 refl refl (omega arith) e (omega arith) (λ e.
+    silent-played plan-A t (silent-block 2 10 20) _ 10 refl refl (omega arith) (
+    point-played plan-A t (point-block 1 2 4) _ 0 2 refl refl (omega arith) e (omega arith) (λ e.
+    silent-played plan-A t (silent-block 3 6 8) _ 6 refl refl (omega arith) (
+    end-played plan-A t refl e))))))))))
+
+-- The answers are those of m3.
+answers-A : Answered plan-A (table-of plan-A) fresh worst-of-A
+unfolding worst-of-A cases AllRight
+answers-A = cases-right .1 .1 .1 .0 .right
+
+-- On every table of plan A there is a list of calls with these exchanges.
+pub worst-A : (t : Table) → TableOf plan-A t → Played plan-A t fresh true closed worst-of-A
+worst-A t o = subst (λ x. Played plan-A x fresh true closed worst-of-A) (sym (o .table-is)) (played-A (table-of plan-A) answers-A)
+
+-- The text of plan A is the one that plan A is printed as.
+print-A : text-A ≡ print plan-A
+unfolding text-A plan-A print forms-of forms-all printed.forms join-all spell decimal numerals
+print-A = refl
+
+-- So it is read as plan A.
+pub read-A : verdict 512 text-A ≡ plan plan-A
+read-A = table.read-as-plan 512 text-A plan-A .1 (print-A, plan-A-accepted, plan-A-accepted .formed .few-leaves)

@@ -1,0 +1,4 @@
+pub mod Memory
+pub mod Rules
+pub mod Decisions
+pub mod Lists

@@ -1,0 +1,181 @@
+//! The built table program against the reference: for every text on standard
+//! input it writes the reference's listing or refusal, byte for byte, nothing
+//! else, and ends well. The examples have listings worked out by hand.
+
+use std::io::{Read, Write};
+use std::path::{Path, PathBuf};
+use std::process::{Command, Stdio};
+use std::time::Duration;
+
+use reference::aimed;
+use reference::count::Count;
+use reference::damage;
+use reference::gen::{self, Random};
+use reference::numbers::printed;
+use reference::plan::{self, MOST_BYTES};
+
+/// What a program wrote, and whether it ended well.
+#[derive(PartialEq, Eq)]
+struct Ended {
+    output: Vec<u8>,
+    errors: Vec<u8>,
+    well: bool,
+}
+
+struct Programs {
+    program: PathBuf,
+    count: Count,
+    /// How often each refusal was wanted; the first is for accepted texts.
+    met: [usize; 11],
+}
+
+/// Runs the program on a text that is handed over in pieces of this size.
+fn run(program: &Path, text: &[u8], piece: usize) -> std::io::Result<Ended> {
+    let mut child = Command::new(program)
+        .stdin(Stdio::piped())
+        .stdout(Stdio::piped())
+        .stderr(Stdio::piped())
+        .spawn()?;
+    let mut input = child.stdin.take().expect("its input is a pipe");
+    let text = text.to_vec();
+    let writer = std::thread::spawn(move || {
+        for part in text.chunks(piece) {
+            // A program that has read enough may have ended.
+            if input.write_all(part).and_then(|()| input.flush()).is_err() {
+                return;
+            }
+            if piece < text.len() {
+                std::thread::sleep(Duration::from_millis(2));
+            }
+        }
+    });
+    let mut output = Vec::new();
+    let mut pipe = child.stdout.take().expect("its output is a pipe");
+    pipe.read_to_end(&mut output)?;
+    let rest = child.wait_with_output()?;
+    writer.join().expect("the writer ends");
+    Ok(Ended {
+        output,
+        errors: rest.stderr,
+        well: rest.status.success(),
+    })
+}
+
+impl Programs {
+    /// Compares what is written for a text with what is to be written.
+    fn writes(&mut self, group: &str, text: &[u8], piece: usize, wanted: &[u8]) {
+        let wanted = Ended {
+            output: wanted.to_vec(),
+            errors: Vec::new(),
+            well: true,
+        };
+        let failure = match run(&self.program, text, piece) {
+            Err(error) => Some(format!("{group}: not run: {error}")),
+            Ok(found) if found == wanted => None,
+            Ok(found) => Some(format!(
+                "{group}: found {:?} (errors {:?}, well {}), wanted {:?}",
+                String::from_utf8_lossy(&found.output),
+                String::from_utf8_lossy(&found.errors),
+                found.well,
+                String::from_utf8_lossy(&wanted.output)
+            )),
+        };
+        self.count.note(failure, || text.to_vec());
+    }
+
+    fn text(&mut self, group: &str, text: &[u8]) {
+        let refusal = plan::read(text, 512).err();
+        self.met[refusal.map_or(0, |refusal| refusal.0 as usize)] += 1;
+        let wanted = printed(text);
+        self.writes(group, text, text.len().max(1), wanted.as_bytes());
+    }
+}
+
+/// Each plan of a folder with the listing beside it.
+fn examples(programs: &mut Programs, folder: &Path) -> std::io::Result<usize> {
+    let mut count = 0;
+    for entry in std::fs::read_dir(folder)? {
+        let file = entry?.path();
+        if file.extension().is_some_and(|kind| kind == "plan") {
+            let text = std::fs::read(&file)?;
+            let listing = std::fs::read(file.with_extension("listing"))?;
+            let group = file.display().to_string();
+            programs.writes(&group, &text, text.len(), &listing);
+            let same = printed(&text).as_bytes() == listing;
+            let what = format!("{group} has the reference's listing");
+            programs.count.holds(same, &what);
+            count += 1;
+        }
+    }
+    Ok(count)
+}
+
+/// Inputs of every length around the largest, whole and in pieces.
+fn lengths(programs: &mut Programs) {
+    programs.text("no input", b"");
+    let plan = aimed::EVERY_FORM.as_bytes();
+    for length in [1, plan.len() - 1, plan.len(), 4_096, 65_535] {
+        let mut text = plan.to_vec();
+        text.resize(length, b'\n');
+        programs.text("an input of another length", &text);
+    }
+    for length in [MOST_BYTES, MOST_BYTES + 1, MOST_BYTES + 2, 1 << 20] {
+        for fill in [b'\n', b' ', b')', 0] {
+            let mut text = plan.to_vec();
+            text.resize(length, fill);
+            programs.text("an input around the largest", &text);
+            programs.text("an input of one byte", &vec![fill; length]);
+        }
+    }
+    for piece in [1, 7, 50] {
+        programs.writes("in pieces", plan, piece, printed(plan).as_bytes());
+    }
+    for (length, piece) in [(MOST_BYTES, 4_096), (MOST_BYTES + 1, 5_000)] {
+        let mut text = plan.to_vec();
+        text.resize(length, b' ');
+        programs.writes("in pieces", &text, piece, printed(&text).as_bytes());
+    }
+}
+
+fn texts(programs: &mut Programs) {
+    for case in aimed::cases() {
+        programs.text(&case.name, &case.text);
+    }
+    let mut random = Random::new(81);
+    for round in 0..400 {
+        let shape = match round % 8 {
+            0 => gen::large_shape(&mut random),
+            _ => gen::small_shape(&mut random),
+        };
+        let valid = plan::text(&gen::valid_plan(&mut random, shape));
+        programs.text("a valid plan", &valid);
+        let loose = plan::text(&gen::loose_plan(&mut random, shape));
+        programs.text("a plan that may break 7 to 10", &loose);
+        let changed = damage::damaged(&mut random, &valid);
+        programs.text("a damaged text", &changed);
+    }
+}
+
+/// The first two words are the program and the folder of the examples.
+fn main() {
+    let mut words = std::env::args().skip(1);
+    let mut path = || PathBuf::from(words.next().expect("a path for the program or the plans"));
+    let (program, plans) = (path(), path());
+    let mut programs = Programs {
+        program,
+        count: Count::new(words),
+        met: [0; 11],
+    };
+    let found = examples(&mut programs, &plans);
+    let what = format!("examples: {found:?}");
+    programs
+        .count
+        .holds(found.is_ok_and(|count| count > 0), &what);
+    lengths(&mut programs);
+    texts(&mut programs);
+    println!("texts accepted and refused by 1 to 10: {:?}", programs.met);
+    // A rule that no text meets would be a rule that was not compared.
+    let met = programs.met.iter().all(|&count| count > 0);
+    programs.count.holds(met, "each answer is met");
+    programs.count.finish();
+}
