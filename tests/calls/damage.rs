@@ -9,7 +9,6 @@ use reference::table::Table;
 use super::library::Call;
 use super::places;
 use super::state::State;
-use super::WITH_END;
 
 /// What a number is set to: one more, one less, 0, a random one, the largest,
 /// and one of those that stand in tables and states.
@@ -70,7 +69,7 @@ pub fn fitting_call(random: &mut Random, composed: &Composed, state: &State) -> 
         return Call::Release;
     };
     let points: Vec<usize> = composed.next_points(&place).into_iter().collect();
-    let ends = composed.can_end(&place) && WITH_END;
+    let ends = composed.can_end(&place);
     match (ends, points.is_empty()) {
         (true, false) if random.chance(30) => Call::End(reading),
         (true, true) => Call::End(reading),
@@ -85,7 +84,7 @@ pub fn any_call(random: &mut Random, plan: &Plan, state: &State) -> Call {
     let leaf = random.below(plan.leaves().len() as u64 + 1);
     match random.below(3) {
         0 => Call::Release,
-        1 if WITH_END => Call::End(reading),
+        1 => Call::End(reading),
         _ => Call::Report(leaf, reading),
     }
 }

@@ -8,6 +8,7 @@ use reference::table;
 use super::damage::{any_call, change_one, fitting_call, others, parts, small_plan, some_state};
 use super::deep;
 use super::law;
+#[cfg(not(face))]
 use super::library::{self, Call, Memory, SHORT, WHOLE};
 use super::state::State;
 use super::tally::Tally;
@@ -83,6 +84,7 @@ fn shorter_tables(tally: &mut Tally) {
 }
 
 /// Memory that is one number short is not touched.
+#[cfg(not(face))]
 fn short_memory(tally: &mut Tally) {
     let mut random = Random::new(91);
     let plan = small_plan(&mut random);
@@ -109,5 +111,6 @@ fn short_memory(tally: &mut Tally) {
 pub fn compare_all(tally: &mut Tally) {
     tables(tally);
     shorter_tables(tally);
+    #[cfg(not(face))]
     short_memory(tally);
 }

@@ -15,7 +15,6 @@ use super::law::{self, Reply};
 use super::library::Call;
 use super::state::{State, EARLIER, LEAVES, LEVEL, LEVELS, STATE, SUSPENDED};
 use super::tally::{Met, Tally};
-use super::WITH_END;
 
 /// Small plans whose runs are listed, the most runs of one, and calls on each.
 const PLANS: usize = 8_000;
@@ -138,21 +137,21 @@ impl<'a, N: Numbers> History<'a, N> {
         random.chance(percent)
     }
 
-    /// None where the run is left without an end.
-    fn some_call(&self, random: &mut Random) -> Option<Call> {
+    /// The next call of a history, accepted or astray.
+    fn some_call(&self, random: &mut Random) -> Call {
         if self.ends(random) {
-            return WITH_END.then(|| Call::End(self.reading(random, 0)));
+            return Call::End(self.reading(random, 0));
         }
         let releases = match self.controller.is_running() {
             true => 2,
             false => 90,
         };
         if random.chance(releases) {
-            return Some(Call::Release);
+            return Call::Release;
         }
         let point = self.point(random);
         let reading = self.reading(random, self.turning(point));
-        Some(Call::Report(point, reading))
+        Call::Report(point, reading)
     }
 
     /// What the reference's controller gives; it is moved on.
@@ -221,11 +220,7 @@ impl<'a, N: Numbers> History<'a, N> {
             if random.chance(5) {
                 self.litter(random);
             }
-            let Some(call) = self.some_call(random) else {
-                self.controller = Controller::new(self.numbers);
-                self.state = State::fresh();
-                continue;
-            };
+            let call = self.some_call(random);
             if random.chance(4) {
                 self.damage(tally, random, call);
             }
@@ -291,11 +286,7 @@ fn all_met(tally: &mut Tally) {
         "  late {}, margins held {}, 0 and -1: {:?}",
         met.late, met.held, met.edges
     );
-    let words = match WITH_END {
-        true => &met.words[..],
-        false => &met.words[..4],
-    };
-    let often = words.iter().chain(&met.refusals[11..]);
+    let often = met.words.iter().chain(&met.refusals[11..]);
     let often = often.chain(&met.edges).chain([&met.late, &met.held]);
     let enough = often.into_iter().all(|&count| count >= 1_000);
     tally.holds(enough, || "each answer is met a thousand times".to_string());

@@ -1,17 +1,13 @@
-//! Counting comparisons, and keeping what failed.
-
-use std::path::PathBuf;
+//! Comparing one call, and counting what was met.
 
 use reference::calls::{Answer, LEAST_MARGIN};
+use reference::count::Count;
 use reference::gen::Random;
 use reference::table::Table;
 
 use super::law::Reply;
 use super::library::{self, Call, Memory};
 use super::state::{State, RUNNING, SUSPENDED};
-
-/// Failures past this many are counted but neither shown nor kept.
-const SHOWN: usize = 20;
 
 /// What was to be answered, and how often, so that nothing goes untried.
 #[derive(Default)]
@@ -44,14 +40,9 @@ impl Met {
 }
 
 pub struct Tally {
-    pub passed: usize,
-    pub failed: usize,
+    pub count: Count,
     pub met: Met,
     pub random: Random,
-    /// Where calls that failed are kept.
-    folder: PathBuf,
-    /// Whether the first failure ends the test.
-    hasty: bool,
 }
 
 /// The first place where two memories part, in words.
@@ -73,35 +64,17 @@ fn difference(found: &Memory, wanted: &Memory) -> Option<String> {
 }
 
 impl Tally {
-    pub fn new(folder: PathBuf, hasty: bool) -> Tally {
+    pub fn new(count: Count) -> Tally {
         Tally {
-            passed: 0,
-            failed: 0,
+            count,
             met: Met::default(),
             random: Random::new(81),
-            folder,
-            hasty,
         }
     }
 
     /// Counts one comparison; a failure is shown, and what it was about kept.
     pub fn note(&mut self, failure: Option<String>, about: impl Fn() -> String) {
-        let Some(failure) = failure else {
-            self.passed += 1;
-            return;
-        };
-        self.failed += 1;
-        if self.failed <= SHOWN {
-            let file = self.folder.join(format!("failed-{}.txt", self.failed));
-            println!("failed: {failure}");
-            match std::fs::write(&file, about()) {
-                Ok(()) => println!("  kept in {}", file.display()),
-                Err(error) => println!("  not kept: {error}"),
-            }
-        }
-        if self.hasty {
-            self.finish();
-        }
+        self.count.note(failure, || about().into_bytes());
     }
 
     pub fn holds(&mut self, truth: bool, what: impl Fn() -> String) {
@@ -110,8 +83,8 @@ impl Tally {
     }
 
     /// Makes a call and compares the answer, every number of the state and the
-    /// numbers behind both. A number for true other than 1 may come back as it
-    /// was or as 1.
+    /// numbers behind both. Where the boundary does not keep it, a number for true
+    /// other than 1 may come back as it was or as 1.
     pub fn call(&mut self, group: &str, table: &Table, state: &State, call: Call, wanted: &Reply) {
         self.met.note(wanted.answer);
         let mut found = Memory::new(&mut self.random, state);
@@ -120,7 +93,7 @@ impl Tally {
         let numbers = call.numbers(&mut self.random);
         let code = library::call(table, &numbers, &mut found);
         for at in [RUNNING, SUSPENDED] {
-            if after.state[at] > 1 && found.state[at] == 1 {
+            if !library::KEEPS_TRUE && after.state[at] > 1 && found.state[at] == 1 {
                 after.state[at] = 1;
             }
         }
@@ -132,11 +105,5 @@ impl Tally {
         self.note(failure, || {
             format!("{group}\n{call:?}\n{table:?}\n{state:?}\nwanted {wanted:?}\n")
         });
-    }
-
-    /// Prints the counts and ends the test.
-    pub fn finish(&self) -> ! {
-        println!("{} passed, {} failed", self.passed, self.failed);
-        std::process::exit(i32::from(self.failed > 0));
     }
 }

@@ -9,12 +9,11 @@ use reference::table::{self, Table, LOADED, TOTAL};
 use super::library::{self, Call, Memory};
 use super::state::State;
 use super::tally::Tally;
-use super::WITH_END;
 
-const PLAN_A: &str = "(task 100 4\n(fun\n(leaf p 5 9)\n(loop p 3 2 4\n(leaf s 10 20)\n)\n\
+pub const PLAN_A: &str = "(task 100 4\n(fun\n(leaf p 5 9)\n(loop p 3 2 4\n(leaf s 10 20)\n)\n\
     (leaf s 6 8)\n)\n)\n";
 
-const PLAN_B: &str = "(task 200 5\n(fun\n(leaf p 3 4)\n)\n(fun\n(if p 2 3\n(then\n\
+pub const PLAN_B: &str = "(task 200 5\n(fun\n(leaf p 3 4)\n)\n(fun\n(if p 2 3\n(then\n\
     (call p 0 1 2)\n)\n(else\n(leaf s 9 10)\n)\n)\n(call p 0 1 2)\n)\n)\n";
 
 fn of_text(text: &str) -> Table {
@@ -37,18 +36,14 @@ fn call_of(words: &str) -> Call {
 /// Calls one after the other, each line `release`, `report N R` or `end R`
 /// followed by ` -> ` and the printed answer wanted. The state afterwards comes
 /// back.
-fn calls(tally: &mut Tally, name: &str, text: &str, lines: &[&str]) -> State {
-    let table = of_text(text);
+pub fn calls_on(tally: &mut Tally, name: &str, table: &Table, lines: &[&str]) -> State {
     let mut state = State::fresh();
     for line in lines {
         let (words, wanted) = line.split_once(" -> ").expect("a call and its answer");
         let call = call_of(words);
-        if matches!(call, Call::End(_)) && !WITH_END {
-            continue;
-        }
         let mut memory = Memory::new(&mut tally.random, &state);
         let numbers = call.numbers(&mut tally.random);
-        let code = library::call(&table, &numbers, &mut memory);
+        let code = library::call(table, &numbers, &mut memory);
         let found = library::answer(memory.answer());
         let right = found.is_some_and(|answer| answer.line() == wanted);
         tally.holds(code == 0 && right, || {
@@ -62,6 +57,11 @@ fn calls(tally: &mut Tally, name: &str, text: &str, lines: &[&str]) -> State {
         state = after;
     }
     state
+}
+
+/// The same on the table of a text.
+fn calls(tally: &mut Tally, name: &str, text: &str, lines: &[&str]) -> State {
+    calls_on(tally, name, &of_text(text), lines)
 }
 
 /// The same, with the state wanted afterwards: reading, whether the others are
@@ -128,7 +128,7 @@ fn plan_a_suspends(tally: &mut Tally) {
     ];
     let lines = [&FIRST[..], &VISITS[..2], &worst].concat();
     let after = calls(tally, "m3", PLAN_A, &lines);
-    tally.holds(!WITH_END || after == State::fresh(), || {
+    tally.holds(after == State::fresh(), || {
         "the state after the end of m3 is fresh".to_string()
     });
 }

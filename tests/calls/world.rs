@@ -13,7 +13,6 @@ use super::law;
 use super::library::{self, Call, Memory};
 use super::state::State;
 use super::tally::Tally;
-use super::WITH_END;
 
 /// What runs met, so that nothing goes untried.
 #[derive(Default)]
@@ -299,10 +298,6 @@ impl<'a> World<'a> {
         let call = Call::End(self.clock);
         self.met.at_deadline += usize::from(self.clock == self.plan.deadline);
         self.open = None;
-        if !WITH_END {
-            (self.state, self.others) = (State::fresh(), true);
-            return Ok(());
-        }
         let answer = self.answer(call);
         let Some(Answer::End { word, late }) = answer else {
             return self.holds(false, || format!("{answer:?} for {call:?}"));
@@ -348,7 +343,7 @@ impl<'a> World<'a> {
         };
         let roll = self.random.below(4);
         let Some(open) = &self.open else {
-            return match roll < 2 || !WITH_END {
+            return match roll < 2 {
                 true => Some((Call::Report(leaf, any), 14)),
                 false => Some((Call::End(any), 14)),
             };
@@ -357,7 +352,6 @@ impl<'a> World<'a> {
         let back = open.reading > 0 && self.random.chance(50);
         match roll {
             0 => Some((Call::Release, 12)),
-            1 if !WITH_END => None,
             1 if back => Some((Call::End(below), 16)),
             1 if self.composed.can_end(&open.place) => None,
             1 => Some((Call::End(any.max(open.reading)), 17)),

@@ -53,6 +53,11 @@ impl Count {
         self.note(failure, || what.as_bytes().to_vec());
     }
 
+    /// How many comparisons were made.
+    pub fn compared(&self) -> usize {
+        self.passed + self.failed
+    }
+
     /// Prints the counts and ends the test.
     pub fn finish(&self) -> ! {
         println!("{} passed, {} failed", self.passed, self.failed);

@@ -136,7 +136,8 @@ fn plan_b(calls: &[u64]) {
     );
 }
 
-fn main() {
+// m1 to m5.
+fn cases_of_a() {
     // m1, m4 and the first half of m5: go 49 47, go 49 38, go 44 19, go 32 7, go 20 2, go 8 0; a fifth visit is 17.
     plan_a(
         &[
@@ -195,10 +196,18 @@ fn main() {
     );
     // m5: visit 4 at 65 gives suspend 8 -1.
     plan_a(&[0, 0, 0, 1, 0, 0, 1, 1, 9, 1, 1, 33, 1, 1, 50, 1, 1, 65]);
+}
+
+// m6 to m9.
+fn cases_of_b() {
     // m6 to m9: go 15 180, go 15 167, go 4 189, go 3 188, ended.
     plan_b(&[0, 0, 0, 1, 1, 0, 1, 4, 0, 1, 0, 0, 2, 0, 9]);
     // m8 and m9: go 15 180, go 15 167, then point 0 is 17, then go 8 185 and go 7 184.
     plan_b(&[0, 0, 0, 1, 1, 0, 1, 0, 0, 1, 2, 0, 1, 0, 0]);
+}
+
+// m10 to m12.
+fn smallest_cases() {
     // m10: D 9 is 13.
     play(b"(task 9 3\n(fun\n(leaf s 7 9)\n)\n)\n", &[0, 0, 0]);
     // m11: D 10 gives suspend 7 -9, and D 18 suspend 7 -1.
@@ -206,4 +215,10 @@ fn main() {
     play(b"(task 18 3\n(fun\n(leaf s 7 9)\n)\n)\n", &[0, 0, 0]);
     // m12: D 19 gives go 7 0.
     play(b"(task 19 3\n(fun\n(leaf s 7 9)\n)\n)\n", &[0, 0, 0]);
+}
+
+fn main() {
+    cases_of_a();
+    cases_of_b();
+    smallest_cases();
 }

@@ -5,4 +5,5 @@ pub mod Calls
 pub mod Decisions
 pub mod Worst
 pub mod Reached
+pub mod Delivered
 pub mod Theorems

@@ -7,6 +7,7 @@ use mathlib.Core.Logic.{_⊎_, _↔_}
 use mathlib.Core.Option.{some}
 use mathlib.Core.Path.{_≡_, sym, subst}
 use Prim.Native.Nat.{ℕ, _≤_}
+use lib.ListN.{length}
 use Rattle.model.specs.Plan.{Block, Plan}
 use Rattle.model.specs.Forms.{main}
 use Rattle.model.specs.Runs.{Run, visits}
@@ -21,7 +22,8 @@ use Rattle.reader.specs.Machine as reader
 use Rattle.reader.specs.Machine.{Outcome, plan}
 use Rattle.reader.specs.Print.{print}
 use Rattle.table.specs.Table.{Table, table-of, good}
-use Rattle.table.specs.Reading.{verdict}
+use Rattle.table.specs.declared.Head.{Head}
+use Rattle.table.specs.Reading.{verdict, verdict-of}
 use Rattle.table.proofs.Theorems as table
 use Rattle.control.specs.declared.State.{State}
 use Rattle.control.specs.State.{fresh, standing}
@@ -30,16 +32,23 @@ use Rattle.control.specs.Histories.{Accepts, Since}
 use Rattle.control.specs.Meaning.{StandsSomewhere}
 use Rattle.control.specs.Cases.{cases, AllRight}
 use Rattle.control.proofs.Theorems as control
+use Rattle.rolsipay.specs.declared.Leaf.{Leaf}
+use Rattle.rolsipay.specs.declared.State as lent
+use Rattle.rolsipay.specs.Lent as rows
+use Rattle.rolsipay.specs.Reading.{row-after}
+use Rattle.rolsipay.specs.Calling.{state-of, called}
 use Rattle.control.proofs.Cases as marked
 use Rattle.demands.specs.Memory.{Memory, Roomy, after-read, table-in, table-read, calls-on}
 use Rattle.demands.specs.Rules.{Ruled, TableOf, Refuses}
 use Rattle.demands.specs.Decisions.{Decided, Closes}
 use Rattle.demands.specs.Lists.{Reached, exchanges, text-A, worst-of-A}
+use Rattle.demands.specs.Delivered.{meant, delivered}
 use Rattle.demands.proofs.Texts as texts
 use Rattle.demands.proofs.Calls as calls
 use Rattle.demands.proofs.Decisions as decisions
 use Rattle.demands.proofs.Reached as reached
 use Rattle.demands.proofs.Worst as worst
+use Rattle.demands.proofs.Delivered as delivering
 
 -- DEMAND 1: THE RULES' NUMBERS, AND A REFUSAL CHANGES NOTHING
 
@@ -170,3 +179,19 @@ state-good-exactly = control.state-good-exactly
 -- The marked cases m1 to m12 hold, in one table.
 pub marked-cases-right : AllRight cases
 marked-cases-right = marked.cases-right
+
+-- THE DELIVERED CALLS, IN THE CALLER'S MEMORY
+
+-- Consider any row of leaf records, head, state and call. The answer that a delivered call returns, and the state that it leaves, are those of the call on
+-- the table that row and head stand for. So all that is said above of calls on a table holds of the delivered ones.
+pub delivered-answer : (ls : List Leaf) (h : Head) (s : lent.State) (c : Call) → meant (called ls h s c .answer) ≡ call-on (rows.table-in ls h) (state-of s) c .answer
+delivered-answer ls h s c = delivering.answer-meant ls h s c
+
+pub delivered-state : (ls : List Leaf) (h : Head) (s : lent.State) (c : Call) → state-of (called ls h s c .state) ≡ call-on (rows.table-in ls h) (state-of s) c .state
+delivered-state = delivering.state-left
+
+-- Demand 3 of the delivered calls: a text is read into a lent row and head as a plan with total + T within D. Every list of calls that timed runs of the plan
+-- make on them, from a state of zeros and with refused calls anywhere among them, keeps the claim.
+pub delivered-deadline-kept : (ls : List Leaf) (h : Head) (text : List ℕ) (p : Plan) → verdict (length ls) text ≡ plan p → Fit p →
+    KeepsDeadline p (delivered (row-after (verdict (length ls) text) ls) (verdict-of (verdict (length ls) text) h .head))
+delivered-deadline-kept = delivering.read-keeps-deadline

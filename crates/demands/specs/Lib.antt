@@ -2,3 +2,4 @@ pub mod Memory
 pub mod Rules
 pub mod Decisions
 pub mod Lists
+pub mod Delivered

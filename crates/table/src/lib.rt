@@ -23,6 +23,7 @@ use structure::structured;
 
 // What stands beside the row of leaf records: deadline and switch cost, the total and the max-load total, the stretch of the release, how many leaves
 // and functions there are, the functions' bounds, and their isolated totals.
+#[repr(C)]
 pub struct Head {
     pub deadline: u64,
     pub switch: u64,

@@ -1,0 +1,7 @@
+pub mod Steps
+pub mod Lending
+pub mod Stored
+pub mod Packing
+pub mod Spreading
+pub mod Gathering
+pub mod Theorems

@@ -1,0 +1,231 @@
+-- What the delivered calls mean: after a plan is read the row and the head hold its table, and a call on them is the controller's call on that table.
+-- Assumes nothing.
+use mathlib.Core.Bool.{Bool, true, false, not}
+use mathlib.Core.List.{List, [], _∷_, _++_, map, append-assoc, map-append}
+use mathlib.Core.Option.{Option, none, some}
+use mathlib.Core.Path.{_≡_, refl, ap, sym, _∙_, subst}
+use Prim.Native.Nat.{ℕ, zero, suc, _+_, _-_, _*_, _≤_, _<_}
+use native.Mathlib.Omega.{arith}
+use lib.Dec.{eqb, leb, ltb}
+use lib.ListN.{length, getD, take, drop, length-map}
+use lib.Seq.{drop-cons, take-add, drop-drop, take-at, take-all, take-append-add}
+use Rattle.model.specs.Plan.{C, Plan, all-leaves}
+use Rattle.model.specs.Forms.{main}
+use Rattle.model.specs.Total.{total}
+use Rattle.model.specs.Stretch.{silence}
+use Rattle.model.specs.Acceptance.{sizes, Accepted}
+use Rattle.model.specs.Condition.{holds}
+use Rattle.model.specs.Places.{pick}
+use Rattle.model.specs.Stack.{Levels}
+use Rattle.model.specs.Calls.{Call, release, report, end, resume, ended, Reply}
+use Rattle.model.specs.Controller.{is-point, late}
+use Rattle.reader.specs.Machine.{plan}
+use Rattle.reader.proofs.Theorems.{row-length}
+use Rattle.table.specs.declared.Head.{Head}
+use Rattle.table.specs.Table.{Table, table-of, table-at, head-of, plan-of}
+use Rattle.table.proofs.Written.{turns-size, tails-size, stretches-size}
+use Rattle.control.specs.declared.State as control
+use Rattle.control.specs.State.{standing, at-release}
+use Rattle.control.specs.Answers.{answer-of, reply-of}
+use Rattle.control.specs.Calls.{refuse, decision, suspended-after, released, reported, next-levels, may-end, closed, running-call, idle-call, at-levels, by-phase, on-plan, call-on}
+use Rattle.rolsipay.specs.declared.Leaf.{Leaf}
+use Rattle.rolsipay.specs.declared.State.{State}
+use Rattle.rolsipay.specs.Lent.{fields, numbers, table-with, table-in, leaf-of, leaves-from}
+use Rattle.rolsipay.specs.Reading.{row-after}
+use Rattle.rolsipay.specs.Calling.{state-of, flag, lent, refusing, called}
+use Rattle.rolsipay.proofs.Spreading.{length-leaves}
+
+-- THE TABLE READ BACK
+
+-- The entries of a list from a place on, one by one.
+entries : List ℕ → ℕ → ℕ → List ℕ
+entries w k zero = []
+entries w k (suc n) = getD w k 0 ∷ entries w (suc k) n
+
+entries-are : (w : List ℕ) (k n : ℕ) → k + n ≤ length w → entries w k n ≡ take n (drop k w)
+unfolding entries
+entries-are w k zero h = refl
+entries-are w k (suc n) h =
+    ap (λ (r : List ℕ). getD w k 0 ∷ r) (entries-are w (suc k) n (omega arith)) ∙ ap (λ (r : List ℕ). take (suc n) r) (sym (drop-cons w k 0 (omega arith)))
+
+-- The eight numbers of a table's leaf are its raw record.
+fields-are : (t : Table) (i : ℕ) → i * 8 + 8 ≤ length (t .row) → fields (leaf-of t i) ≡ take 8 (drop (i * 8) (t .row))
+unfolding entries
+fields-are t i h =
+    let k : ℕ = i * 8 in
+    let e₀ : i * 8 + 0 ≡ i * 8 = omega arith in
+    let e₁ : i * 8 + 1 ≡ suc (i * 8) = omega arith in
+    let e₂ : i * 8 + 2 ≡ suc (suc (i * 8)) = omega arith in
+    let e₃ : i * 8 + 3 ≡ suc (suc (suc (i * 8))) = omega arith in
+    let e₄ : i * 8 + 4 ≡ suc (suc (suc (suc (i * 8)))) = omega arith in
+    let e₅ : i * 8 + 5 ≡ suc (suc (suc (suc (suc (i * 8))))) = omega arith in
+    let e₆ : i * 8 + 6 ≡ suc (suc (suc (suc (suc (suc (i * 8)))))) = omega arith in
+    let e₇ : i * 8 + 7 ≡ suc (suc (suc (suc (suc (suc (suc (i * 8))))))) = omega arith in
+    let same : fields (leaf-of t i) ≡ entries (t .row) (i * 8) 8 = rw (e₀, e₁, e₂, e₃, e₄, e₅, e₆, e₇) refl in
+    same ∙ entries-are (t .row) (i * 8) 8 h
+
+-- The raw row of a table's leaves, and a column of them.
+numbers-from : (t : Table) (i n : ℕ) → (i + n) * 8 ≤ length (t .row) → numbers (leaves-from t i n) ≡ take (n * 8) (drop (i * 8) (t .row))
+numbers-from t i zero h = refl
+numbers-from t i (suc n) h =
+    let d : List ℕ = drop (i * 8) (t .row) in
+    let z : (i + 1) * 8 ≡ i * 8 + 8 = omega arith in
+    let y : suc n * 8 ≡ 8 + n * 8 = omega arith in
+    let rest : numbers (leaves-from t (i + 1) n) ≡ take (n * 8) (drop 8 d) =
+    numbers-from t (i + 1) n (omega arith) ∙ ap (λ (u : List ℕ). take (n * 8) u) (ap (λ (k : ℕ). drop k (t .row)) z ∙ sym (drop-drop 8 (i * 8) (t .row))) in
+    ap (λ (u : List ℕ). u ++ numbers (leaves-from t (i + 1) n)) (fields-are t i (omega arith)) ∙ (ap (λ (u : List ℕ). take 8 d ++ u) rest ∙
+    (sym (take-add 8 (n * 8) d) ∙ ap (λ (k : ℕ). take k d) (sym y)))
+
+column-from : (t : Table) (f : Leaf → ℕ) (col : List ℕ) → ((i : ℕ) → f (leaf-of t i) ≡ getD col i 0) → (i n : ℕ) → i + n ≤ length col
+    → map f (leaves-from t i n) ≡ take n (drop i col)
+column-from t f col e i zero h = refl
+column-from t f col e i (suc n) h =
+    let z : i + 1 ≡ suc i = omega arith in
+    ap (λ (k : ℕ). k ∷ map f (leaves-from t (i + 1) n)) (e i) ∙ (ap (λ (r : List ℕ). getD col i 0 ∷ r) (column-from t f col e (i + 1) n (omega arith) ∙ ap (λ (k : ℕ). take n (drop k col)) z) ∙
+    ap (λ (r : List ℕ). take (suc n) r) (sym (drop-cons col i 0 (omega arith))))
+
+-- The raw row of leaves and more leaves.
+numbers-append : (us vs : List Leaf) → numbers (us ++ vs) ≡ numbers us ++ numbers vs
+numbers-append [] vs = refl
+numbers-append (u ∷ us) vs = ap (λ (r : List ℕ). fields u ++ r) (numbers-append us vs) ∙ sym (append-assoc (fields u) (numbers us) (numbers vs))
+
+-- A column's beginning.
+column-back : (p : Plan) (f : Leaf → ℕ) (col : List ℕ) → ((i : ℕ) → f (leaf-of (table-of p) i) ≡ getD col i 0) → length col ≡ sizes (p .functions) → (vs : List Leaf)
+    → take (sizes (p .functions)) (map f (leaves-from (table-of p) 0 (sizes (p .functions)) ++ vs)) ≡ col
+column-back p f col e w vs =
+    let n : ℕ = sizes (p .functions) in
+    let us : List Leaf = leaves-from (table-of p) 0 n in
+    let z : map f us ≡ col = column-from (table-of p) f col e 0 n (omega arith) ∙ take-all n col (omega arith) in
+    ap (λ (u : List ℕ). take n u) (map-append f us vs) ∙ (take-at (map f us) (map f vs) n (length-map us f ∙ length-leaves (table-of p) 0 n) ∙ z)
+
+-- After an accepted plan is read, the row and the head hold its table, whatever the row held before.
+pub read-back : (p : Plan) → Accepted p → (ls : List Leaf) → table-in (row-after (plan p) ls) (head-of p) ≡ table-of p
+read-back p a ls =
+    let n : ℕ = sizes (p .functions) in
+    let us : List Leaf = leaves-from (table-of p) 0 n in
+    let vs : List Leaf = take (512 - n) (drop n ls) in
+    let l : length us ≡ n = length-leaves (table-of p) 0 n in
+    let z : 512 ≡ length us + (512 - n) = omega (arith, l, a .formed .few-leaves) in
+    let first : take 512 (row-after (plan p) ls) ≡ us ++ vs =
+    ap (λ (k : ℕ). take k (us ++ drop n ls)) z ∙ take-append-add us (drop n ls) (512 - n) in
+    let raw : numbers us ≡ table-of p .row =
+    numbers-from (table-of p) 0 n (omega (arith, row-length p)) ∙ take-all (n * 8) (table-of p .row) (omega (arith, row-length p)) in
+    let row-is : take (n * 8) (numbers (us ++ vs)) ≡ table-of p .row =
+    ap (λ (u : List ℕ). take (n * 8) u) (numbers-append us vs) ∙ (take-at (numbers us) (numbers vs) (n * 8) (omega (arith, ap length raw, row-length p)) ∙ raw) in
+    ap (λ (u : List Leaf). table-with u (head-of p)) first ∙
+    (λ j. record {
+      row = row-is j;
+      turns = column-back p (λ (x : Leaf). x .turn) (table-of p .turns) (λ i. refl) (turns-size p) vs j;
+      tails = column-back p (λ (x : Leaf). x .tail) (table-of p .tails) (λ i. refl) (tails-size p) vs j;
+      stretches = column-back p (λ (x : Leaf). x .stretch) (table-of p .stretches) (λ i. refl) (stretches-size p) vs j;
+      head = head-of p;
+    })
+
+-- A CALL IS THE CONTROLLER'S
+
+clash : false ≡ true → ⊥
+clash e = subst (λ (b : Bool). pick-type b) e tt
+  where
+    pick-type : Bool → Type 0
+    pick-type true = ⊥
+    pick-type false = Unit
+
+-- A reply that refuses leaves the state.
+abbrev Keeps : control.State → Reply control.State → Type 0
+Keeps s r = refusing (answer-of (r .answer)) ≡ true → r .state ≡ s
+
+-- A decision is no refusal.
+decides : (p : Plan) (r str t : ℕ) (b : Bool) → refusing (answer-of (decision p r str t b)) ≡ false
+decides p r str t true = refl
+decides p r str t false = by (holds p r str t) refl
+  where
+    by : (h : Bool) → holds p r str t ≡ h → refusing (answer-of (decision p r str t false)) ≡ false
+    by true e = rw e refl
+    by false e = rw e refl
+
+-- One of two replies.
+either : (s : control.State) (b : Bool) (x y : Reply control.State) → Keeps s x → Keeps s y → Keeps s (pick b x y)
+either s true x y k l = k
+either s false x y k l = l
+
+released-keeps : (p : Plan) (s : control.State) → Keeps s (released p s)
+released-keeps p s =
+    let r = total C (main p) in
+    let str = silence (main p) 0 in
+    let x : Reply control.State = record { state = at-release p (suspended-after p r str 0 false); answer = decision p r str 0 false } in
+    either s (leb (r + p .switch) (p .deadline)) x (refuse s 13) (λ e. absurd (clash (sym (decides p r str 0 false) ∙ e))) (λ e. refl)
+
+reported-keeps : (p : Plan) (s : control.State) (n t : ℕ) (o : Option Levels) → Keeps s (reported p s n t o)
+reported-keeps p s n t none e = refl
+reported-keeps p s n t (some ls) e = absurd (clash (sym (decides p _ _ t (s .suspended)) ∙ e))
+
+closed-keeps : (p : Plan) (s : control.State) (t : ℕ) → Keeps s (closed p s t)
+closed-keeps p s t e = absurd (clash (sym (ends (s .suspended)) ∙ e))
+  where
+    ends : (b : Bool) → refusing (answer-of (pick b (resume (late p t)) (ended (late p t)))) ≡ false
+    ends true = refl
+    ends false = refl
+
+running-keeps : (p : Plan) (s : control.State) (ls : Levels) (c : Call) → Keeps s (running-call p s ls c)
+running-keeps p s ls release = λ e. refl
+running-keeps p s ls (report n t) =
+    let x = reported p s n t (next-levels p ls n) in
+    either s (is-point (all-leaves (p .functions)) n) (pick (ltb t (s .reading)) (refuse s 16) x) (refuse s 15)
+    (either s (ltb t (s .reading)) (refuse s 16) x (λ e. refl) (reported-keeps p s n t (next-levels p ls n))) (λ e. refl)
+running-keeps p s ls (end t) =
+    either s (ltb t (s .reading)) (refuse s 16) (pick (may-end p ls) (closed p s t) (refuse s 17)) (λ e. refl)
+    (either s (may-end p ls) (closed p s t) (refuse s 17) (closed-keeps p s t) (λ e. refl))
+
+idle-keeps : (p : Plan) (s : control.State) (c : Call) → Keeps s (idle-call p s c)
+idle-keeps p s release = released-keeps p s
+idle-keeps p s (report n t) = λ e. refl
+idle-keeps p s (end t) = λ e. refl
+
+levels-keep : (p : Plan) (s : control.State) (c : Call) (o : Option Levels) → Keeps s (at-levels p s c o)
+levels-keep p s c none = λ e. refl
+levels-keep p s c (some ls) = running-keeps p s ls c
+
+phase-keeps : (p : Plan) (s : control.State) (c : Call) (b : Bool) → Keeps s (by-phase p s c b)
+phase-keeps p s c true = levels-keep p s c (standing p s)
+phase-keeps p s c false = idle-keeps p s c
+
+plan-keeps : (s : control.State) (c : Call) (o : Option Plan) → Keeps s (on-plan s c o)
+plan-keeps s c none = λ e. refl
+plan-keeps s c (some p) = phase-keeps p s c (s .running)
+
+call-keeps : (t : Table) (s : control.State) (c : Call) → Keeps s (call-on t s c)
+unfolding call-on
+call-keeps t s c = plan-keeps s c (plan-of t)
+
+-- The state of a lent state is the controller's again.
+flagged : (b : Bool) → not (eqb (flag b) 0) ≡ b
+flagged true = refl
+flagged false = refl
+
+lent-back : (s : control.State) → state-of (lent s) ≡ s
+lent-back s =
+    λ j. record {
+      running = flagged (s .running) j;
+      suspended = flagged (s .suspended) j;
+      reading = s .reading;
+      level = s .level;
+      leaves = s .leaves;
+      earlier = s .earlier;
+      times = s .times;
+    }
+
+-- The answer of a delivered call is the controller's on the table in the row, and the state that it leaves stands for the controller's.
+pub call-answer : (ls : List Leaf) (h : Head) (s : State) (c : Call) → called ls h s c .answer ≡ answer-of (call-on (table-in ls h) (state-of s) c .answer)
+unfolding called
+call-answer ls h s c = refl
+
+pub call-state : (ls : List Leaf) (h : Head) (s : State) (c : Call) → state-of (called ls h s c .state) ≡ call-on (table-in ls h) (state-of s) c .state
+unfolding called
+call-state ls h s c = by (refusing (answer-of (r .answer))) refl
+  where
+    r : Reply control.State
+    r = call-on (table-in ls h) (state-of s) c
+
+    by : (b : Bool) → refusing (answer-of (r .answer)) ≡ b → state-of (pick b s (lent (r .state))) ≡ r .state
+    by true e = sym (call-keeps (table-in ls h) (state-of s) c e)
+    by false e = lent-back (r .state)

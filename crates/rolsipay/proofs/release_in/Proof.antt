@@ -1,0 +1,95 @@
+-- `release_in` meets its contract. Assumes nothing.
+use mathlib.Core.Path.{_≡_, ap, sym, _∙_}
+use Prim.Native.Nat.{_*_}
+use native.Mathlib.Omega.{arith}
+use lib.Seq.{length-take-le}
+use Rattle.model.specs.Calls.{release}
+use Rattle.control.specs.declared.Step.{Step}
+use Rattle.control.specs.Answers.{reply-of}
+use Rattle.control.specs.Calls.{call-on}
+use Rattle.rolsipay.proofs.Gathering.{same-call}
+use Rattle.rolsipay.specs.Calling.{state-of, moved, table-on}
+use borrow.Author.Needs.{needs}
+use Rattle.rolsipay.proofs.release_in.Statement.{statement}
+use Rattle.rolsipay.proofs.release_in.Tie as tie
+
+mul-row : tie.Need-mul-row
+mul-row c = search needs
+
+slice-aggregate-row : tie.Need-slice-aggregate-row
+slice-aggregate-row c = sym (length-take-le (c .before .before .args .n * 8) (c .before .before .args .xs .now) (omega arith))
+
+add-turns : tie.Need-add-turns
+add-turns c = search needs
+
+sub-turns : tie.Need-sub-turns
+sub-turns c = search needs
+
+part-turns-start : tie.Need-part-turns-start
+part-turns-start c = search needs
+
+part-turns-end : tie.Need-part-turns-end
+part-turns-end c = search needs
+
+add-tails : tie.Need-add-tails
+add-tails c = search needs
+
+sub-tails : tie.Need-sub-tails
+sub-tails c = search needs
+
+part-tails-start : tie.Need-part-tails-start
+part-tails-start c = search needs
+
+part-tails-end : tie.Need-part-tails-end
+part-tails-end c = search needs
+
+add-stretches : tie.Need-add-stretches
+add-stretches c = search needs
+
+sub-stretches : tie.Need-sub-stretches
+sub-stretches c = search needs
+
+part-stretches-start : tie.Need-part-stretches-start
+part-stretches-start c = search needs
+
+part-stretches-end : tie.Need-part-stretches-end
+part-stretches-end c = search needs
+
+state-in-requires : tie.Need-state-in-requires
+state-in-requires c κs = search needs
+
+release-requires : tie.Need-release-requires
+release-requires c κs = search needs
+
+move-on-requires : tie.Need-move-on-requires
+move-on-requires c κs = search needs
+
+returns : tie.Need-returns
+returns c =
+    let a = c .before .before .before .before .before .before .before .before .args in
+    let e : c .before .release .result ≡ reply-of (call-on (table-on (a .xs .now) (a .n) (a .head)) (state-of (a .state)) release) =
+    c .before .release .ensures ∙ same-call (a .xs .now) (a .n) (a .head) (state-of (a .state)) (c .before .before .state-in .result) release (c .before .before .state-in .ensures) in
+    c .move-on .ensures ∙ ap (λ (s : Step). moved (a .state) s) e
+
+pub release-in-spec : {M : Type 1} → statement M
+release-in-spec =
+    tie.close
+    (tie.spec
+    mul-row
+    slice-aggregate-row
+    add-turns
+    sub-turns
+    part-turns-start
+    part-turns-end
+    add-tails
+    sub-tails
+    part-tails-start
+    part-tails-end
+    add-stretches
+    sub-stretches
+    part-stretches-start
+    part-stretches-end
+    state-in-requires
+    release-requires
+    move-on-requires
+    returns)

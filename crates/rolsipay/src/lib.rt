@@ -1,0 +1,525 @@
+// The delivered calls: the caller lends a row of leaf records, a head and a state.
+ghost use mathlib.Core.Path.{_≡_};
+ghost use Prim.Native.Nat.{_+_, _*_, _≤_, _<_, min};
+ghost use lib.ListN.{length};
+ghost use lib.Seq.{sets};
+ghost use Rattle.table.specs.Reading.{verdict, verdict-of};
+ghost use Rattle.rolsipay.specs.Flat.{with-leaf, leaf-in, gathered, spread-over};
+ghost use Rattle.model.specs.Calls.{release, report, end};
+ghost use Rattle.rolsipay.specs.Calling.{state-of, flag, lent, refusing, moved, call-with, called, table-on};
+ghost use Rattle.rolsipay.specs.Face.{ruling-of, accepted, reply-from};
+ghost use Rattle.rolsipay.specs.Reading.{filled, counted, Holds, row-after};
+use reader::Answer;
+use table::Head;
+use table::Verdict;
+
+// A leaf's record. Read from the plan: kind (0 leaf, 1 call, 2 loop, 3 if), point (1 or 0), costs alone and under load, bound of a loop or target of a
+// call, first leaf of an if's else part, first leaf after the form, level in its own function. Derived: turn, tail, stretch.
+#[repr(C)]
+pub struct Leaf {
+    pub kind: u64,
+    pub point: u64,
+    pub isolated: u64,
+    pub loaded: u64,
+    pub detail: u64,
+    pub other: u64,
+    pub after: u64,
+    pub level: u64,
+    pub turn: u64,
+    pub tail: u64,
+    pub stretch: u64,
+}
+
+// What reading a plan answers, the head afterwards, and how many leaves go into the row.
+pub struct Filled {
+    pub answer: Answer,
+    pub head: Head,
+    pub leaves: usize,
+}
+
+// The running state in the caller's memory: whether a release is open and whether the others are suspended (0 says no, any other number yes), the last
+// accepted reading, the level of the last point (0: none was reported), for each level the leaf reported last there and its earlier visits, and the
+// remaining time kept for each level. A fresh state is all zeros.
+#[repr(C)]
+pub struct State {
+    pub running: u64,
+    pub suspended: u64,
+    pub reading: u64,
+    pub level: u64,
+    pub leaves: [u64; 33],
+    pub earlier: [u64; 33],
+    pub times: [u64; 33],
+}
+
+// The answer of a call, and the state afterwards.
+pub struct Moved {
+    pub answer: control::Answer,
+    pub state: State,
+}
+
+// What reading a plan answers, as numbers: 0 where it is accepted, else the refusal's number and line.
+#[repr(C)]
+pub struct Ruling {
+    pub number: u64,
+    pub line: u64,
+}
+
+// What a call answers, as numbers: the word (0 refused, 1 go, 2 suspend, 3 stay, 4 resume, 5 ended), a refusal's number, remaining, margin and late mark.
+#[repr(C)]
+pub struct Reply {
+    pub word: u64,
+    pub number: u64,
+    pub remaining: u64,
+    pub margin: i64,
+    pub late: u64,
+}
+
+// The most leaves.
+const LEAVES: usize = 512;
+
+// The numbers of a raw record, and where the columns begin in an array of all numbers.
+const STRIDE: usize = 8;
+
+const TURNS: usize = 4096;
+
+const TAILS: usize = 4608;
+
+const STRETCHES: usize = 5120;
+
+// Of a longer row only the first 512 are used.
+fn used(records: usize) -> usize
+    ensures { λ r. ⌜ r ≡ min records 512 ⌝ }
+{
+    if records < LEAVES { records } else { LEAVES }
+}
+
+// Writes the numbers of a leaf at its place.
+fn put(out: &mut [u64; 5632], i: usize, leaf: Leaf)
+    requires { ⌜ (i < 512) × (length (now out) ≡ 5632) ⌝ }
+    ensures { λ _. ⌜ now (out .exit) ≡ with-leaf (now (out .entry)) i leaf ⌝ }
+{
+    let k = i * STRIDE;
+    out[k] = leaf.kind;
+    out[k + 1] = leaf.point;
+    out[k + 2] = leaf.isolated;
+    out[k + 3] = leaf.loaded;
+    out[k + 4] = leaf.detail;
+    out[k + 5] = leaf.other;
+    out[k + 6] = leaf.after;
+    out[k + 7] = leaf.level;
+    out[TURNS + i] = leaf.turn;
+    out[TAILS + i] = leaf.tail;
+    out[STRETCHES + i] = leaf.stretch;
+}
+
+// The leaf whose numbers stand at this place.
+fn leaf_at(xs: &[u64; 5632], i: usize) -> Leaf
+    requires { ⌜ (i < 512) × (length (now xs) ≡ 5632) ⌝ }
+    ensures { λ r. ⌜ r ≡ leaf-in (now (xs .entry)) i ⌝ }
+{
+    let k = i * STRIDE;
+    Leaf {
+        kind: xs[k],
+        point: xs[k + 1],
+        isolated: xs[k + 2],
+        loaded: xs[k + 3],
+        detail: xs[k + 4],
+        other: xs[k + 5],
+        after: xs[k + 6],
+        level: xs[k + 7],
+        turn: xs[TURNS + i],
+        tail: xs[TAILS + i],
+        stretch: xs[STRETCHES + i],
+    }
+}
+
+// Writes the numbers of the first n leaves.
+fn gather(row: &[Leaf], n: usize, out: &mut [u64; 5632])
+    requires { ⌜ (n ≤ length (now row)) × (n ≤ 512) × (length (now out) ≡ 5632) ⌝ }
+    ensures { λ _. ⌜ now (out .exit) ≡ gathered (now (row .entry)) n (now (out .entry)) ⌝ }
+{
+    let mut i = 0;
+    while i < n {
+        put(out, i, row[i]);
+        i += 1;
+    }
+}
+
+// Makes the first n leaves those of the numbers; the others keep their values.
+fn spread(row: &mut [Leaf], n: usize, xs: &[u64; 5632])
+    requires { ⌜ (n ≤ length (now row)) × (n ≤ 512) × (length (now xs) ≡ 5632) ⌝ }
+    ensures { λ _. ⌜ now (row .exit) ≡ spread-over (now (xs .entry)) n (now (row .entry)) ⌝ }
+{
+    let mut i = 0;
+    while i < n {
+        row[i] = leaf_at(xs, i);
+        i += 1;
+    }
+}
+
+// Writes the numbers from this place on.
+fn store_at(numbers: &[u64], out: &mut [u64; 5632], from: usize)
+    requires { ⌜ (from + length (now numbers) ≤ 5632) × (length (now out) ≡ 5632) ⌝ }
+    ensures { λ _. ⌜ now (out .exit) ≡ sets (now (out .entry)) from (now (numbers .entry)) ⌝ }
+{
+    let mut i = 0;
+    while i < numbers.len() {
+        out[from + i] = numbers[i];
+        i += 1;
+    }
+}
+
+// Answer and head, with the number of leaves that go into the row.
+fn count(said: Verdict) -> Filled
+    ensures { λ r. ⌜ r ≡ counted said ⌝ }
+{
+    let answer = said.answer;
+    let head = said.head;
+    match answer {
+        Answer::Accepted => Filled {
+            answer: Answer::Accepted,
+            head,
+            leaves: head.leaves,
+        },
+        Answer::Refused(k, j) => Filled {
+            answer: Answer::Refused(k, j),
+            head,
+            leaves: 0,
+        },
+    }
+}
+
+// Reads a plan for a row of so many records; the numbers of its leaves are written.
+fn read_numbers(out: &mut [u64; 5632], text: &[u8], capacity: usize, head: Head) -> Filled
+    requires { ⌜ length (now out) ≡ 5632 ⌝ }
+    ensures { λ r. ⌜ (r ≡ filled (verdict capacity (now (text .entry))) head) × Holds (verdict capacity (now (text .entry))) (now (out .exit)) ⌝ }
+{
+    let mut row: [u64; 4096] = [0; 4096];
+    let mut turns: [u64; 512] = [0; 512];
+    let mut tails: [u64; 512] = [0; 512];
+    let mut stretches: [u64; 512] = [0; 512];
+    let said = table::read(
+        text,
+        capacity,
+        &mut row,
+        &mut turns,
+        &mut tails,
+        &mut stretches,
+        head,
+    );
+    store_at(&row, out, 0);
+    store_at(&turns, out, TURNS);
+    store_at(&tails, out, TAILS);
+    store_at(&stretches, out, STRETCHES);
+    count(said)
+}
+
+// Reads a plan: its leaves go to the beginning of the lent row and its head is written, and the records past its last leaf keep their values; or it is
+// refused, by a number and a line, and row and head are as they were.
+pub fn read(text: &[u8], row: &mut [Leaf], head: &mut Head) -> Answer
+    ensures { λ r. ⌜ (r ≡ verdict-of (verdict (length (now (row .entry))) (now (text .entry))) (now (head .entry)) .answer)
+        × (now (row .exit) ≡ row-after (verdict (length (now (row .entry))) (now (text .entry))) (now (row .entry)))
+        × (now (head .exit) ≡ verdict-of (verdict (length (now (row .entry))) (now (text .entry))) (now (head .entry)) .head) ⌝ }
+{
+    let mut numbers = [0u64; 5632];
+    let capacity = row.len();
+    let before = *head;
+    let told = read_numbers(&mut numbers, text, capacity, before);
+    *head = told.head;
+    spread(row, told.leaves, &numbers);
+    told.answer
+}
+
+// The controller's state in a lent one.
+fn state_in(state: State) -> control::State
+    ensures { λ r. ⌜ r ≡ state-of state ⌝ }
+{
+    let leaves = state.leaves;
+    let earlier = state.earlier;
+    let times = state.times;
+    control::State {
+        running: state.running != 0,
+        suspended: state.suspended != 0,
+        reading: state.reading,
+        level: state.level,
+        leaves,
+        earlier,
+        times,
+    }
+}
+
+// 1 for yes, 0 for no.
+fn number(yes: bool) -> u64
+    ensures { λ r. ⌜ r ≡ flag yes ⌝ }
+{
+    if yes { 1 } else { 0 }
+}
+
+// The lent state of a controller's.
+fn state_out(state: control::State) -> State
+    ensures { λ r. ⌜ r ≡ lent state ⌝ }
+{
+    let leaves = state.leaves;
+    let earlier = state.earlier;
+    let times = state.times;
+    State {
+        running: number(state.running),
+        suspended: number(state.suspended),
+        reading: state.reading,
+        level: state.level,
+        leaves,
+        earlier,
+        times,
+    }
+}
+
+// Whether an answer is a refusal.
+fn refuses(answer: control::Answer) -> bool
+    ensures { λ r. ⌜ r ≡ refusing answer ⌝ }
+{
+    match answer {
+        control::Answer::Refused(_) => true,
+        control::Answer::Go(_, _, _) => false,
+        control::Answer::Suspend(_, _, _) => false,
+        control::Answer::Stay(_, _, _) => false,
+        control::Answer::Resume(_) => false,
+        control::Answer::Ended(_) => false,
+    }
+}
+
+// The answer of a step, with the lent state afterwards: a refused call leaves it as it was.
+fn move_on(state: State, step: control::Step) -> Moved
+    ensures { λ r. ⌜ r ≡ moved state step ⌝ }
+{
+    let answer = step.answer;
+    if refuses(answer) {
+        return Moved { answer, state };
+    }
+    let after = step.state;
+    let state = state_out(after);
+    Moved { answer, state }
+}
+
+// The words, by their numbers.
+const GO: u64 = 1;
+
+const SUSPEND: u64 = 2;
+
+const STAY: u64 = 3;
+
+const RESUME: u64 = 4;
+
+const ENDED: u64 = 5;
+
+// What reading a plan answers, as numbers.
+fn as_ruling(answer: Answer) -> Ruling
+    ensures { λ r. ⌜ r ≡ ruling-of answer ⌝ }
+{
+    match answer {
+        Answer::Accepted => Ruling { number: 0, line: 0 },
+        Answer::Refused(k, j) => Ruling {
+            number: k,
+            line: j as u64,
+        },
+    }
+}
+
+// What a call answers, as numbers.
+fn as_reply(answer: control::Answer) -> Reply
+    ensures { λ r. ⌜ r ≡ reply-from answer ⌝ }
+{
+    match answer {
+        control::Answer::Refused(n) => Reply {
+            word: 0,
+            number: n,
+            remaining: 0,
+            margin: 0,
+            late: 0,
+        },
+        control::Answer::Go(r, m, late) => decided(GO, r, m, late),
+        control::Answer::Suspend(r, m, late) => decided(SUSPEND, r, m, late),
+        control::Answer::Stay(r, m, late) => decided(STAY, r, m, late),
+        control::Answer::Resume(late) => decided(RESUME, 0, 0, late),
+        control::Answer::Ended(late) => decided(ENDED, 0, 0, late),
+    }
+}
+
+// An accepted call's answer, as numbers.
+fn decided(word: u64, remaining: u64, margin: i64, late: bool) -> Reply
+    ensures { λ r. ⌜ r ≡ accepted word remaining margin late ⌝ }
+{
+    Reply {
+        word,
+        number: 0,
+        remaining,
+        margin,
+        late: number(late),
+    }
+}
+
+// Release, on the first n leaves in numbers: the raw row, then the columns.
+fn release_in(xs: &[u64], n: usize, head: Head, state: State) -> Moved
+    requires { ⌜ (n ≤ 512) × (length (now xs) ≡ 5632) ⌝ }
+    ensures { λ r. ⌜ r ≡ call-with (table-on (now (xs .entry)) n head) state release ⌝ }
+{
+    let row = &xs[..n * STRIDE];
+    let turns = &xs[TURNS..TURNS + n];
+    let tails = &xs[TAILS..TAILS + n];
+    let stretches = &xs[STRETCHES..STRETCHES + n];
+    let before = state_in(state);
+    let step = control::release(row, turns, tails, stretches, head, before);
+    move_on(state, step)
+}
+
+// The same on the array.
+fn release_on(xs: &[u64; 5632], n: usize, head: Head, state: State) -> Moved
+    requires { ⌜ (n ≤ 512) × (length (now xs) ≡ 5632) ⌝ }
+    ensures { λ r. ⌜ r ≡ call-with (table-on (now (xs .entry)) n head) state release ⌝ }
+{
+    release_in(xs, n, head, state)
+}
+
+// Report of a point with a reading, on the first n leaves in numbers: the raw row, then the columns.
+fn report_in(xs: &[u64], n: usize, head: Head, state: State, point: u64, reading: u64) -> Moved
+    requires { ⌜ (n ≤ 512) × (length (now xs) ≡ 5632) ⌝ }
+    ensures { λ r. ⌜ r ≡ call-with (table-on (now (xs .entry)) n head) state (report point reading) ⌝ }
+{
+    let row = &xs[..n * STRIDE];
+    let turns = &xs[TURNS..TURNS + n];
+    let tails = &xs[TAILS..TAILS + n];
+    let stretches = &xs[STRETCHES..STRETCHES + n];
+    let before = state_in(state);
+    let step = control::report(row, turns, tails, stretches, head, before, point, reading);
+    move_on(state, step)
+}
+
+// The same on the array.
+fn report_on(
+    xs: &[u64; 5632],
+    n: usize,
+    head: Head,
+    state: State,
+    point: u64,
+    reading: u64,
+) -> Moved
+    requires { ⌜ (n ≤ 512) × (length (now xs) ≡ 5632) ⌝ }
+    ensures { λ r. ⌜ r ≡ call-with (table-on (now (xs .entry)) n head) state (report point reading) ⌝ }
+{
+    report_in(xs, n, head, state, point, reading)
+}
+
+// End with a reading, on the first n leaves in numbers: the raw row, then the columns.
+fn end_in(xs: &[u64], n: usize, head: Head, state: State, reading: u64) -> Moved
+    requires { ⌜ (n ≤ 512) × (length (now xs) ≡ 5632) ⌝ }
+    ensures { λ r. ⌜ r ≡ call-with (table-on (now (xs .entry)) n head) state (end reading) ⌝ }
+{
+    let row = &xs[..n * STRIDE];
+    let turns = &xs[TURNS..TURNS + n];
+    let tails = &xs[TAILS..TAILS + n];
+    let stretches = &xs[STRETCHES..STRETCHES + n];
+    let before = state_in(state);
+    let step = control::end(row, turns, tails, stretches, head, before, reading);
+    move_on(state, step)
+}
+
+// The same on the array.
+fn end_on(xs: &[u64; 5632], n: usize, head: Head, state: State, reading: u64) -> Moved
+    requires { ⌜ (n ≤ 512) × (length (now xs) ≡ 5632) ⌝ }
+    ensures { λ r. ⌜ r ≡ call-with (table-on (now (xs .entry)) n head) state (end reading) ⌝ }
+{
+    end_in(xs, n, head, state, reading)
+}
+
+// Release: 11, 12, 13, or the decision at the release; the state is moved on where it lies.
+pub fn release(row: &[Leaf], head: &Head, state: &mut State) -> control::Answer
+    ensures { λ r. ⌜ (r ≡ called (now (row .entry)) (now (head .entry)) (now (state .entry)) release .answer)
+        × (now (state .exit) ≡ called (now (row .entry)) (now (head .entry)) (now (state .entry)) release .state) ⌝ }
+{
+    let mut numbers = [0u64; 5632];
+    let n = used(row.len());
+    gather(row, n, &mut numbers);
+    let beside = *head;
+    let before = *state;
+    let after = release_on(&numbers, n, beside, before);
+    *state = after.state;
+    after.answer
+}
+
+// Report of a point with a reading: 11, 14, 15, 16, 17, or the decision at the report; the state is moved on where it lies.
+pub fn report(
+    row: &[Leaf],
+    head: &Head,
+    state: &mut State,
+    point: u64,
+    reading: u64,
+) -> control::Answer
+    ensures { λ r. ⌜ (r ≡ called (now (row .entry)) (now (head .entry)) (now (state .entry)) (report point reading) .answer)
+        × (now (state .exit) ≡ called (now (row .entry)) (now (head .entry)) (now (state .entry)) (report point reading) .state) ⌝ }
+{
+    let mut numbers = [0u64; 5632];
+    let n = used(row.len());
+    gather(row, n, &mut numbers);
+    let beside = *head;
+    let before = *state;
+    let moved = report_on(&numbers, n, beside, before, point, reading);
+    *state = moved.state;
+    moved.answer
+}
+
+// End with a reading: 11, 14, 16, 17, or resume or ended; the state is fresh again where it lies.
+pub fn end(row: &[Leaf], head: &Head, state: &mut State, reading: u64) -> control::Answer
+    ensures { λ r. ⌜ (r ≡ called (now (row .entry)) (now (head .entry)) (now (state .entry)) (end reading) .answer)
+        × (now (state .exit) ≡ called (now (row .entry)) (now (head .entry)) (now (state .entry)) (end reading) .state) ⌝ }
+{
+    let mut numbers = [0u64; 5632];
+    let n = used(row.len());
+    gather(row, n, &mut numbers);
+    let beside = *head;
+    let before = *state;
+    let moved = end_on(&numbers, n, beside, before, reading);
+    *state = moved.state;
+    moved.answer
+}
+
+// `read` for other languages.
+#[no_mangle]
+pub extern "C" fn rolsipay_read(text: &[u8], row: &mut [Leaf], head: &mut Head) -> Ruling
+    ensures { λ r. ⌜ (r ≡ ruling-of (verdict-of (verdict (length (now (row .entry))) (now (text .entry))) (now (head .entry)) .answer))
+        × (now (row .exit) ≡ row-after (verdict (length (now (row .entry))) (now (text .entry))) (now (row .entry)))
+        × (now (head .exit) ≡ verdict-of (verdict (length (now (row .entry))) (now (text .entry))) (now (head .entry)) .head) ⌝ }
+{
+    as_ruling(read(text, row, head))
+}
+
+// `release` for other languages.
+#[no_mangle]
+pub extern "C" fn rolsipay_release(row: &[Leaf], head: &Head, state: &mut State) -> Reply
+    ensures { λ r. ⌜ (r ≡ reply-from (called (now (row .entry)) (now (head .entry)) (now (state .entry)) release .answer))
+        × (now (state .exit) ≡ called (now (row .entry)) (now (head .entry)) (now (state .entry)) release .state) ⌝ }
+{
+    as_reply(release(row, head, state))
+}
+
+// `report` for other languages.
+#[no_mangle]
+pub extern "C" fn rolsipay_report(
+    row: &[Leaf],
+    head: &Head,
+    state: &mut State,
+    point: u64,
+    reading: u64,
+) -> Reply
+    ensures { λ r. ⌜ (r ≡ reply-from (called (now (row .entry)) (now (head .entry)) (now (state .entry)) (report point reading) .answer))
+        × (now (state .exit) ≡ called (now (row .entry)) (now (head .entry)) (now (state .entry)) (report point reading) .state) ⌝ }
+{
+    as_reply(report(row, head, state, point, reading))
+}
+
+// `end` for other languages.
+#[no_mangle]
+pub extern "C" fn rolsipay_end(row: &[Leaf], head: &Head, state: &mut State, reading: u64) -> Reply
+    ensures { λ r. ⌜ (r ≡ reply-from (called (now (row .entry)) (now (head .entry)) (now (state .entry)) (end reading) .answer))
+        × (now (state .exit) ≡ called (now (row .entry)) (now (head .entry)) (now (state .entry)) (end reading) .state) ⌝ }
+{
+    as_reply(end(row, head, state, reading))
+}

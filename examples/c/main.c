@@ -1,0 +1,70 @@
+/* Reads the plan in the file that it is given and plays the marked cases m1 to m5 of plan A, each from a fresh state. One line an answer: the word,
+ * remaining and margin, then 1 if late, else 0; for the end the word and the late mark; or `refused` and the number. */
+#include "rolsipay.h"
+
+#include <inttypes.h>
+#include <stdio.h>
+#include <string.h>
+
+/* A report of a point with a reading. */
+struct report {
+    uint64_t point, reading;
+};
+
+static uint8_t text[ROLSIPAY_TEXT];
+static rolsipay_leaf row[ROLSIPAY_LEAVES];
+static rolsipay_head head;
+
+static void print(rolsipay_reply reply)
+{
+    static const char *const words[] = {"refused", "go", "suspend", "stay", "resume", "ended"};
+    if (reply.word == ROLSIPAY_REFUSED)
+        printf("refused %" PRIu64 "\n", reply.number);
+    else if (reply.word == ROLSIPAY_RESUME || reply.word == ROLSIPAY_ENDED)
+        printf("%s %" PRIu64 "\n", words[reply.word], reply.late);
+    else
+        printf("%s %" PRIu64 " %" PRId64 " %" PRIu64 "\n", words[reply.word], reply.remaining, reply.margin, reply.late);
+}
+
+/* Plays the reports from a fresh state, and leaves the state behind them. */
+static rolsipay_state play(const char *name, const struct report *reports, size_t count)
+{
+    rolsipay_state state;
+    memset(&state, 0, sizeof state);
+    printf("%s\n", name);
+    print(rolsipay_release(row, ROLSIPAY_LEAVES, &head, &state));
+    for (size_t i = 0; i < count; i++)
+        print(rolsipay_report(row, ROLSIPAY_LEAVES, &head, &state, reports[i].point, reports[i].reading));
+    return state;
+}
+
+#define PLAY(name, reports) play(name, reports, sizeof reports / sizeof *reports)
+
+int main(int argc, char **argv)
+{
+    static const struct report m1_m4_m5[] = {{0, 0}, {1, 9}, {1, 33}, {1, 50}, {1, 64}, {1, 64}};
+    static const struct report m2_goes[] = {{0, 0}, {1, 28}};
+    static const struct report m2_suspends[] = {{0, 0}, {1, 29}};
+    static const struct report m3[] = {{0, 0}, {1, 9}, {1, 33}, {1, 57}, {1, 73}};
+    static const struct report m5_suspends[] = {{0, 0}, {1, 9}, {1, 33}, {1, 50}, {1, 65}};
+    FILE *file = argc == 2 ? fopen(argv[1], "rb") : NULL;
+    if (file == NULL) {
+        fprintf(stderr, "use: %s PLAN\n", argv[0]);
+        return 2;
+    }
+    size_t bytes = fread(text, 1, sizeof text, file);
+    fclose(file);
+    rolsipay_ruling ruling = rolsipay_read(text, bytes, row, ROLSIPAY_LEAVES, &head);
+    if (ruling.number != 0) {
+        printf("refused %" PRIu64 " %" PRIu64 "\n", ruling.number, ruling.line);
+        return 1;
+    }
+    printf("task %" PRIu64 " %" PRIu64 " %" PRIu64 " %" PRIu64 "\n", head.total, head.loaded, head.deadline, head.switching);
+    PLAY("m1 m4 m5", m1_m4_m5);
+    PLAY("m2", m2_goes);
+    PLAY("m2", m2_suspends);
+    rolsipay_state state = PLAY("m3", m3);
+    print(rolsipay_end(row, ROLSIPAY_LEAVES, &head, &state, 81));
+    PLAY("m5", m5_suspends);
+    return 0;
+}

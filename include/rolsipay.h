@@ -1,0 +1,131 @@
+/* Rolsipay: the run-time controller of one critical task, from C (C99).
+ *
+ * A plan's text is read once into a row of leaf records and a head, both lent by the caller. Then come calls: release, report of a point with a
+ * reading, and end with a reading. The running state lies in the caller's memory and is moved on there. No call keeps a pointer, allocates memory or fails by a signal.
+ *
+ * What a caller must ensure: each pointer is valid for its whole struct, or for as many records or bytes as the count beside it says (a pointer
+ * beside the count 0 must still not be null), is aligned for it, and nobody else writes that memory during the call. What a call writes (row and
+ * head of rolsipay_read, state of the others) must not overlap with what else it is given. Nothing is asked of the contents: any bytes in text, row,
+ * head and state are answered, by a refusal where they are no plan, no plan's table or no state of it.
+ */
+#ifndef ROLSIPAY_H
+#define ROLSIPAY_H
+
+#include <stddef.h>
+#include <stdint.h>
+
+#ifdef __cplusplus
+extern "C" {
+#endif
+
+/* The limits. Of a longer row only the first ROLSIPAY_LEAVES records are used. */
+#define ROLSIPAY_TEXT 65536               /* bytes of a plan's text */
+#define ROLSIPAY_LEAVES 512               /* leaves of a plan, and records of a row that are used */
+#define ROLSIPAY_FUNCTIONS 16             /* functions of a plan */
+#define ROLSIPAY_BRACKETS 64              /* open brackets */
+#define ROLSIPAY_LEVELS 32                /* the greatest level; level 0 is the release */
+#define ROLSIPAY_ROUNDS 65535             /* rounds of a loop */
+#define ROLSIPAY_COST 1048576             /* the greatest cost and switch cost, 2^20 */
+#define ROLSIPAY_TIME 1099511627776       /* the greatest deadline and total, 2^40 */
+
+/* The words of a reply. */
+#define ROLSIPAY_REFUSED 0
+#define ROLSIPAY_GO 1
+#define ROLSIPAY_SUSPEND 2
+#define ROLSIPAY_STAY 3
+#define ROLSIPAY_RESUME 4
+#define ROLSIPAY_ENDED 5
+
+/* The numbers of refusals. */
+#define ROLSIPAY_OVERSIZE 1
+#define ROLSIPAY_FORM 2
+#define ROLSIPAY_RANGE 3
+#define ROLSIPAY_COUNT 4
+#define ROLSIPAY_LOAD 5
+#define ROLSIPAY_TARGET 6
+#define ROLSIPAY_DEPTH 7
+#define ROLSIPAY_UNSEEN 8
+#define ROLSIPAY_UNCALLED 9
+#define ROLSIPAY_LONG 10
+#define ROLSIPAY_BROKEN 11
+#define ROLSIPAY_BUSY 12
+#define ROLSIPAY_UNFIT 13
+#define ROLSIPAY_IDLE 14
+#define ROLSIPAY_STRANGER 15
+#define ROLSIPAY_BACKWARD 16
+#define ROLSIPAY_ASTRAY 17
+
+/* A leaf's record: 88 bytes. */
+typedef struct {
+    uint64_t kind;     /* 0 leaf, 1 call, 2 loop, 3 if */
+    uint64_t point;    /* 1 for a point, 0 for a silent leaf */
+    uint64_t isolated; /* cost of a visit alone */
+    uint64_t loaded;   /* cost of a visit under load */
+    uint64_t detail;   /* bound of a loop, target of a call, else 0 */
+    uint64_t other;    /* first leaf of an if's else part, else 0 */
+    uint64_t after;    /* first leaf after the form */
+    uint64_t level;    /* level in its own function */
+    uint64_t turn;     /* of a loop: isolated cost of a round, else 0 */
+    uint64_t tail;     /* largest isolated cost from a first visit to the end of its own function */
+    uint64_t stretch;  /* of a point: largest cost under load up to the next point or the end, else 0 */
+} rolsipay_leaf;
+
+/* What stands beside the row: 320 bytes. */
+typedef struct {
+    uint64_t deadline;
+    uint64_t switching; /* switch cost */
+    uint64_t total;     /* largest isolated cost of a run */
+    uint64_t loaded;    /* largest cost of a run under load */
+    uint64_t stretch;   /* of the release */
+    size_t leaves;
+    size_t functions;
+    uint64_t bounds[ROLSIPAY_FUNCTIONS + 1];
+    uint64_t totals[ROLSIPAY_FUNCTIONS];
+} rolsipay_head;
+
+/* The running state: 824 bytes. A fresh state is all zeros. In the first two numbers 0 says no, and any other number yes. */
+typedef struct {
+    uint64_t running;
+    uint64_t suspended;
+    uint64_t reading;
+    uint64_t level;
+    uint64_t leaves[ROLSIPAY_LEVELS + 1];
+    uint64_t earlier[ROLSIPAY_LEVELS + 1];
+    uint64_t times[ROLSIPAY_LEVELS + 1];
+} rolsipay_state;
+
+/* What reading a plan answers: number 0 where it is accepted, else the refusal's number, and its line (from 1; 0 where it has none). */
+typedef struct {
+    uint64_t number;
+    uint64_t line;
+} rolsipay_ruling;
+
+/* What a call answers: the word, and a refusal's number, else 0; of an accepted release or report the remaining time and the margin (held at -2^62);
+ * of every accepted call 1 if the reading exceeds the deadline, else 0. */
+typedef struct {
+    uint64_t word;
+    uint64_t number;
+    uint64_t remaining;
+    int64_t margin;
+    uint64_t late;
+} rolsipay_reply;
+
+/* Reads a plan: its leaves go to the beginning of the row, records past its last leaf keep their values, and the head is written. A refused plan
+ * leaves row and head as they were. */
+rolsipay_ruling rolsipay_read(const uint8_t *text, size_t bytes, rolsipay_leaf *row, size_t records, rolsipay_head *head);
+
+/* Release: refusals 11, 12, 13. A refused call leaves the state as it was. */
+rolsipay_reply rolsipay_release(const rolsipay_leaf *row, size_t records, const rolsipay_head *head, rolsipay_state *state);
+
+/* Report of a point, by its number, with a reading, the ticks elapsed since the release: refusals 11, 14, 15, 16, 17. */
+rolsipay_reply rolsipay_report(const rolsipay_leaf *row, size_t records, const rolsipay_head *head, rolsipay_state *state, uint64_t point,
+                               uint64_t reading);
+
+/* End with a reading: refusals 11, 14, 16, 17. Resume if the others were suspended, ended if not; the state is all zeros again. */
+rolsipay_reply rolsipay_end(const rolsipay_leaf *row, size_t records, const rolsipay_head *head, rolsipay_state *state, uint64_t reading);
+
+#ifdef __cplusplus
+}
+#endif
+
+#endif
