@@ -14,4 +14,5 @@ pub mod Ending
 pub mod Calling
 pub mod Histories
 pub mod Cases
+pub mod Keeping
 pub mod Theorems

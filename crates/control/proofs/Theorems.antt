@@ -11,12 +11,12 @@ use Rattle.model.specs.Remaining.{Reported, Ended}
 use Rattle.model.specs.Condition.{Condition, margin}
 use Rattle.model.specs.Acceptance.{Accepted}
 use Rattle.model.specs.Stack.{Levels}
-use Rattle.model.specs.Calls.{Call, release, report, end, go, suspend, stay}
+use Rattle.model.specs.Calls.{Call, release, report, end, refused, go, suspend, stay}
 use Rattle.model.specs.Timed.{Decision, Held, PointOf, Fit, KeepsDeadline}
 use Rattle.model.specs.Controller as places
 use Rattle.model.specs.Controller.{late}
 use Rattle.model.proofs.Theorems as model
-use Rattle.table.specs.Table.{table-of}
+use Rattle.table.specs.Table.{Table, table-of}
 use Rattle.control.specs.declared.State.{State}
 use Rattle.control.specs.State.{standing}
 use Rattle.control.specs.Calls.{decision, call-on, controller-of}
@@ -26,11 +26,16 @@ use Rattle.control.proofs.Alike as alike
 use Rattle.control.proofs.Alike.{Tied}
 use Rattle.control.proofs.Histories as histories
 use Rattle.control.proofs.Good as good
+use Rattle.control.proofs.Keeping as keeping
 
 -- Rule 11, the state: consider the table of an accepted plan. A running state is good exactly when it stands at the release with the times of the
 -- release, or some run of the plan stands at its last point, open loops and calls with its visit counts and its remaining times are that run's 33.
 pub state-good-exactly : (p : Plan) → Accepted p → (s : State) → ((ls : Levels) × (standing p s ≡ some ls)) ↔ StandsSomewhere p s
 state-good-exactly = good.good-exactly
+
+-- A refused call leaves the state exactly as it was, whatever table and state are.
+pub refused-call-keeps-state : (t : Table) (s : State) (c : Call) (k : ℕ) → call-on t s c .answer ≡ refused k → call-on t s c .state ≡ s
+refused-call-keeps-state = keeping.refused-keeps
 
 -- The calls on the table of an accepted plan answer as the controller over places does, and keep the tie between its states and theirs.
 pub calls-alike : (p : Plan) (a : Accepted p) (s : State) (x : places.State) (c : Call) → Tied p a s x →

@@ -1,4 +1,4 @@
--- A call is refused by a number exactly when the rules say that number, and a refused call keeps the state.
+-- A call is refused by a number exactly when the rules say that number.
 use mathlib.Core.Bool.{Bool, true, false}
 use mathlib.Core.Logic.{_⊎_, _↔_, inl, inr}
 use mathlib.Core.Option.{Option, none, some}
@@ -233,11 +233,3 @@ accepted-exactly t s c = ((λ q k w. not-both (call-on t s c .answer) k (refused
     by : ((k : ℕ) → ¬ Refuses t s c k) → Fate t s c (call-on t s c) → Accepts (call-on t s c .answer)
     by f (inl q) = q
     by f (inr (m, w, q)) = absurd (f m w)
-
--- A refused call keeps the state.
-pub refused-keeps : (t : Table) (s : State) (c : Call) (k : ℕ) → call-on t s c .answer ≡ refused k → call-on t s c .state ≡ s
-refused-keeps t s c k e = by (fate t s c)
-  where
-    by : Fate t s c (call-on t s c) → call-on t s c .state ≡ s
-    by (inl q) = absurd (not-both (call-on t s c .answer) k e q)
-    by (inr (m, w, q)) = ap (λ r. r .state) q

@@ -21,10 +21,11 @@ use Rattle.control.specs.State.{fresh}
 use Rattle.control.specs.Calls.{refuse, call-on}
 use Rattle.control.specs.Histories.{Accepts, Since}
 use Rattle.control.specs.Histories as since
+use Rattle.control.proofs.Keeping.{refused-keeps}
 use Rattle.demands.specs.Rules.{TableOf, Refuses, idle-report, idle-end}
 use Rattle.demands.specs.Decisions.{Closes, resumes, just-ends}
 use Rattle.demands.specs.Lists.{Reached, at-first, after}
-use Rattle.demands.proofs.Calls.{fate, refused-exactly, accepted-exactly, refused-keeps, point-test}
+use Rattle.demands.proofs.Calls.{fate, refused-exactly, accepted-exactly, point-test}
 use Rattle.demands.proofs.Decisions as decisions
 
 module _ (p : Plan) (t : Table) (o : TableOf p t) where

@@ -67,7 +67,7 @@ call-refused-exactly = calls.refused-exactly
 
 -- A refused call leaves the state exactly as it was.
 pub refused-call-keeps-state : (t : Table) (s : State) (c : Call) (k : ℕ) → call-on t s c .answer ≡ refused k → call-on t s c .state ≡ s
-refused-call-keeps-state = calls.refused-keeps
+refused-call-keeps-state = control.refused-call-keeps-state
 
 -- DEMAND 2: ACCEPTED EXACTLY WHERE THE RULES ALLOW IT, REMAINING AND SUSPENSION
 

@@ -2,32 +2,26 @@
 -- Assumes nothing.
 use mathlib.Core.Bool.{Bool, true, false, not}
 use mathlib.Core.List.{List, [], _∷_, _++_, map, append-assoc, map-append}
-use mathlib.Core.Option.{Option, none, some}
 use mathlib.Core.Path.{_≡_, refl, ap, sym, _∙_, subst}
 use Prim.Native.Nat.{ℕ, zero, suc, _+_, _-_, _*_, _≤_, _<_}
 use native.Mathlib.Omega.{arith}
-use lib.Dec.{eqb, leb, ltb}
+use lib.Dec.{eqb}
 use lib.ListN.{length, getD, take, drop, length-map}
 use lib.Seq.{drop-cons, take-add, drop-drop, take-at, take-all, take-append-add}
-use Rattle.model.specs.Plan.{C, Plan, all-leaves}
-use Rattle.model.specs.Forms.{main}
-use Rattle.model.specs.Total.{total}
-use Rattle.model.specs.Stretch.{silence}
+use Rattle.model.specs.Plan.{Plan}
 use Rattle.model.specs.Acceptance.{sizes, Accepted}
-use Rattle.model.specs.Condition.{holds}
 use Rattle.model.specs.Places.{pick}
-use Rattle.model.specs.Stack.{Levels}
-use Rattle.model.specs.Calls.{Call, release, report, end, resume, ended, Reply}
-use Rattle.model.specs.Controller.{is-point, late}
+use Rattle.model.specs.Calls.{Call, Answer, refused, go, suspend, stay, resume, ended, Reply}
 use Rattle.reader.specs.Machine.{plan}
 use Rattle.reader.proofs.Theorems.{row-length}
 use Rattle.table.specs.declared.Head.{Head}
-use Rattle.table.specs.Table.{Table, table-of, table-at, head-of, plan-of}
+use Rattle.table.specs.Table.{Table, table-of, head-of}
+use Rattle.table.proofs.Tests.{no-truth}
 use Rattle.table.proofs.Written.{turns-size, tails-size, stretches-size}
 use Rattle.control.specs.declared.State as control
-use Rattle.control.specs.State.{standing, at-release}
-use Rattle.control.specs.Answers.{answer-of, reply-of}
-use Rattle.control.specs.Calls.{refuse, decision, suspended-after, released, reported, next-levels, may-end, closed, running-call, idle-call, at-levels, by-phase, on-plan, call-on}
+use Rattle.control.specs.Answers.{answer-of}
+use Rattle.control.specs.Calls.{call-on}
+use Rattle.control.proofs.Keeping.{refused-keeps}
 use Rattle.rolsipay.specs.declared.Leaf.{Leaf}
 use Rattle.rolsipay.specs.declared.State.{State}
 use Rattle.rolsipay.specs.Lent.{fields, numbers, table-with, table-in, leaf-of, leaves-from}
@@ -123,79 +117,14 @@ read-back p a ls =
 
 -- A CALL IS THE CONTROLLER'S
 
-clash : false ≡ true → ⊥
-clash e = subst (λ (b : Bool). pick-type b) e tt
-  where
-    pick-type : Bool → Type 0
-    pick-type true = ⊥
-    pick-type false = Unit
-
--- A reply that refuses leaves the state.
-abbrev Keeps : control.State → Reply control.State → Type 0
-Keeps s r = refusing (answer-of (r .answer)) ≡ true → r .state ≡ s
-
--- A decision is no refusal.
-decides : (p : Plan) (r str t : ℕ) (b : Bool) → refusing (answer-of (decision p r str t b)) ≡ false
-decides p r str t true = refl
-decides p r str t false = by (holds p r str t) refl
-  where
-    by : (h : Bool) → holds p r str t ≡ h → refusing (answer-of (decision p r str t false)) ≡ false
-    by true e = rw e refl
-    by false e = rw e refl
-
--- One of two replies.
-either : (s : control.State) (b : Bool) (x y : Reply control.State) → Keeps s x → Keeps s y → Keeps s (pick b x y)
-either s true x y k l = k
-either s false x y k l = l
-
-released-keeps : (p : Plan) (s : control.State) → Keeps s (released p s)
-released-keeps p s =
-    let r = total C (main p) in
-    let str = silence (main p) 0 in
-    let x : Reply control.State = record { state = at-release p (suspended-after p r str 0 false); answer = decision p r str 0 false } in
-    either s (leb (r + p .switch) (p .deadline)) x (refuse s 13) (λ e. absurd (clash (sym (decides p r str 0 false) ∙ e))) (λ e. refl)
-
-reported-keeps : (p : Plan) (s : control.State) (n t : ℕ) (o : Option Levels) → Keeps s (reported p s n t o)
-reported-keeps p s n t none e = refl
-reported-keeps p s n t (some ls) e = absurd (clash (sym (decides p _ _ t (s .suspended)) ∙ e))
-
-closed-keeps : (p : Plan) (s : control.State) (t : ℕ) → Keeps s (closed p s t)
-closed-keeps p s t e = absurd (clash (sym (ends (s .suspended)) ∙ e))
-  where
-    ends : (b : Bool) → refusing (answer-of (pick b (resume (late p t)) (ended (late p t)))) ≡ false
-    ends true = refl
-    ends false = refl
-
-running-keeps : (p : Plan) (s : control.State) (ls : Levels) (c : Call) → Keeps s (running-call p s ls c)
-running-keeps p s ls release = λ e. refl
-running-keeps p s ls (report n t) =
-    let x = reported p s n t (next-levels p ls n) in
-    either s (is-point (all-leaves (p .functions)) n) (pick (ltb t (s .reading)) (refuse s 16) x) (refuse s 15)
-    (either s (ltb t (s .reading)) (refuse s 16) x (λ e. refl) (reported-keeps p s n t (next-levels p ls n))) (λ e. refl)
-running-keeps p s ls (end t) =
-    either s (ltb t (s .reading)) (refuse s 16) (pick (may-end p ls) (closed p s t) (refuse s 17)) (λ e. refl)
-    (either s (may-end p ls) (closed p s t) (refuse s 17) (closed-keeps p s t) (λ e. refl))
-
-idle-keeps : (p : Plan) (s : control.State) (c : Call) → Keeps s (idle-call p s c)
-idle-keeps p s release = released-keeps p s
-idle-keeps p s (report n t) = λ e. refl
-idle-keeps p s (end t) = λ e. refl
-
-levels-keep : (p : Plan) (s : control.State) (c : Call) (o : Option Levels) → Keeps s (at-levels p s c o)
-levels-keep p s c none = λ e. refl
-levels-keep p s c (some ls) = running-keeps p s ls c
-
-phase-keeps : (p : Plan) (s : control.State) (c : Call) (b : Bool) → Keeps s (by-phase p s c b)
-phase-keeps p s c true = levels-keep p s c (standing p s)
-phase-keeps p s c false = idle-keeps p s c
-
-plan-keeps : (s : control.State) (c : Call) (o : Option Plan) → Keeps s (on-plan s c o)
-plan-keeps s c none = λ e. refl
-plan-keeps s c (some p) = phase-keeps p s c (s .running)
-
-call-keeps : (t : Table) (s : control.State) (c : Call) → Keeps s (call-on t s c)
-unfolding call-on
-call-keeps t s c = plan-keeps s c (plan-of t)
+-- An answer that is a refusal has a number.
+refused-by : (a : Answer) → refusing (answer-of a) ≡ true → (k : ℕ) × (a ≡ refused k)
+refused-by (refused n) e = (n, refl)
+refused-by (go r m late) e = no-truth e
+refused-by (suspend r m late) e = no-truth e
+refused-by (stay r m late) e = no-truth e
+refused-by (resume late) e = no-truth e
+refused-by (ended late) e = no-truth e
 
 -- The state of a lent state is the controller's again.
 flagged : (b : Bool) → not (eqb (flag b) 0) ≡ b
@@ -227,5 +156,5 @@ call-state ls h s c = by (refusing (answer-of (r .answer))) refl
     r = call-on (table-in ls h) (state-of s) c
 
     by : (b : Bool) → refusing (answer-of (r .answer)) ≡ b → state-of (pick b s (lent (r .state))) ≡ r .state
-    by true e = sym (call-keeps (table-in ls h) (state-of s) c e)
+    by true e = let (k, x) = refused-by (r .answer) e in sym (refused-keeps (table-in ls h) (state-of s) c k x)
     by false e = lent-back (r .state)
