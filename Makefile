@@ -1,11 +1,15 @@
 # What integrators link. `make lib` puts the static library of the delivered calls and its header into dist/.
-# `make examples` builds the programs of examples/c and examples/ada with it, runs them on plan A and compares what they print.
-.PHONY: lib examples
+# `make examples` proves and builds the table program, builds the programs of examples/c and examples/ada with the library, runs them and compares what they
+# print, and holds the table program to the listings of the examples.
+.PHONY: lib tables examples
 
 lib:
 	rt staticlib rolsipay
 	mkdir -p dist
 	cp target/staticlib/librolsipay.a include/rolsipay.h dist/
 
-examples: lib
+tables:
+	rt check tables
+
+examples: lib tables
 	examples/run

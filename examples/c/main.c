@@ -1,30 +1,12 @@
-/* Reads the plan in the file that it is given and plays the marked cases m1 to m5 of plan A, each from a fresh state. One line an answer: the word,
- * remaining and margin, then 1 if late, else 0; for the end the word and the late mark; or `refused` and the number. */
-#include "rolsipay.h"
+/* Reads the plan in the file that it is given and plays the marked cases m1 to m5 of plan A, each from a fresh state, one line an answer. */
+#include "answers.h"
 
-#include <inttypes.h>
-#include <stdio.h>
 #include <string.h>
 
 /* A report of a point with a reading. */
 struct report {
     uint64_t point, reading;
 };
-
-static uint8_t text[ROLSIPAY_TEXT];
-static rolsipay_leaf row[ROLSIPAY_LEAVES];
-static rolsipay_head head;
-
-static void print(rolsipay_reply reply)
-{
-    static const char *const words[] = {"refused", "go", "suspend", "stay", "resume", "ended"};
-    if (reply.word == ROLSIPAY_REFUSED)
-        printf("refused %" PRIu64 "\n", reply.number);
-    else if (reply.word == ROLSIPAY_RESUME || reply.word == ROLSIPAY_ENDED)
-        printf("%s %" PRIu64 "\n", words[reply.word], reply.late);
-    else
-        printf("%s %" PRIu64 " %" PRId64 " %" PRIu64 "\n", words[reply.word], reply.remaining, reply.margin, reply.late);
-}
 
 /* Plays the reports from a fresh state, and leaves the state behind them. */
 static rolsipay_state play(const char *name, const struct report *reports, size_t count)
@@ -47,14 +29,11 @@ int main(int argc, char **argv)
     static const struct report m2_suspends[] = {{0, 0}, {1, 29}};
     static const struct report m3[] = {{0, 0}, {1, 9}, {1, 33}, {1, 57}, {1, 73}};
     static const struct report m5_suspends[] = {{0, 0}, {1, 9}, {1, 33}, {1, 50}, {1, 65}};
-    FILE *file = argc == 2 ? fopen(argv[1], "rb") : NULL;
-    if (file == NULL) {
+    if (argc != 2) {
         fprintf(stderr, "use: %s PLAN\n", argv[0]);
         return 2;
     }
-    size_t bytes = fread(text, 1, sizeof text, file);
-    fclose(file);
-    rolsipay_ruling ruling = rolsipay_read(text, bytes, row, ROLSIPAY_LEAVES, &head);
+    rolsipay_ruling ruling = read_plan(argv[1], ROLSIPAY_LEAVES);
     if (ruling.number != 0) {
         printf("refused %" PRIu64 " %" PRIu64 "\n", ruling.number, ruling.line);
         return 1;

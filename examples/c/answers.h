@@ -1,0 +1,41 @@
+/* What the example programs share: how an answer is printed, and how a plan's file is read into the lent row and head. */
+#ifndef ANSWERS_H
+#define ANSWERS_H
+
+#include "rolsipay.h"
+
+#include <inttypes.h>
+#include <stdio.h>
+
+static rolsipay_leaf row[ROLSIPAY_LEAVES];
+static rolsipay_head head;
+
+/* Prints an answer as one line: the word, remaining and margin, then 1 if late, else 0; for the end the word and the late mark; or `refused` and the number. */
+static void print(rolsipay_reply reply)
+{
+    static const char *const words[] = {"refused", "go", "suspend", "stay", "resume", "ended"};
+    if (reply.word == ROLSIPAY_REFUSED)
+        printf("refused %" PRIu64 "\n", reply.number);
+    else if (reply.word == ROLSIPAY_RESUME || reply.word == ROLSIPAY_ENDED)
+        printf("%s %" PRIu64 "\n", words[reply.word], reply.late);
+    else
+        printf("%s %" PRIu64 " %" PRId64 " %" PRIu64 "\n", words[reply.word], reply.remaining, reply.margin, reply.late);
+}
+
+/* Reads the plan in a file into the first records of the row, and the head. The text has room for one byte more than a plan may have, so that a
+ * longer one is seen to be. */
+static rolsipay_ruling read_plan(const char *name, size_t records)
+{
+    static uint8_t text[ROLSIPAY_TEXT + 1];
+    size_t bytes = 0;
+    FILE *file = fopen(name, "rb");
+    if (file == NULL)
+        perror(name);
+    else {
+        bytes = fread(text, 1, sizeof text, file);
+        fclose(file);
+    }
+    return rolsipay_read(text, bytes, row, records, &head);
+}
+
+#endif

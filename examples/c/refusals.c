@@ -1,0 +1,108 @@
+/* Provokes every refusal of a call, 11 to 17, and the one of reading that needs a short row, 4. It is given plan A and a plan that is unfit; each line has
+ * the refusal's word, what was called, and the answer. */
+#include "answers.h"
+
+#include <string.h>
+
+static rolsipay_state state;
+
+static rolsipay_reply release(void)
+{
+    return rolsipay_release(row, ROLSIPAY_LEAVES, &head, &state);
+}
+
+static rolsipay_reply report(uint64_t point, uint64_t reading)
+{
+    return rolsipay_report(row, ROLSIPAY_LEAVES, &head, &state, point, reading);
+}
+
+static rolsipay_reply end(uint64_t reading)
+{
+    return rolsipay_end(row, ROLSIPAY_LEAVES, &head, &state, reading);
+}
+
+static void show(const char *what, rolsipay_reply reply)
+{
+    printf("%s: ", what);
+    print(reply);
+}
+
+/* A fresh state, released. */
+static void begin(void)
+{
+    memset(&state, 0, sizeof state);
+    release();
+}
+
+static void broken(void)
+{
+    row[2].isolated = 11;
+    show("broken, release on a row with a cost changed from 10 to 11", release());
+    row[2].isolated = 10;
+    begin();
+    state.times[0] = 48;
+    show("broken, report 0 at 0 with the total in the state changed from 49 to 48", report(0, 0));
+    state.times[0] = 49;
+    show("mended, report 0 at 0", report(0, 0));
+}
+
+static void idle_and_busy(void)
+{
+    memset(&state, 0, sizeof state);
+    show("idle, report 0 at 0 before a release", report(0, 0));
+    show("idle, end at 0 before a release", end(0));
+    begin();
+    show("busy, release after a release", release());
+}
+
+static void strangers(void)
+{
+    begin();
+    show("stranger, report 2, a silent leaf, at 0", report(2, 0));
+    show("stranger, report 4, no leaf, at 0", report(4, 0));
+}
+
+static void backward(void)
+{
+    begin();
+    report(0, 5);
+    show("backward, report 1 at 4 after report 0 at 5", report(1, 4));
+    show("backward, end at 4 after report 0 at 5", end(4));
+    show("equal, report 1 at 5 after report 0 at 5", report(1, 5));
+}
+
+static void astray(void)
+{
+    begin();
+    show("astray, report 1 at 0 before report 0", report(1, 0));
+    show("astray, end at 0 before any report", end(0));
+    show("in order, report 0 at 0", report(0, 0));
+    show("astray, report 0 at 9 again", report(0, 9));
+    for (uint64_t visit = 1; visit <= 4; visit++)
+        report(1, 9);
+    show("astray, report 1 at 9, a fifth visit of 4", report(1, 9));
+}
+
+int main(int argc, char **argv)
+{
+    if (argc != 3) {
+        fprintf(stderr, "use: %s PLAN-A UNFIT\n", argv[0]);
+        return 2;
+    }
+    rolsipay_ruling ruling = read_plan(argv[1], 3);
+    printf("count, plan A read into a row of 3 records: refused %" PRIu64 " %" PRIu64 "\n", ruling.number, ruling.line);
+    ruling = read_plan(argv[1], ROLSIPAY_LEAVES);
+    if (ruling.number != 0)
+        return 1;
+    broken();
+    idle_and_busy();
+    strangers();
+    backward();
+    astray();
+    memset(&state, 0, sizeof state);
+    ruling = read_plan(argv[2], ROLSIPAY_LEAVES);
+    if (ruling.number != 0)
+        return 1;
+    show("unfit, release with total 7, T 3 and D 9", release());
+    return 0;
+}
