@@ -10,8 +10,13 @@ use Rattle.text.specs.declared.Num.the-variants.{No, At}
 use Rattle.text.specs.declared.Fields.{Fields}
 use Rattle.text.specs.declared.Fitted.{Fitted}
 use Rattle.text.specs.declared.Fitted.the-variants.{Misfit, Fit}
-use Rattle.text.specs.Text.{number, none, some, item, misfit, fit, matched, miss, match}
+use Rattle.text.specs.Text.{class-of, number, none, some, item, misfit, fit, matched, miss, match}
 use Rattle.text.specs.Positions.{line-at, line-end, cap}
+
+-- The table of classes has the class of each byte.
+pub record Classed (t : List ℕ) : Type 0 where
+  pub long : length t ≡ 256
+  pub each : (b : ℕ) → b < 256 → getD t b 0 ≡ class-of b
 
 -- A step within a line, from one place to a later one.
 pub record Onward (s : List ℕ) (at e : ℕ) : Type 0 where

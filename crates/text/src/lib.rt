@@ -1,8 +1,12 @@
 // The lines of a plan text: which form a line is, with its numbers (document 01, 'A plan, one form a line').
 ghost use mathlib.Core.Path.{_≡_};
+ghost use mathlib.Core.Bool.{true};
+ghost use Prim.Native.Nat.{_+_};
 ghost use Rattle.text.specs.Text.{class-of, is-upper};
 ghost use Rattle.text.specs.Positions.{read-at};
-ghost use Rattle.text.specs.Helpers.{NumberAt, ItemAt, MatchAt, Pushed, Kinded};
+ghost use Rattle.text.specs.declared.Fields.{Fields};
+ghost use Rattle.text.specs.declared.Fitted.the-variants.{Fit};
+ghost use Rattle.text.specs.Helpers.{Classed, NumberAt, ItemAt, MatchAt, Pushed, Kinded};
 
 // The lines of the grammar. The kind K is true for p, a point, and false for s, silent. Numbers from 2^41 on are held at 2^41.
 pub enum Form {
@@ -60,6 +64,9 @@ const CLOSE: u8 = 4;
 const LINE_FEED: u8 = 5;
 
 const OTHER: u8 = 6;
+
+// A class for each byte.
+type Classes = [u8; 256];
 
 // The class of each byte.
 const CLASS: [u8; 256] = [
@@ -321,12 +328,13 @@ const CLASS: [u8; 256] = [
     OTHER, // 255
 ];
 
-// Says which class a byte is of.
-fn class(b: u8) -> u8
+// Says which class a byte is of, by the table, which `line` makes once: a constant that is indexed is made anew each time.
+fn class(table: &Classes, b: u8) -> u8
+    requires { ⌜ Classed (now table) ⌝ }
     ensures { λ r. ⌜ r ≡ class-of b ⌝ }
 {
     let i = b as usize;
-    CLASS[i]
+    table[i]
 }
 
 // Says whether a sign of a pattern is a capital, A to Z.
@@ -347,14 +355,15 @@ fn wide(b: u8) -> u64
 }
 
 // Reads the number that stands at a place: 0, or a digit that is not 0 and as many digits as follow.
-fn number(text: &[u8], at: usize) -> Num
+fn number(table: &Classes, text: &[u8], at: usize) -> Num
+    requires { ⌜ Classed (now table) ⌝ }
     ensures { λ r. ⌜ NumberAt (now (text .entry)) at r ⌝ }
 {
     if text.len() <= at {
         return Num::No;
     }
     let b = text[at];
-    if class(b) != DIGIT {
+    if class(table, b) != DIGIT {
         return Num::No;
     }
     if b == b'0' {
@@ -364,7 +373,7 @@ fn number(text: &[u8], at: usize) -> Num
     let mut i = at + 1;
     while i < text.len() {
         let d = text[i];
-        if class(d) != DIGIT {
+        if class(table, d) != DIGIT {
             return Num::At(v, i);
         }
         v = v * 10 + wide(d - b'0');
@@ -401,14 +410,15 @@ fn kinded(f: Fields, k: bool) -> Fields
 }
 
 // Holds the sign t of a pattern against what stands at a place: K takes a kind, any other capital a number, any other sign itself.
-fn item(text: &[u8], at: usize, t: u8, f: Fields) -> Fitted
+fn item(table: &Classes, text: &[u8], at: usize, t: u8, f: Fields) -> Fitted
+    requires { ⌜ Classed (now table) ⌝ }
     ensures { λ r. ⌜ ItemAt (now (text .entry)) at t f r ⌝ }
 {
     if text.len() <= at {
         return Fitted::Misfit;
     }
     let b = text[at];
-    if class(b) == LINE_FEED {
+    if class(table, b) == LINE_FEED {
         return Fitted::Misfit;
     }
     if t == b'K' {
@@ -421,7 +431,7 @@ fn item(text: &[u8], at: usize, t: u8, f: Fields) -> Fitted
         return Fitted::Misfit;
     }
     if is_upper(t) {
-        let Num::At(v, e) = number(text, at) else {
+        let Num::At(v, e) = number(table, text, at) else {
             return Fitted::Misfit;
         };
         return Fitted::Fit(pushed(f, v), e);
@@ -432,8 +442,30 @@ fn item(text: &[u8], at: usize, t: u8, f: Fields) -> Fitted
     Fitted::Misfit
 }
 
+// Says whether the sign t stands for itself, is no line feed, and stands at a place. Most signs of a pattern do: they need no fields.
+fn stands(table: &Classes, text: &[u8], at: usize, t: u8) -> bool
+    requires { ⌜ Classed (now table) ⌝ }
+    ensures { λ r. ⌜ (r ≡ true → (f : Fields) → ItemAt (now (text .entry)) at t f (Fit f (at + 1))) ⌝ }
+{
+    if text.len() <= at {
+        return false;
+    }
+    let b = text[at];
+    if b != t {
+        return false;
+    }
+    if is_upper(t) {
+        return false;
+    }
+    if class(table, b) == LINE_FEED {
+        return false;
+    }
+    true
+}
+
 // Holds the pattern p against the line at a place, with its line feed.
-fn matches(text: &[u8], at: usize, p: &[u8]) -> Fitted
+fn matches(table: &Classes, text: &[u8], at: usize, p: &[u8]) -> Fitted
+    requires { ⌜ Classed (now table) ⌝ }
     ensures { λ r. ⌜ MatchAt (now (text .entry)) at (now (p .entry)) r ⌝ }
 {
     let mut f = Fields {
@@ -445,12 +477,17 @@ fn matches(text: &[u8], at: usize, p: &[u8]) -> Fitted
     let mut i = at;
     let mut j = 0;
     while j < p.len() {
-        match item(text, i, p[j], f) {
-            Fitted::Fit(g, e) => {
-                f = g;
-                i = e;
+        let t = p[j];
+        if stands(table, text, i, t) {
+            i += 1;
+        } else {
+            match item(table, text, i, t, f) {
+                Fitted::Fit(g, e) => {
+                    f = g;
+                    i = e;
+                }
+                Fitted::Misfit => return Fitted::Misfit,
             }
-            Fitted::Misfit => return Fitted::Misfit,
         }
         j += 1;
     }
@@ -458,42 +495,51 @@ fn matches(text: &[u8], at: usize, p: &[u8]) -> Fitted
         return Fitted::Misfit;
     }
     let end = text[i];
-    if class(end) == LINE_FEED {
+    if class(table, end) == LINE_FEED {
         return Fitted::Fit(f, i + 1);
     }
     Fitted::Misfit
+}
+
+// Reads the line at a place, with the table of classes.
+fn line_by(table: &Classes, text: &[u8], at: usize) -> Read
+    requires { ⌜ Classed (now table) ⌝ }
+    ensures { λ r. ⌜ r ≡ read-at (now (text .entry)) at ⌝ }
+{
+    if let Fitted::Fit(f, e) = matches(table, text, at, b"(task D T") {
+        return Read::Line(Form::Task(f.second, f.last), e);
+    }
+    if let Fitted::Fit(_, e) = matches(table, text, at, b"(fun") {
+        return Read::Line(Form::Fun, e);
+    }
+    if let Fitted::Fit(f, e) = matches(table, text, at, b"(leaf K C M)") {
+        return Read::Line(Form::Leaf(f.kind, f.second, f.last), e);
+    }
+    if let Fitted::Fit(f, e) = matches(table, text, at, b"(call K F C M)") {
+        return Read::Line(Form::Call(f.kind, f.third, f.second, f.last), e);
+    }
+    if let Fitted::Fit(f, e) = matches(table, text, at, b"(loop K B C M") {
+        return Read::Line(Form::Loop(f.kind, f.third, f.second, f.last), e);
+    }
+    if let Fitted::Fit(f, e) = matches(table, text, at, b"(if K C M") {
+        return Read::Line(Form::If(f.kind, f.second, f.last), e);
+    }
+    if let Fitted::Fit(_, e) = matches(table, text, at, b"(then") {
+        return Read::Line(Form::Then, e);
+    }
+    if let Fitted::Fit(_, e) = matches(table, text, at, b"(else") {
+        return Read::Line(Form::Else, e);
+    }
+    if let Fitted::Fit(_, e) = matches(table, text, at, b")") {
+        return Read::Line(Form::Close, e);
+    }
+    Read::Unread
 }
 
 // Reads the line at a place: its form and where the next line begins, or that it is no line of the grammar, as past the end of the text.
 pub fn line(text: &[u8], at: usize) -> Read
     ensures { λ r. ⌜ r ≡ read-at (now (text .entry)) at ⌝ }
 {
-    if let Fitted::Fit(f, e) = matches(text, at, b"(task D T") {
-        return Read::Line(Form::Task(f.second, f.last), e);
-    }
-    if let Fitted::Fit(_, e) = matches(text, at, b"(fun") {
-        return Read::Line(Form::Fun, e);
-    }
-    if let Fitted::Fit(f, e) = matches(text, at, b"(leaf K C M)") {
-        return Read::Line(Form::Leaf(f.kind, f.second, f.last), e);
-    }
-    if let Fitted::Fit(f, e) = matches(text, at, b"(call K F C M)") {
-        return Read::Line(Form::Call(f.kind, f.third, f.second, f.last), e);
-    }
-    if let Fitted::Fit(f, e) = matches(text, at, b"(loop K B C M") {
-        return Read::Line(Form::Loop(f.kind, f.third, f.second, f.last), e);
-    }
-    if let Fitted::Fit(f, e) = matches(text, at, b"(if K C M") {
-        return Read::Line(Form::If(f.kind, f.second, f.last), e);
-    }
-    if let Fitted::Fit(_, e) = matches(text, at, b"(then") {
-        return Read::Line(Form::Then, e);
-    }
-    if let Fitted::Fit(_, e) = matches(text, at, b"(else") {
-        return Read::Line(Form::Else, e);
-    }
-    if let Fitted::Fit(_, e) = matches(text, at, b")") {
-        return Read::Line(Form::Close, e);
-    }
-    Read::Unread
+    let table = CLASS;
+    line_by(&table, text, at)
 }

@@ -1,16 +1,13 @@
--- `text::class` meets its contract: the table is the list of the classes of 0 to 255, which antt compares entry by entry. Assumes nothing.
-use Rattle.text.specs.Text.{class-of}
-use Rattle.text.proofs.Classes.{values, value-at}
+-- `text::class` meets its contract: the table has the class of each byte. Assumes nothing.
 use borrow.Author.Needs.{needs}
 use Rattle.text.proofs.class.Statement.{statement}
 use Rattle.text.proofs.class.Tie as tie
 
-array-read-result : tie.Need-array-read-result
-array-read-result c = search needs
+element-copy-out-result : tie.Need-element-copy-out-result
+element-copy-out-result c = search needs
 
 returns : tie.Need-returns
-unfolding values
-returns c = value-at class-of 256 (c .args .b) (search needs)
+returns c = c .before .pre .each (c .before .args .b) (search needs)
 
 pub class-spec : {M : Type 1} → statement M
-class-spec = tie.close (tie.spec array-read-result returns)
+class-spec = tie.close (tie.spec element-copy-out-result returns)

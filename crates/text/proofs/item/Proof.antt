@@ -41,7 +41,7 @@ shared-slice-read-b : tie.Need-shared-slice-read-b
 shared-slice-read-b c = search needs
 
 class-requires : tie.Need-class-requires
-class-requires c κs = search needs
+class-requires c κs = c .before .before .before .pre
 
 returns-2 : tie.Need-returns-2
 returns-2 c = λ k acc h. item-feed _ _ (omega arith) _ k acc (class-feed _ (sym (c .before .class .ensures) ∙ c .if2 .taken))
@@ -49,8 +49,8 @@ returns-2 c = λ k acc h. item-feed _ _ (omega arith) _ k acc (class-feed _ (sym
 kinded-requires : tie.Need-kinded-requires
 kinded-requires c κs = search needs
 
-add-t14 : tie.Need-add-t14
-add-t14 c = search needs
+add-t15 : tie.Need-add-t15
+add-t15 c = search needs
 
 returns-3 : tie.Need-returns-3
 returns-3 c = (
@@ -66,8 +66,8 @@ returns-3 c = (
 kinded-requires-2 : tie.Need-kinded-requires-2
 kinded-requires-2 c κs = search needs
 
-add-t16 : tie.Need-add-t16
-add-t16 c = search needs
+add-t17 : tie.Need-add-t17
+add-t17 c = search needs
 
 returns-4 : tie.Need-returns-4
 returns-4 c = (
@@ -89,7 +89,7 @@ is-upper-requires : tie.Need-is-upper-requires
 is-upper-requires c κs = search needs
 
 number-requires : tie.Need-number-requires
-number-requires c κs = search needs
+number-requires c κs = c .before .before .before .before .before .before .before .before .pre
 
 enum-known-v : tie.Need-enum-known-v
 enum-known-v c = search needs
@@ -117,8 +117,8 @@ returns-7 c =
       ),
     )
 
-add-t20 : tie.Need-add-t20
-add-t20 c = search needs
+add-t21 : tie.Need-add-t21
+add-t21 c = search needs
 
 returns-8 : tie.Need-returns-8
 returns-8 c = (
@@ -146,10 +146,10 @@ item-spec =
     class-requires
     returns-2
     kinded-requires
-    add-t14
+    add-t15
     returns-3
     kinded-requires-2
-    add-t16
+    add-t17
     returns-4
     returns-5
     is-upper-requires
@@ -159,6 +159,6 @@ item-spec =
     returns-6
     pushed-requires
     returns-7
-    add-t20
+    add-t21
     returns-8
     returns-9)

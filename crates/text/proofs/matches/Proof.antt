@@ -6,6 +6,7 @@ use Prim.Native.Nat.{_-_}
 use lib.ListN.{length}
 use mathlib.Core.Path.{refl, sym, _∙_, subst}
 use mathlib.Core.Bool.{false}
+use mathlib.Core.Logic.{⊎-elim}
 use mathlib.Core.List.{[]}
 use Rattle.text.specs.Helpers.{ItemAt}
 use Rattle.text.proofs.Classes.{class-feed, class-no-feed}
@@ -14,20 +15,26 @@ use Rattle.text.proofs.matches.Statement.{statement}
 use Rattle.text.proofs.matches.Tie as tie
 
 abbrev Inv-loop : tie.InvT-loop
-Inv-loop text at p f₀ i₀ j₀ f i j = Matching text at p f i j
+Inv-loop table text at p f₀ i₀ j₀ f i j = Matching text at p f i j
 
 abbrev μ-loop : tie.MeasureT-loop
-μ-loop text at p f₀ i₀ j₀ f i j = length p - j
+μ-loop table text at p f₀ i₀ j₀ f i j = length p - j
 
 loop-holds : tie.Need-loop-holds Inv-loop μ-loop
 loop-holds c =
     record { same = refl; kind = false; acc = []; holds = record { holds-kind = refl; holds-last = refl; holds-second = refl; holds-third = refl }; goes = refl }
 
-shared-slice-read-item : tie.Need-shared-slice-read-item Inv-loop μ-loop
-shared-slice-read-item c = search needs
+shared-slice-read-t : tie.Need-shared-slice-read-t Inv-loop μ-loop
+shared-slice-read-t c = search needs
+
+stands-requires : tie.Need-stands-requires Inv-loop μ-loop
+stands-requires c κs = c .before .before .before .before .before .pre
+
+add-i : tie.Need-add-i Inv-loop μ-loop
+add-i c = search (needs, c .before .stands .ensures (c .if1 .taken) (c .before .before .before .before .loop .f) .0 .within)
 
 item-requires : tie.Need-item-requires Inv-loop μ-loop
-item-requires c κs = search needs
+item-requires c κs = c .before .before .before .before .before .before .before .pre
 
 enum-known-g : tie.Need-enum-known-g Inv-loop μ-loop
 enum-known-g c = search needs
@@ -37,7 +44,7 @@ enum-told c = search needs
 
 returns : tie.Need-returns Inv-loop μ-loop
 returns c =
-    match-miss (c .before .before .before .before .before .loop .inv) (omega arith)
+    match-miss (c .before .before .before .before .before .before .before .loop .inv) (omega arith)
     (subst (ItemAt _ _ _ _) (c .enum-told .given .1) (c .before .before .item .ensures))
 
 add-j : tie.Need-add-j Inv-loop μ-loop
@@ -48,8 +55,11 @@ loop-less c = search needs
 
 loop-again : tie.Need-loop-again Inv-loop μ-loop
 loop-again c =
-    match-step (c .before .before .before .before .before .before .loop .inv) (omega arith)
-    (subst (ItemAt _ _ _ _) (c .before .g .given .1) (c .before .before .before .item .ensures))
+    let m = c .before .before .before .before .loop .inv in
+    ⊎-elim
+    (λ w. rw (w .1, w .2) (match-step m (omega arith) (c .before .stands .ensures (w .0 .taken) (c .before .before .before .before .loop .f))))
+    (λ w. rw (w .5, w .6) (match-step m (omega arith) (subst (ItemAt _ _ _ _) (w .3 .given .1) (w .1 .ensures))))
+    (c .if1 .came)
 
 returns-2 : tie.Need-returns-2 Inv-loop μ-loop
 returns-2 c = match-short (c .before .before .loop .inv) (omega arith) (omega arith)
@@ -58,20 +68,20 @@ shared-slice-read-end : tie.Need-shared-slice-read-end Inv-loop μ-loop
 shared-slice-read-end c = search needs
 
 class-requires : tie.Need-class-requires Inv-loop μ-loop
-class-requires c κs = search needs
+class-requires c κs = c .before .before .before .before .before .before .pre
 
-add-t19 : tie.Need-add-t19 Inv-loop μ-loop
-add-t19 c = search needs
+add-t22 : tie.Need-add-t22 Inv-loop μ-loop
+add-t22 c = search needs
 
 returns-3 : tie.Need-returns-3 Inv-loop μ-loop
 returns-3 c =
     match-whole (c .before .before .before .before .before .loop .inv) (omega arith) (omega arith)
-    (class-feed _ (sym (c .before .class .ensures) ∙ c .if2 .taken))
+    (class-feed _ (sym (c .before .class .ensures) ∙ c .if3 .taken))
 
 returns-4 : tie.Need-returns-4 Inv-loop μ-loop
 returns-4 c =
     match-long (c .before .before .before .before .before .loop .inv) (omega arith) (omega arith)
-    (class-no-feed _ (λ e. c .if2 .left (c .before .class .ensures ∙ e)))
+    (class-no-feed _ (λ e. c .if3 .left (c .before .class .ensures ∙ e)))
 
 pub matches-spec : {M : Type 1} → statement M
 matches-spec =
@@ -80,7 +90,9 @@ matches-spec =
     Inv-loop
     μ-loop
     loop-holds
-    shared-slice-read-item
+    shared-slice-read-t
+    stands-requires
+    add-i
     item-requires
     enum-known-g
     enum-told
@@ -91,6 +103,6 @@ matches-spec =
     returns-2
     shared-slice-read-end
     class-requires
-    add-t19
+    add-t22
     returns-3
     returns-4)

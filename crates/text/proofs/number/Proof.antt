@@ -12,10 +12,10 @@ use Rattle.text.proofs.number.Statement.{statement}
 use Rattle.text.proofs.number.Tie as tie
 
 abbrev Inv-loop : tie.InvT-loop
-Inv-loop text at b v₀ i₀ v i = Reading text at v i
+Inv-loop table text at b v₀ i₀ v i = Reading text at v i
 
 abbrev μ-loop : tie.MeasureT-loop
-μ-loop text at b v₀ i₀ v i = length text - i
+μ-loop table text at b v₀ i₀ v i = length text - i
 
 -- The first byte is a digit.
 abbrev first-byte : tie.Else2 Inv-loop μ-loop → ℕ
@@ -38,13 +38,13 @@ shared-slice-read-b : tie.Need-shared-slice-read-b Inv-loop μ-loop
 shared-slice-read-b c = search needs
 
 class-requires : tie.Need-class-requires Inv-loop μ-loop
-class-requires c κs = search needs
+class-requires c κs = c .before .before .before .pre
 
 returns-2 : tie.Need-returns-2 Inv-loop μ-loop
 returns-2 c = number-no _ _ (omega arith) (λ e. c .if2 .taken (c .before .class .ensures ∙ e))
 
-add-t11 : tie.Need-add-t11 Inv-loop μ-loop
-add-t11 c = search needs
+add-t12 : tie.Need-add-t12 Inv-loop μ-loop
+add-t12 c = search needs
 
 returns-3 : tie.Need-returns-3 Inv-loop μ-loop
 returns-3 c = (0, number-zero _ _ (omega arith) (c .if3 .taken), refl, one-on _ _ (omega arith) (λ z. omega arith))
@@ -72,7 +72,7 @@ shared-slice-read-d : tie.Need-shared-slice-read-d Inv-loop μ-loop
 shared-slice-read-d c = search needs
 
 class-requires-2 : tie.Need-class-requires-2 Inv-loop μ-loop
-class-requires-2 c κs = search needs
+class-requires-2 c κs = c .before .before .before .before .before .before .before .before .before .before .pre
 
 returns-4 : tie.Need-returns-4 Inv-loop μ-loop
 returns-4 c = stop-at (c .before .before .before .before .loop .inv) (digits-stop _ _ (omega arith) _ (λ e. c .if4 .taken (c .before .class2 .ensures ∙ e)))
@@ -114,7 +114,7 @@ number-spec =
     shared-slice-read-b
     class-requires
     returns-2
-    add-t11
+    add-t12
     returns-3
     sub-wide
     wide-requires
