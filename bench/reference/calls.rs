@@ -1,0 +1,140 @@
+//! Release, report and end.
+
+use super::check::table;
+use super::place::{Next, Place};
+use crate::memory::{Head, Leaf, Reply, State};
+
+const BROKEN: u64 = 11;
+const BUSY: u64 = 12;
+const UNFIT: u64 = 13;
+const IDLE: u64 = 14;
+const STRANGER: u64 = 15;
+const BACKWARD: u64 = 16;
+const ASTRAY: u64 = 17;
+
+const REFUSED: u64 = 0;
+const GO: u64 = 1;
+const SUSPEND: u64 = 2;
+const STAY: u64 = 3;
+const RESUME: u64 = 4;
+const ENDED: u64 = 5;
+
+/// A margin is not given below this.
+const LEAST_MARGIN: i128 = -(1 << 62);
+
+fn refused(number: u64) -> Reply {
+    Reply {
+        word: REFUSED,
+        number,
+        remaining: 0,
+        margin: 0,
+        late: 0,
+    }
+}
+
+fn decide(head: &Head, remaining: u64, stretch: u64, reading: u64, suspended: bool) -> Reply {
+    let wanted = [reading, remaining, stretch, head.switching];
+    let margin = i128::from(head.deadline) - wanted.map(i128::from).iter().sum::<i128>();
+    let word = match suspended {
+        true => STAY,
+        false if margin < 0 => SUSPEND,
+        false => GO,
+    };
+    Reply {
+        word,
+        number: 0,
+        remaining,
+        margin: margin.max(LEAST_MARGIN) as i64,
+        late: (reading > head.deadline).into(),
+    }
+}
+
+pub fn release(row: &[Leaf], head: &Head, state: &mut State) -> Reply {
+    let Some(row) = table(row, head) else {
+        return refused(BROKEN);
+    };
+    if state.running != 0 {
+        let holds = Place { row, head, state }.holds();
+        return refused(if holds { BUSY } else { BROKEN });
+    }
+    if head.total + head.switching > head.deadline {
+        return refused(UNFIT);
+    }
+    let reply = decide(head, head.total, head.stretch, 0, false);
+    *state = State::FRESH;
+    state.running = 1;
+    state.suspended = (reply.word == SUSPEND).into();
+    state.times[0] = head.total;
+    reply
+}
+
+pub fn report(row: &[Leaf], head: &Head, state: &mut State, point: u64, reading: u64) -> Reply {
+    let Some(row) = table(row, head) else {
+        return refused(BROKEN);
+    };
+    if state.running == 0 {
+        return refused(IDLE);
+    }
+    let place = Place { row, head, state };
+    if !place.holds() {
+        return refused(BROKEN);
+    }
+    if point >= row.len() as u64 || row[point as usize].point == 0 {
+        return refused(STRANGER);
+    }
+    if reading < state.reading {
+        return refused(BACKWARD);
+    }
+    let leaf = point as usize;
+    let Some(next) = place.next(leaf) else {
+        return refused(ASTRAY);
+    };
+    let remaining = place.time(next.level, leaf, next.earlier);
+    let suspended = state.suspended != 0;
+    let reply = decide(head, remaining, row[leaf].stretch, reading, suspended);
+    move_on(state, &next, point, remaining);
+    state.suspended = (reply.word != GO).into();
+    state.reading = reading;
+    reply
+}
+
+/// Puts the state at the point; levels above it hold 0.
+fn move_on(state: &mut State, next: &Next, point: u64, remaining: u64) {
+    let level = next.level;
+    state.running = 1;
+    state.level = level as u64;
+    for numbers in [&mut state.leaves, &mut state.earlier, &mut state.times] {
+        numbers[level + 1..].fill(0);
+    }
+    state.leaves[level] = point;
+    state.earlier[level] = next.earlier;
+    state.times[level] = remaining;
+}
+
+pub fn end(row: &[Leaf], head: &Head, state: &mut State, reading: u64) -> Reply {
+    let Some(row) = table(row, head) else {
+        return refused(BROKEN);
+    };
+    if state.running == 0 {
+        return refused(IDLE);
+    }
+    let place = Place { row, head, state };
+    if !place.holds() {
+        return refused(BROKEN);
+    }
+    if reading < state.reading {
+        return refused(BACKWARD);
+    }
+    if !place.can_end() {
+        return refused(ASTRAY);
+    }
+    let word = if state.suspended != 0 { RESUME } else { ENDED };
+    *state = State::FRESH;
+    Reply {
+        word,
+        number: 0,
+        remaining: 0,
+        margin: 0,
+        late: (reading > head.deadline).into(),
+    }
+}
