@@ -1,22 +1,26 @@
 //! Whether both sides answer alike and leave the same memory: on what is measured, on random texts, histories, damaged tables and damaged states.
 
+use crate::edges;
 use crate::jobs::{jobs, Call};
-use crate::memory::{Head, Leaf, State, FUNCTIONS, LEVELS};
+use crate::memory::{Head, Leaf, Reply, State, FUNCTIONS, LEVELS};
 use crate::plans::Plan;
 use crate::random::{random_text, Random};
-use crate::sides::{PROVED, REFERENCE};
+use crate::sides::{Side, PROVED, REFERENCE};
 
 const TEXTS: usize = 3_000;
 const HISTORIES: usize = 60;
 const STEPS: usize = 60;
 const DAMAGED_TABLES: usize = 400;
 const SHOWN: usize = 10;
+const BROKEN: u64 = 11;
 
 #[derive(Default)]
 pub struct Tally {
     pub passed: usize,
     pub failed: usize,
-    accepted: usize,
+    /// How often each refusal and each word was answered, by their numbers.
+    refusals: [usize; 18],
+    words: [usize; 6],
 }
 
 impl Tally {
@@ -31,6 +35,7 @@ impl Tally {
         }
     }
 
+    /// Both sides read a text into rows and heads of the same random numbers; gives the table of an accepted one.
     fn read(
         &mut self,
         random: &mut Random,
@@ -51,21 +56,33 @@ impl Tally {
         self.note(alike, || {
             format!("{proved:?} {ruling:?} of {}", String::from_utf8_lossy(text))
         });
-        let accepted = ruling.number == 0;
-        self.accepted += usize::from(accepted);
-        accepted.then_some((row, head))
+        self.refusals[ruling.number as usize] += 1;
+        (ruling.number == 0).then_some((row, head))
+    }
+
+    /// Both sides make a call from the same state; gives the state afterwards.
+    fn call(
+        &mut self,
+        what: &str,
+        state: &State,
+        make: impl Fn(&Side, &mut State) -> Reply,
+    ) -> State {
+        let (mut by_proved, mut by_reference) = (*state, *state);
+        let proved = make(&PROVED, &mut by_proved);
+        let reply = make(&REFERENCE, &mut by_reference);
+        let alike = proved == reply && by_proved == by_reference;
+        self.note(alike, || {
+            format!("{what}: {proved:?} {reply:?} from {state:?}")
+        });
+        self.refusals[reply.number as usize] += 1;
+        self.words[reply.word as usize] += 1;
+        by_reference
     }
 
     fn release(&mut self, row: &[Leaf], head: &Head, state: &State) -> State {
-        let (mut one, mut two) = (*state, *state);
-        let proved = (PROVED.release)(row, head, &mut one);
-        let reply = (REFERENCE.release)(row, head, &mut two);
-        let alike = proved == reply && one == two;
-        self.note(alike, || {
-            format!("release: {proved:?} {reply:?} from {state:?}")
-        });
-        self.accepted += usize::from(reply.word > 0);
-        two
+        self.call("release", state, |side, state| {
+            (side.release)(row, head, state)
+        })
     }
 
     fn report(
@@ -76,27 +93,15 @@ impl Tally {
         point: u64,
         reading: u64,
     ) -> State {
-        let (mut one, mut two) = (*state, *state);
-        let proved = (PROVED.report)(row, head, &mut one, point, reading);
-        let reply = (REFERENCE.report)(row, head, &mut two, point, reading);
-        let alike = proved == reply && one == two;
-        self.note(alike, || {
-            format!("report of {point} at {reading}: {proved:?} {reply:?} from {state:?}")
-        });
-        self.accepted += usize::from(reply.word > 0);
-        two
+        self.call("report", state, |side, state| {
+            (side.report)(row, head, state, point, reading)
+        })
     }
 
     fn end(&mut self, row: &[Leaf], head: &Head, state: &State, reading: u64) -> State {
-        let (mut one, mut two) = (*state, *state);
-        let proved = (PROVED.end)(row, head, &mut one, reading);
-        let reply = (REFERENCE.end)(row, head, &mut two, reading);
-        let alike = proved == reply && one == two;
-        self.note(alike, || {
-            format!("end at {reading}: {proved:?} {reply:?} from {state:?}")
-        });
-        self.accepted += usize::from(reply.word > 0);
-        two
+        self.call("end", state, |side, state| {
+            (side.end)(row, head, state, reading)
+        })
     }
 
     fn all_calls(&mut self, row: &[Leaf], head: &Head, state: &State, point: u64) {
@@ -160,7 +165,23 @@ fn damage_head(random: &mut Random, head: &mut Head) {
     }
 }
 
-fn damage_state(random: &mut Random, state: &mut State) {
+/// Moves a loop of the stack on by a round, with all remaining times that hang on it: right as long as the loop may turn so often.
+fn later_round(random: &mut Random, row: &[Leaf], state: &mut State) {
+    let level = (state.level as usize).min(LEVELS);
+    let at = random.index(level + 1);
+    let turn = row
+        .get(state.leaves[at] as usize)
+        .map_or(0, |leaf| leaf.turn);
+    state.earlier[at] = state.earlier[at].wrapping_add(1);
+    for time in &mut state.times[at..=level] {
+        *time = time.wrapping_sub(turn);
+    }
+}
+
+fn damage_state(random: &mut Random, row: &[Leaf], state: &mut State) {
+    if random.chance(20) {
+        return later_round(random, row, state);
+    }
     // Mostly at the levels in use and just above.
     let at = random.index((state.level as usize + 2).min(LEVELS + 1));
     match random.below(7) {
@@ -195,6 +216,10 @@ fn guess(random: &mut Random, row: &[Leaf], state: &State) -> u64 {
 
 fn history(tally: &mut Tally, random: &mut Random, row: &[Leaf], head: &Head) {
     let mut state = tally.release(row, head, &State::FRESH);
+    tally.all_calls(row, head, &State::FRESH, 0);
+    if state.running == 0 {
+        return;
+    }
     for _ in 0..STEPS {
         let point = guess(random, row, &state);
         let step = random.below(1 + head.deadline / 20);
@@ -208,7 +233,7 @@ fn history(tally: &mut Tally, random: &mut Random, row: &[Leaf], head: &Head) {
             1 | 2 => state = tally.end(row, head, &state, reading),
             3 | 4 => {
                 let mut damaged = state;
-                damage_state(random, &mut damaged);
+                damage_state(random, row, &mut damaged);
                 tally.all_calls(row, head, &damaged, point);
             }
             5 => tally.all_calls(row, head, &state, point),
@@ -277,9 +302,11 @@ fn texts(tally: &mut Tally, random: &mut Random) {
 fn measured(tally: &mut Tally, random: &mut Random, plan: &Plan) {
     for job in jobs(plan) {
         let (mut one, mut two) = (job.lent(), job.lent());
-        let proved = job.run(&PROVED, &mut one);
-        let reply = job.run(&REFERENCE, &mut two);
-        let same_memory = one.row == two.row && one.head == two.head && one.state == two.state;
+        let (mut moved_by_one, mut moved_by_two) = (job.before, job.before);
+        let proved = job.run(&PROVED, &mut one, &mut moved_by_one);
+        let reply = job.run(&REFERENCE, &mut two, &mut moved_by_two);
+        let same_table = one.row == two.row && one.head == two.head;
+        let same_memory = same_table && moved_by_one == moved_by_two;
         let accepted = (reply.word == 0) == (job.call == Call::Read);
         tally.note(proved == reply && same_memory && accepted, || {
             let (call, shape, leaves) = (job.call.name(), plan.shape, plan.leaves);
@@ -298,14 +325,45 @@ fn measured(tally: &mut Tally, random: &mut Random, plan: &Plan) {
     damaged_tables(tally, random, &plan.row, &plan.head, DAMAGED_TABLES);
 }
 
+/// Texts whose ruling is known beforehand.
+fn edge_texts(tally: &mut Tally, random: &mut Random) {
+    for (text, wanted) in edges::texts() {
+        tally.read(random, &text, 600);
+        let mut row = vec![Leaf::default(); 600];
+        let ruling = (REFERENCE.read)(&text, &mut row, &mut Head::default());
+        tally.note(ruling == wanted, || {
+            format!(
+                "{ruling:?}, not {wanted:?} of {}",
+                String::from_utf8_lossy(&text)
+            )
+        });
+    }
+}
+
+/// Tables that only a limit breaks.
+fn edge_tables(tally: &mut Tally) {
+    for edges::Passed { row, head } in edges::tables() {
+        tally.all_calls(&row, &head, &State::FRESH, 0);
+        let reply = (REFERENCE.release)(&row, &head, &mut State::FRESH.clone());
+        tally.note(reply.number == BROKEN, || format!("{reply:?} on {row:?}"));
+    }
+}
+
 pub fn agree(plans: &[Plan]) -> Tally {
     let mut tally = Tally::default();
     let mut random = Random::new(1);
+    edge_texts(&mut tally, &mut random);
+    edge_tables(&mut tally);
     for plan in plans {
         measured(&mut tally, &mut random, plan);
     }
     texts(&mut tally, &mut random);
-    let (accepted, all) = (tally.accepted, tally.passed + tally.failed);
-    println!("{all} comparisons of both sides, {accepted} of them accepted by both");
+    let Tally {
+        refusals, words, ..
+    } = tally;
+    println!("answers by refusal, 0 for none: {refusals:?}");
+    println!("answers of calls by word, 0 for refused: {words:?}");
+    let all_met = !refusals.contains(&0) && !words.contains(&0);
+    tally.note(all_met, || "not every refusal and word was met".to_string());
     tally
 }

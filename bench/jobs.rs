@@ -37,11 +37,10 @@ pub struct Job<'a> {
     pub before: State,
 }
 
-/// What a job writes to.
+/// The table that is lent to a job.
 pub struct Lent {
     pub row: Vec<Leaf>,
     pub head: Head,
-    pub state: State,
 }
 
 impl Job<'_> {
@@ -49,13 +48,12 @@ impl Job<'_> {
         Lent {
             row: self.plan.row.clone(),
             head: self.plan.head,
-            state: self.before,
         }
     }
 
     /// Makes the call. A reading of the plan answers the ruling's numbers in the place of word and number.
-    pub fn run(&self, side: &Side, lent: &mut Lent) -> Reply {
-        let (row, head, state) = (&mut lent.row[..], &mut lent.head, &mut lent.state);
+    pub fn run(&self, side: &Side, lent: &mut Lent, state: &mut State) -> Reply {
+        let (row, head) = (&mut lent.row[..], &mut lent.head);
         match self.call {
             Call::Read => {
                 let ruling = (side.read)(black_box(&self.plan.text), black_box(row), head);

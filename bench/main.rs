@@ -2,6 +2,7 @@
 //! `check` compares both sides; `count` is to be run under callgrind; `table TITLE [COUNTS]` measures times and prints all tables.
 
 mod agree;
+mod edges;
 mod jobs;
 mod measure;
 mod memory;

@@ -4,9 +4,10 @@ use std::hint::black_box;
 use std::time::Instant;
 
 use crate::jobs::{Job, Lent};
+use crate::memory::State;
 use crate::sides::{Side, PROVED, REFERENCE};
 
-/// Calls between two looks at the clock; each has memory of its own, made ready before.
+/// Calls between two looks at the clock. Each moves a state of its own, made ready before.
 const GROUP: usize = 8;
 
 /// Repetitions, of which the median counts, and the nanoseconds that each takes at least.
@@ -23,25 +24,23 @@ pub struct Cost {
     pub reference: f64,
 }
 
-fn group(job: &Job, side: &Side, memory: &mut [Lent]) -> u128 {
-    for lent in memory.iter_mut() {
-        lent.state = job.before;
-    }
+fn group(job: &Job, side: &Side, lent: &mut Lent) -> u128 {
+    let mut states: [State; GROUP] = black_box([job.before; GROUP]);
     let start = Instant::now();
-    for lent in memory.iter_mut() {
-        black_box(job.run(side, lent));
+    for state in &mut states {
+        black_box(job.run(side, lent, state));
     }
     start.elapsed().as_nanos()
 }
 
 /// Nanoseconds of a call: the mean of one repetition.
-fn mean(job: &Job, side: &Side, memory: &mut [Lent]) -> f64 {
+fn mean(job: &Job, side: &Side, lent: &mut Lent) -> f64 {
     let (mut spent, mut groups) = (0, 0);
     while spent < LEAST {
-        spent += group(job, side, memory);
+        spent += group(job, side, lent);
         groups += 1;
     }
-    spent as f64 / (groups * memory.len()) as f64
+    spent as f64 / (groups * GROUP) as f64
 }
 
 fn median(mut values: Vec<f64>) -> f64 {
@@ -51,11 +50,11 @@ fn median(mut values: Vec<f64>) -> f64 {
 
 /// Both sides by turns.
 pub fn time(job: &Job) -> Cost {
-    let mut memory: Vec<Lent> = (0..GROUP).map(|_| job.lent()).collect();
+    let mut lent = job.lent();
     let (mut proved, mut reference) = (Vec::new(), Vec::new());
     for _ in 0..REPETITIONS {
-        proved.push(mean(job, &PROVED, &mut memory));
-        reference.push(mean(job, &REFERENCE, &mut memory));
+        proved.push(mean(job, &PROVED, &mut lent));
+        reference.push(mean(job, &REFERENCE, &mut lent));
     }
     Cost {
         proved: median(proved),
@@ -73,14 +72,14 @@ fn bench_mark() {
 /// For callgrind: a first count to be left out, then for each job one for the proved side and one for the reference.
 pub fn count(jobs: &[Job]) {
     for job in jobs {
-        job.run(&PROVED, &mut job.lent());
-        job.run(&REFERENCE, &mut job.lent());
+        job.run(&PROVED, &mut job.lent(), &mut job.before.clone());
+        job.run(&REFERENCE, &mut job.lent(), &mut job.before.clone());
     }
     bench_mark();
     for job in jobs {
         for side in [&PROVED, &REFERENCE] {
             for _ in 0..COUNTED {
-                black_box(job.run(side, &mut job.lent()));
+                black_box(job.run(side, &mut job.lent(), &mut job.before.clone()));
             }
             bench_mark();
         }
