@@ -145,7 +145,7 @@ fn damage_leaf(random: &mut Random, leaf: &mut Leaf) {
         &mut leaf.stretch,
     ];
     let at = random.index(fields.len());
-    for (_, field) in fields.into_iter().enumerate().filter(|(k, _)| *k == at) {
+    if let Some(field) = fields.into_iter().nth(at) {
         *field = moved(random, *field);
     }
 }

@@ -46,6 +46,7 @@ fn chain(count: usize) -> String {
     task(&functions)
 }
 
+/// Single lines, and texts that end early or go on.
 fn lines() -> Vec<(String, u64, u64)> {
     let refused = |line, number| (one(&[line]), number, 3);
     let leaf_after = |text: &str| format!("{}{text}", one(&["(leaf s 1 1)"]));
@@ -84,6 +85,7 @@ fn lines() -> Vec<(String, u64, u64)> {
     ]
 }
 
+/// Rules 4 and 7.
 fn limits() -> Vec<(String, u64, u64)> {
     let chained = |levels: usize, loops_in: usize| {
         task(&[
@@ -91,8 +93,6 @@ fn limits() -> Vec<(String, u64, u64)> {
             loops(loops_in, "(call p 0 0 1)"),
         ])
     };
-    let rounds =
-        |cost: &'static str| one(&["(loop s 65535 0 0", "(loop s 256 0 0", cost, ")", ")"]);
     vec![
         (one(&vec!["(leaf p 0 1)"; 512]), 0, 0),
         (one(&vec!["(leaf p 0 1)"; 513]), 4, 515),
@@ -110,6 +110,14 @@ fn limits() -> Vec<(String, u64, u64)> {
         ),
         (chained(16, 15), 0, 0),
         (chained(16, 16), 7, 52),
+    ]
+}
+
+/// Rules 8 to 10.
+fn wholes() -> Vec<(String, u64, u64)> {
+    let rounds =
+        |cost: &'static str| one(&["(loop s 65535 0 0", "(loop s 256 0 0", cost, ")", ")"]);
+    vec![
         (one(&["(loop s 1 0 0", "(leaf p 0 1)", ")"]), 8, 0),
         (
             one(&["(if s 0 0", "(then", "(leaf p 0 1)", ")", "(else", ")", ")"]),
@@ -128,7 +136,7 @@ fn limits() -> Vec<(String, u64, u64)> {
 
 /// Each text with its ruling.
 pub fn texts() -> Vec<(Vec<u8>, Ruling)> {
-    let all = lines().into_iter().chain(limits());
+    let all = [lines(), limits(), wholes()].into_iter().flatten();
     all.map(|(text, number, line)| (text.into_bytes(), Ruling { number, line }))
         .collect()
 }

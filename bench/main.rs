@@ -35,6 +35,7 @@ fn table(title: &str, counts: Option<&str>, jobs: &[Job]) -> ExitCode {
     };
     let times: Vec<measure::Cost> = jobs.iter().map(measure::time).collect();
     println!("{title}");
+    tables::print_legend();
     if let Some(costs) = &instructions {
         tables::print_costs(
             "Instructions of a call (callgrind):",

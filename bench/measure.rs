@@ -7,12 +7,13 @@ use crate::jobs::{Job, Lent};
 use crate::memory::State;
 use crate::sides::{Side, PROVED, REFERENCE};
 
-/// Calls between two looks at the clock. Each moves a state of its own, made ready before.
-const GROUP: usize = 8;
+/// Calls between two looks at the clock, as many as take so many nanoseconds. Each moves a state of its own, made ready before.
+const MOST_GROUP: u128 = 16;
+const GROUP_TIME: u128 = 20_000;
 
-/// Repetitions, of which the median counts, and the nanoseconds that each takes at least.
-const REPETITIONS: usize = 21;
-const LEAST: u128 = 1_000_000;
+/// Repetitions, of which the median counts, and the nanoseconds that each takes at least: short ones, so that most are not interrupted.
+const REPETITIONS: usize = 301;
+const LEAST: u128 = 40_000;
 
 /// Calls counted under callgrind. All are alike.
 pub const COUNTED: u64 = 4;
@@ -24,23 +25,23 @@ pub struct Cost {
     pub reference: f64,
 }
 
-fn group(job: &Job, side: &Side, lent: &mut Lent) -> u128 {
-    let mut states: [State; GROUP] = black_box([job.before; GROUP]);
+fn group(job: &Job, side: &Side, lent: &mut Lent, states: &mut [State]) -> u128 {
+    states.fill(job.before);
     let start = Instant::now();
-    for state in &mut states {
+    for state in states {
         black_box(job.run(side, lent, state));
     }
     start.elapsed().as_nanos()
 }
 
 /// Nanoseconds of a call: the mean of one repetition.
-fn mean(job: &Job, side: &Side, lent: &mut Lent) -> f64 {
+fn mean(job: &Job, side: &Side, lent: &mut Lent, states: &mut [State]) -> f64 {
     let (mut spent, mut groups) = (0, 0);
     while spent < LEAST {
-        spent += group(job, side, lent);
+        spent += group(job, side, lent, states);
         groups += 1;
     }
-    spent as f64 / (groups * GROUP) as f64
+    spent as f64 / (groups * states.len()) as f64
 }
 
 fn median(mut values: Vec<f64>) -> f64 {
@@ -51,10 +52,12 @@ fn median(mut values: Vec<f64>) -> f64 {
 /// Both sides by turns.
 pub fn time(job: &Job) -> Cost {
     let mut lent = job.lent();
+    let first = group(job, &REFERENCE, &mut lent, &mut [job.before]).max(1);
+    let mut states = vec![job.before; (GROUP_TIME / first).clamp(1, MOST_GROUP) as usize];
     let (mut proved, mut reference) = (Vec::new(), Vec::new());
     for _ in 0..REPETITIONS {
-        proved.push(mean(job, &PROVED, &mut lent));
-        reference.push(mean(job, &REFERENCE, &mut lent));
+        proved.push(mean(job, &PROVED, &mut lent, &mut states));
+        reference.push(mean(job, &REFERENCE, &mut lent, &mut states));
     }
     Cost {
         proved: median(proved),

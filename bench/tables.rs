@@ -7,6 +7,16 @@ use crate::plans::SHAPES;
 /// Smaller plans say little of growth.
 const LEAST_LEAVES: usize = 16;
 
+/// What the rows are of.
+const LEGEND: &str = "
+The reference is plain safe Rust that makes the same checks on the same memory. Shallow plans have points, silent leaves, ifs and calls one after
+the other; deep ones have loops in one another, from 64 leaves on down to level 32, and the other leaves spread over the levels. Read makes a
+table of the text; release begins from a fresh state; report is that of the farthest point at the highest level; end comes where the run can end.";
+
+pub fn print_legend() {
+    println!("{LEGEND}");
+}
+
 pub fn print_costs(title: &str, unit: &str, jobs: &[Job], costs: &[Cost]) {
     println!("\n{title}\n");
     println!("| call | shape | leaves | proved, {unit} | reference, {unit} | ratio |");
