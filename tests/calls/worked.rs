@@ -1,20 +1,14 @@
-//! The plans that document 01 works through, with the marked cases m1 to m12 and
-//! the edges and traps named there: calls from a fresh state, with answers worked
-//! out by hand.
+//! The plans that document 01 works through: the worked lists of calls of the
+//! reference, m6 and m7, and the numbers of the state on the way, by hand.
 
 use reference::composed::Composed;
 use reference::plan;
 use reference::table::{self, Table, LOADED, TOTAL};
+use reference::worked::{CASES, PLAN_A, PLAN_B, TWICE};
 
 use super::library::{self, Call, Memory};
 use super::state::State;
 use super::tally::Tally;
-
-pub const PLAN_A: &str = "(task 100 4\n(fun\n(leaf p 5 9)\n(loop p 3 2 4\n(leaf s 10 20)\n)\n\
-    (leaf s 6 8)\n)\n)\n";
-
-pub const PLAN_B: &str = "(task 200 5\n(fun\n(leaf p 3 4)\n)\n(fun\n(if p 2 3\n(then\n\
-    (call p 0 1 2)\n)\n(else\n(leaf s 9 10)\n)\n)\n(call p 0 1 2)\n)\n)\n";
 
 fn of_text(text: &str) -> Table {
     let plan = plan::read(text.as_bytes(), 512);
@@ -111,26 +105,11 @@ fn plan_a(tally: &mut Tally) {
     calls_to(tally, "m4", PLAN_A, &fifth, wanted);
 }
 
-fn plan_a_suspends(tally: &mut Tally) {
-    for last in ["report 1 28 -> go 44 0 0", "report 1 29 -> suspend 44 -1 0"] {
-        calls(tally, "m2", PLAN_A, &[&FIRST[..], &[last]].concat());
-    }
+fn suspended(tally: &mut Tally) {
     let suspends = ["report 1 65 -> suspend 8 -1 0"];
     let lines = [&FIRST[..], &VISITS[..3], &suspends].concat();
     let wanted = (65, true, &[(1, 3)][..], &[49, 8][..]);
     calls_to(tally, "m5", PLAN_A, &lines, wanted);
-    // After visit 3 at 57 the worst run reports visit 4 at 57 + 4 + 2 + 10 and
-    // ends at 57 + 4 + 20.
-    let worst = [
-        "report 1 57 -> suspend 20 -5 0",
-        "report 1 73 -> stay 8 -9 0",
-        "end 81 -> resume 0",
-    ];
-    let lines = [&FIRST[..], &VISITS[..2], &worst].concat();
-    let after = calls(tally, "m3", PLAN_A, &lines);
-    tally.holds(after == State::fresh(), || {
-        "the state after the end of m3 is fresh".to_string()
-    });
 }
 
 fn plan_b(tally: &mut Tally) {
@@ -138,132 +117,37 @@ fn plan_b(tally: &mut Tally) {
     let totals = [table.head[TOTAL], table.head[LOADED]];
     tally.holds(totals == [15, 19], || "m6".to_string());
     tally.holds(table.stretches == [4, 13, 2, 0, 2], || "m7".to_string());
-    let by_else = [
-        "release -> go 15 180 0",
-        "report 1 0 -> go 15 167 0",
-        "report 4 0 -> go 4 189 0",
-        "report 0 0 -> go 3 188 0",
-    ];
+    let to_branch = ["release -> go 15 180 0", "report 1 0 -> go 15 167 0"];
+    let by_else = ["report 4 0 -> go 4 189 0", "report 0 0 -> go 3 188 0"];
+    let lines = [to_branch, by_else].concat();
     let wanted = (0, false, &[(4, 0), (0, 0)][..], &[15, 4, 3][..]);
-    calls_to(tally, "m9, by else", PLAN_B, &by_else, wanted);
-    calls(
-        tally,
-        "m8",
-        PLAN_B,
-        &[&by_else[..], &["end 9 -> ended 0"]].concat(),
-    );
-    let by_then = [
-        "release -> go 15 180 0",
-        "report 1 0 -> go 15 167 0",
-        "report 0 0 -> refused 17",
-        "report 2 0 -> go 8 185 0",
-        "report 0 0 -> go 7 184 0",
-        "end 0 -> refused 17",
-    ];
+    calls_to(tally, "m9, by else", PLAN_B, &lines, wanted);
+    let by_then = ["report 2 0 -> go 8 185 0", "report 0 0 -> go 7 184 0"];
+    let lines = [to_branch, by_then].concat();
     let wanted = (0, false, &[(2, 0), (0, 0)][..], &[15, 8, 7][..]);
-    calls_to(tally, "m8, m9, by then", PLAN_B, &by_then, wanted);
+    calls_to(tally, "m9, by then", PLAN_B, &lines, wanted);
 }
 
-fn smallest(tally: &mut Tally) {
-    let with = |deadline: u64| format!("(task {deadline} 3\n(fun\n(leaf s 7 9)\n)\n)\n");
-    let unfit = ["release -> refused 13", "report 0 0 -> refused 14"];
-    calls(tally, "m10", &with(9), &unfit);
-    let suspended = ["release -> suspend 7 -9 0", "end 10 -> resume 0"];
-    calls(tally, "m11", &with(10), &suspended);
-    let suspended = ["release -> suspend 7 -1 0", "end 18 -> resume 0"];
-    calls(tally, "m11", &with(18), &suspended);
-    let runs = ["release -> go 7 0 0", "end 19 -> ended 0"];
-    calls(tally, "m12", &with(19), &runs);
-    let late = ["release -> go 7 0 0", "end 20 -> ended 1"];
-    calls(tally, "m12, late", &with(19), &late);
-    let empty = "(task 1 0\n(fun\n)\n)\n";
-    let runs = [
-        "release -> go 0 1 0",
-        "release -> refused 12",
-        "end 0 -> ended 0",
-    ];
-    calls(tally, "no forms", empty, &runs);
-}
-
-/// Once suspended, the others stay so, whatever the margin.
-fn stays(tally: &mut Tally) {
-    let lines = [
-        "release -> go 49 47 0",
-        "report 0 39 -> suspend 49 -1 0",
-        "report 1 39 -> stay 44 -11 0",
-        "report 1 40 -> stay 32 0 0",
-        "report 1 41 -> stay 20 11 0",
-        "end 100 -> resume 0",
-    ];
-    calls(tally, "stays", PLAN_A, &lines);
-}
-
-/// Readings at the deadline, at the least margin and at the largest number.
-fn readings(tally: &mut Tally) {
-    let lines = [
-        "end 0 -> refused 14",
-        "release -> go 49 47 0",
-        "report 0 100 -> suspend 49 -62 0",
-        "report 2 99 -> refused 15",
-        "report 0 99 -> refused 16",
-        "report 0 100 -> refused 17",
-        "end 99 -> refused 16",
-        "end 100 -> refused 17",
-        "report 1 100 -> stay 44 -72 0",
-        "report 1 101 -> stay 32 -61 1",
-        "end 101 -> resume 1",
-    ];
-    calls(tally, "readings at the deadline", PLAN_A, &lines);
-    // 2^62 + 100 - 49 - 9 - 4 has the least margin that is not held.
-    let lines = [
-        "release -> go 49 47 0",
-        "report 0 4611686018427387942 -> suspend 49 -4611686018427387904 1",
-        "report 1 4611686018427387941 -> refused 16",
-        "report 1 4611686018427387942 -> stay 44 -4611686018427387904 1",
-        "report 1 9223372036854775808 -> stay 32 -4611686018427387904 1",
-        "report 1 18446744073709551615 -> stay 20 -4611686018427387904 1",
-        "end 18446744073709551615 -> resume 1",
-    ];
-    calls(tally, "large readings", PLAN_A, &lines);
-    let lines = [
-        "release -> go 49 47 0",
-        "report 0 4611686018427387941 -> suspend 49 -4611686018427387903 1",
-    ];
-    calls(tally, "a margin above the least", PLAN_A, &lines);
-    for reading in ["9223372036854775808", "18446744073709551615"] {
-        let last = format!("report 0 {reading} -> suspend 49 -4611686018427387904 1");
-        let lines = ["release -> go 49 47 0", &last];
-        calls(tally, "a reading of 64 bits", PLAN_A, &lines);
-    }
-}
-
-/// Loop visits start anew with each call of a function.
+/// After the second call of the loop and its second visit there.
 fn visits_anew(tally: &mut Tally) {
-    let twice =
-        "(task 99 0\n(fun\n(loop p 1 1 1\n)\n)\n(fun\n(call p 0 0 0)\n(call p 0 0 0)\n)\n)\n";
     let lines = [
         "release -> go 4 95 0",
         "report 1 0 -> go 4 95 0",
         "report 0 0 -> go 4 94 0",
-        "report 0 0 -> go 3 95 0",
-        "report 0 0 -> refused 17",
         "report 2 0 -> go 2 97 0",
         "report 0 0 -> go 2 96 0",
         "report 0 0 -> go 1 97 0",
-        "report 0 0 -> refused 17",
-        "end 0 -> ended 0",
     ];
-    calls(tally, "two calls of a loop", twice, &lines);
     let wanted = (0, false, &[(2, 0), (0, 1)][..], &[4, 2, 1][..]);
-    calls_to(tally, "two calls of a loop", twice, &lines[..8], wanted);
+    calls_to(tally, "two calls of a loop", TWICE, &lines, wanted);
 }
 
 pub fn compare_all(tally: &mut Tally) {
+    for case in CASES.iter().copied().flatten() {
+        calls(tally, case.name, case.plan, case.calls);
+    }
     plan_a(tally);
-    plan_a_suspends(tally);
+    suspended(tally);
     plan_b(tally);
-    smallest(tally);
-    stays(tally);
-    readings(tally);
     visits_anew(tally);
 }

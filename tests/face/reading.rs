@@ -10,12 +10,12 @@ use reference::gen::{self, Random};
 use reference::plan::{self, Refusal, MOST_BYTES, MOST_LEAVES};
 use reference::records::RECORD;
 use reference::table::{self, Table};
+use reference::worked::{PLAN_A, PLAN_B};
 
 use crate::law;
 use crate::library::{self, Call, Head, Leaf};
 use crate::state::State;
 use crate::tally::Tally;
-use crate::worked::{PLAN_A, PLAN_B};
 
 #[repr(C)]
 pub struct Ruling {

@@ -17,3 +17,4 @@ pub mod records;
 pub mod rules;
 pub mod runs;
 pub mod table;
+pub mod worked;

@@ -1,5 +1,6 @@
-//! The readings taken where document 01 leaves something open about the table
-//! and the calls, each with an example that tells it from the other reading.
+//! The readings taken where document 01 leaves something open about the table,
+//! the margin and the times kept, each with an example that tells it from the
+//! other reading. Those about the calls are among the worked lists of calls.
 
 use reference::aimed::{task, words};
 use reference::calls::{margin, LEAST_MARGIN};
@@ -8,7 +9,6 @@ use reference::listed::Listed;
 use reference::numbers::{listing, Numbers};
 
 use super::tally::{accepted, Tally};
-use super::worked::PLAN_A;
 
 fn tables(tally: &mut Tally) {
     let both = |tally: &mut Tally, reading: &str, functions: &[Vec<String>], wanted: &str| {
@@ -43,91 +43,7 @@ fn tables(tally: &mut Tally) {
     );
 }
 
-fn calls(tally: &mut Tally) {
-    tally.calls(
-        "a loop may be left at any visit",
-        PLAN_A,
-        &[
-            "release -> go 49 47 0",
-            "report 0 0 -> go 49 38 0",
-            "end 0 -> refused 17",
-            "report 1 0 -> go 44 28 0",
-            "report 1 0 -> go 32 40 0",
-            "report 1 0 -> go 20 52 0",
-            "end 0 -> ended 0",
-        ],
-    );
-    tally.calls(
-        "a first visit that is a point: stretch 0",
-        PLAN_A,
-        &["release -> go 49 47 0"],
-    );
-    tally.calls(
-        "stay by the plain formula",
-        PLAN_A,
-        &[
-            "release -> go 49 47 0",
-            "report 0 39 -> suspend 49 -1 0",
-            "report 1 39 -> stay 44 -11 0",
-            "report 1 40 -> stay 32 0 0",
-            "report 1 41 -> stay 20 11 0",
-            "end 100 -> resume 0",
-        ],
-    );
-    tally.calls(
-        "late is strict",
-        PLAN_A,
-        &[
-            "release -> go 49 47 0",
-            "report 0 100 -> suspend 49 -62 0",
-            "report 1 100 -> stay 44 -72 0",
-            "report 1 101 -> stay 32 -61 1",
-            "end 101 -> resume 1",
-            "release -> go 49 47 0",
-            "report 0 0 -> go 49 38 0",
-            "report 1 0 -> go 44 28 0",
-            "end 100 -> ended 0",
-        ],
-    );
-    tally.calls(
-        "15 before 16 before 17",
-        PLAN_A,
-        &[
-            "release -> go 49 47 0",
-            "report 0 10 -> go 49 28 0",
-            "report 2 9 -> refused 15",
-            "report 4 9 -> refused 15",
-            "report 18446744073709551615 9 -> refused 15",
-            "report 0 9 -> refused 16",
-            "report 0 10 -> refused 17",
-            "end 9 -> refused 16",
-            "end 10 -> refused 17",
-            "report 1 10 -> go 44 18 0",
-        ],
-    );
-    tally.calls(
-        "an idle state is idle",
-        PLAN_A,
-        &[
-            "report 0 0 -> refused 14",
-            "report 9 0 -> refused 14",
-            "end 0 -> refused 14",
-            "release -> go 49 47 0",
-            "release -> refused 12",
-        ],
-    );
-    tally.calls(
-        "a margin is held at -2^62",
-        PLAN_A,
-        &[
-            "release -> go 49 47 0",
-            "report 0 4611686018427387940 -> suspend 49 -4611686018427387902 1",
-            "report 1 4611686018427387931 -> refused 16",
-            "report 1 4611686018427387940 -> stay 44 -4611686018427387904 1",
-            "report 1 18446744073709551615 -> stay 32 -4611686018427387904 1",
-            "end 18446744073709551615 -> resume 1",
-        ],
-    );
+fn margins(tally: &mut Tally) {
     tally.equal(margin(1, 1 << 62, 0, 0, 0), LEAST_MARGIN + 1, || {
         "margin above".to_string()
     });
@@ -176,6 +92,6 @@ fn times(tally: &mut Tally) {
 
 pub fn check(tally: &mut Tally) {
     tables(tally);
-    calls(tally);
+    margins(tally);
     times(tally);
 }

@@ -6,9 +6,9 @@ use reference::crossed;
 use reference::damage;
 use reference::gen::{self, Random};
 use reference::plan::{self, read, text};
+use reference::worked::{PLAN_A, PLAN_B};
 
 use super::tally::Tally;
-use super::worked::{PLAN_A, PLAN_B};
 
 /// A plan has one text, so an accepted text is the one its plan prints; a
 /// refused line is refused for what stands up to it, and without it the text
