@@ -4,7 +4,7 @@
 .PHONY: lib tables examples
 
 lib:
-	rt staticlib rolsipay
+	tools/library rolsipay
 	mkdir -p dist
 	cp target/staticlib/librolsipay.a include/rolsipay.h dist/
 
