@@ -26,7 +26,7 @@ use Rattle.control.specs.Calls.{refuse, word, decision, suspended-after, releas
 use Rattle.control.specs.Histories.{Accepts, Since}
 use Rattle.control.specs.Histories as since
 use Rattle.control.proofs.Theorems as control
-use Rattle.demands.specs.Decisions.{Says, goes, suspends, stays, Decided, Closes, resumes, just-ends}
+use Rattle.demands.specs.Decisions.{Worded, goes, suspends, stays, Decided, Closes, resumes, just-ends}
 use Rattle.demands.specs.Rules.{TableOf}
 use Rattle.demands.proofs.Calls.{on-table}
 
@@ -90,12 +90,12 @@ since-busy p t o {s} w q =
 
 -- The word goes by whether the others are suspended, and by the test of the condition.
 word-said : (p : Plan) (before : List Decision) (d : Decision) (r str : ℕ) → RemainingAt p (d .history) r → StretchAt p (d .history) str → (suspended : Bool) →
-    (suspended ≡ false) ↔ Held p before → Says p before d r str (decision p r str (d .reading) suspended)
+    (suspended ≡ false) ↔ Held p before → Worded p before d r str (decision p r str (d .reading) suspended)
 word-said p before d r str x y true w = stays (λ h. let e = w .1 h in let z : _≡_ {A = ℕ} 0 1 = cc in omega arith)
 word-said p before d r str x y false w = by (holds p r str (d .reading)) refl
   where
     by : (h : Bool) → holds p r str (d .reading) ≡ h →
-        Says p before d r str (word false h (stay r (margin p r str (d .reading)) (late p (d .reading))) (go r (margin p r str (d .reading)) (late p (d .reading))) (suspend r (margin p r str (d .reading)) (late p (d .reading))))
+        Worded p before d r str (word false h (stay r (margin p r str (d .reading)) (late p (d .reading))) (go r (margin p r str (d .reading)) (late p (d .reading))) (suspend r (margin p r str (d .reading)) (late p (d .reading))))
     by true e = goes (w .0 refl) (holds-exactly p (d .history) (d .reading) r str x y .1 e)
     by false e = suspends (w .0 refl) (λ h. let i = holds-exactly p (d .history) (d .reading) r str x y .0 h in let z : _≡_ {A = ℕ} 0 1 = cc in omega arith)
 
@@ -145,7 +145,7 @@ module _ (p : Plan) (t : Table) (o : TableOf p t) where
         str = d .str;
         is-remaining = d .is-remaining;
         is-stretch = d .is-stretch;
-        says = word-said p [] (record { history = []; reading = 0 }) (d .remaining) (d .str) (d .is-remaining) (d .is-stretch) false ((λ i. tt), λ u. refl);
+        worded = word-said p [] (record { history = []; reading = 0 }) (d .remaining) (d .str) (d .is-remaining) (d .is-stretch) false ((λ i. tt), λ u. refl);
       })
 
   -- A report.
@@ -169,7 +169,7 @@ module _ (p : Plan) (t : Table) (o : TableOf p t) where
         str = d .str;
         is-remaining = x;
         is-stretch = y;
-        says = word-said p ds (record { history = h ++ (n ∷ []); reading = r }) (d .remaining) (d .str) x y (s .suspended) (control.others-share-exactly p (o .accepted) (since-plan w));
+        worded = word-said p ds (record { history = h ++ (n ∷ []); reading = r }) (d .remaining) (d .str) x y (s .suspended) (control.others-share-exactly p (o .accepted) (since-plan w));
       })
 
   -- The end.

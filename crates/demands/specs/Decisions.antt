@@ -12,10 +12,10 @@ use Rattle.control.specs.State.{fresh}
 
 -- The word of a decision d, where `before` are the decisions before it since the release: suspend exactly at the first decision where the condition
 -- fails, go at each one before that, stay at each one behind it. With it come remaining, margin and the late mark.
-pub data Says (p : Plan) (before : List Decision) (d : Decision) (remaining str : ℕ) : Answer → Type 0 where
-  goes : Held p before → Holds p d → Says p before d remaining str (go remaining (margin p remaining str (d .reading)) (late p (d .reading)))
-  suspends : Held p before → ¬ Holds p d → Says p before d remaining str (suspend remaining (margin p remaining str (d .reading)) (late p (d .reading)))
-  stays : ¬ Held p before → Says p before d remaining str (stay remaining (margin p remaining str (d .reading)) (late p (d .reading)))
+pub data Worded (p : Plan) (before : List Decision) (d : Decision) (remaining str : ℕ) : Answer → Type 0 where
+  goes : Held p before → Holds p d → Worded p before d remaining str (go remaining (margin p remaining str (d .reading)) (late p (d .reading)))
+  suspends : Held p before → ¬ Holds p d → Worded p before d remaining str (suspend remaining (margin p remaining str (d .reading)) (late p (d .reading)))
+  stays : ¬ Held p before → Worded p before d remaining str (stay remaining (margin p remaining str (d .reading)) (late p (d .reading)))
 
 -- The answer of a decision: its remaining is the largest sum of C over all ways the run can still go (at release: the total), its stretch is the
 -- document's, and its word is as above.
@@ -24,7 +24,7 @@ pub record Decided (p : Plan) (before : List Decision) (d : Decision) (a : Answe
   pub str : ℕ
   pub is-remaining : RemainingAt p (d .history) remaining
   pub is-stretch : StretchAt p (d .history) str
-  pub says : Says p before d remaining str a
+  pub worded : Worded p before d remaining str a
 
 -- The reply of an accepted end with this reading behind these decisions: resume if the condition failed at one of them, so that the others were
 -- suspended, ended if not; and the state is fresh again.
