@@ -6,7 +6,7 @@ use mathlib.Core.Path.{_≡_, refl, sym, ap, _∙_, subst}
 use Prim.Native.Nat.{ℕ, zero, suc, _+_, _*_, _≤_, _<_, min}
 use native.Mathlib.Omega.{arith}
 use lib.Dec.{eqb}
-use lib.ListN.{length, getD, length-map, List·getD-append, List·getD-map}
+use lib.ListN.{length, getD, replicate, length-replicate, length-map, List·getD-append, List·getD-map}
 use lib.Seq.{sets, getD-take, getD-append-add}
 use Rattle.text.specs.Text as texts
 use Rattle.model.specs.Plan.{Block, C, M, Lines, close, leaf-line, call-line, loop-line, if-line, Plan, leaves, all-leaves}
@@ -23,6 +23,7 @@ use Rattle.reader.specs.Machine.{Outcome, plan, refused}
 use Rattle.reader.specs.Records.{row-of, mark, leveled-leaves, no-leaf}
 use Rattle.reader.proofs.Theorems.{row-length, row-leaf}
 use Rattle.table.specs.declared.Head.{Head}
+use Rattle.table.specs.declared.Verdict.{Verdict}
 use Rattle.table.specs.Table.{table-of, all-tails, stretch-of}
 use Rattle.table.specs.Reading.{verdict, verdict-of, stored}
 use Rattle.table.proofs.Holding.{leaves-size}
@@ -33,6 +34,7 @@ use Rattle.print.specs.Lines.{task-line, point-line}
 use Rattle.tables.specs.Listing as memory
 use Rattle.tables.specs.Listing.{leaf-lines, listing}
 use Rattle.tables.specs.PlanListing.{point-of, points-of, all-points, plan-listing, outcome-listing}
+use Rattle.tables.proofs.Lines.{Whole}
 
 -- LEAVES AND THEIR LEVELS
 
@@ -223,3 +225,17 @@ module _ (row tails stretches : List ℕ) (long : length row ≡ 4096) (wide-tai
           listing (stored o (λ t. t .row) row) (stored o (λ t. t .tails) tails) (stored o (λ t. t .stretches) stretches) (verdict-of o h) ≡ outcome-listing o
       by (plan p) f = plan-listed p h (f p refl)
       by (refused k j) f = refl
+
+-- FROM THE PROGRAM'S OWN MEMORY
+
+-- What is written as the listing of numbers that `read` left where there was 0 everywhere is the listing of the plan, or the refusal.
+pub list-read : (text : List ℕ) (h : Head) (l : List ℕ) {v : Verdict} {row tails stretches m : List ℕ} {r : ℕ} → v ≡ verdict-of (verdict 512 text) h →
+    row ≡ stored (verdict 512 text) (λ t. t .row) (replicate 4096 0) → tails ≡ stored (verdict 512 text) (λ t. t .tails) (replicate 512 0) →
+    stretches ≡ stored (verdict 512 text) (λ t. t .stretches) (replicate 512 0) → Whole l (listing row tails stretches v) m r →
+    Whole l (outcome-listing (verdict 512 text)) m r
+list-read text h l {v} {row} {tails} {stretches} {m} {r} e a b c w =
+    let x : listing row tails stretches v ≡ outcome-listing (verdict 512 text) =
+    rw (e, a, b, c)
+    (text-listed (replicate 4096 0) (replicate 512 0) (replicate 512 0) (length-replicate {A = ℕ} 4096 0) (length-replicate {A = ℕ} 512 0)
+    (length-replicate {A = ℕ} 512 0) h 512 text) in
+    subst (λ (t : List ℕ). Whole l t m r) x w

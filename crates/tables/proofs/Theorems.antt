@@ -3,8 +3,10 @@
 use mathlib.Core.Bool.{true}
 use mathlib.Core.List.{List, []}
 use mathlib.Core.Path.{_≡_}
-use Prim.Native.Nat.{ℕ, _<_}
-use lib.ListN.{length, getD}
+use Prim.Native.Nat.{ℕ, _≤_, _<_}
+use native.Mathlib.Omega.{arith}
+use lib.ListN.{length, getD, take}
+use lib.Seq.{sets}
 use Rattle.model.specs.Plan.{Block, C, M, close, Plan, leaves}
 use Rattle.model.specs.Forms.{done, linked, main}
 use Rattle.model.specs.Runs.{Among}
@@ -13,6 +15,7 @@ use Rattle.model.specs.Stretch.{Stretch, stretch}
 use Rattle.model.specs.Tail.{Tail, tail}
 use Rattle.model.specs.Acceptance.{Accepted}
 use Rattle.model.proofs.Theorems as model
+use Rattle.print.proofs.Theorems.{begins}
 use Rattle.table.specs.declared.Head.{Head}
 use Rattle.table.specs.Reading.{verdict, verdict-of, stored}
 use Rattle.tables.specs.Listing.{listing}
@@ -26,6 +29,12 @@ pub listing-is-of-text : (row tails stretches : List ℕ) → length row ≡ 409
     listing (stored (verdict capacity text) (λ t. t .row) row) (stored (verdict capacity text) (λ t. t .tails) tails)
     (stored (verdict capacity text) (λ t. t .stretches) stretches) (verdict-of (verdict capacity text) h) ≡ outcome-listing (verdict capacity text)
 listing-is-of-text = lists.text-listed
+
+-- So the bytes that the program hands over to standard output are that listing: consider its buffer of 65,664 bytes, and m and n as `list_text` leaves
+-- the buffer and gives the length by its contract. The first n bytes of m are the listing of the plan, or the line of the refusal.
+pub bytes-are-of-text : (text buffer m : List ℕ) (n : ℕ) → length buffer ≡ 65664 → m ≡ sets buffer 0 (outcome-listing (verdict 512 text)) →
+    n ≡ length (outcome-listing (verdict 512 text)) → n ≤ 65664 → take n m ≡ outcome-listing (verdict 512 text)
+bytes-are-of-text text buffer m n long e k h = rw (e, k) (begins (outcome-listing (verdict 512 text)) buffer (omega arith))
 
 -- THE NUMBERS, OVER RUNS
 

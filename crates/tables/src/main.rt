@@ -5,7 +5,9 @@ ghost use lib.ListN.{length};
 ghost use lib.Seq.{sets};
 ghost use Rattle.print.specs.Written.{Written, Held};
 ghost use Rattle.print.specs.Lines.{task-line, point-line, refused-plan-line};
+ghost use Rattle.table.specs.Reading.{verdict};
 ghost use Rattle.tables.specs.Listing.{leaf-line, leaf-lines, listing};
+ghost use Rattle.tables.specs.PlanListing.{outcome-listing};
 use libc::STDIN_FILENO;
 use libc::STDOUT_FILENO;
 use print::point_line;
@@ -157,15 +159,18 @@ fn list(
     }
 }
 
-fn main() {
-    let mut text = [0u8; TEXT];
-    let n = io::read_full(STDIN_FILENO, &mut text);
+// Reads a plan text and writes the listing of the plan, or the refusal, and gives its length.
+fn list_text(out: &mut [u8; LISTING], text: &[u8]) -> usize
+    ensures lines { λ r. ⌜ now (out .exit) ≡ sets (now (out .entry)) 0 (outcome-listing (verdict 512 (now (text .entry)))) ⌝ }
+    ensures size { λ r. ⌜ r ≡ length (outcome-listing (verdict 512 (now (text .entry)))) ⌝ }
+    ensures fits { λ r. ⌜ r ≤ 65664 ⌝ }
+{
     let mut row = [0; 4096];
     let mut turns = [0; 512];
     let mut tails = [0; 512];
     let mut stretches = [0; 512];
     let verdict = read(
-        &text[..n],
+        text,
         LEAVES,
         &mut row,
         &mut turns,
@@ -173,7 +178,13 @@ fn main() {
         &mut stretches,
         no_head(),
     );
+    list(out, &row, &tails, &stretches, verdict)
+}
+
+fn main() {
+    let mut text = [0u8; TEXT];
+    let n = io::read_full(STDIN_FILENO, &mut text);
     let mut out = [0u8; LISTING];
-    let size = list(&mut out, &row, &tails, &stretches, verdict);
+    let size = list_text(&mut out, &text[..n]);
     io::write_all(STDOUT_FILENO, &out[..size]);
 }

@@ -16,23 +16,17 @@ read-full-requires c κs = search needs
 array-share-prefix-text : tie.Need-array-share-prefix-text
 array-share-prefix-text c = search needs
 
-slice-aggregate-read : tie.Need-slice-aggregate-read
-slice-aggregate-read c = search needs
+slice-aggregate-list-text : tie.Need-slice-aggregate-list-text
+slice-aggregate-list-text c = search needs
 
-no-head-requires : tie.Need-no-head-requires
-no-head-requires c κs = search needs
-
-read-requires : tie.Need-read-requires
-read-requires c κs = search needs
-
-list-requires : tie.Need-list-requires
-list-requires c κs = search needs
+list-text-requires : tie.Need-list-text-requires
+list-text-requires c κs = search needs
 
 array-share-prefix-out : tie.Need-array-share-prefix-out
-array-share-prefix-out c = rw (c .list .ensures .0, length-sets, length-replicate {A = ℕ}) (c .list .ensures .1 .1)
+array-share-prefix-out c = rw (c .list-text .ensures .0, length-sets, length-replicate {A = ℕ}) (c .list-text .ensures .1 .1)
 
 slice-aggregate-write-all : tie.Need-slice-aggregate-write-all
-slice-aggregate-write-all c = sym (length-take-le _ _ (rw (c .before .list .ensures .0, length-sets, length-replicate {A = ℕ}) (c .before .list .ensures .1 .1)))
+slice-aggregate-write-all c = sym (length-take-le _ _ (rw (c .before .list-text .ensures .0, length-sets, length-replicate {A = ℕ}) (c .before .list-text .ensures .1 .1)))
 
 write-all-requires : tie.Need-write-all-requires
 write-all-requires c κs = search needs
@@ -47,10 +41,8 @@ main-spec =
     slice-aggregate-read-full
     read-full-requires
     array-share-prefix-text
-    slice-aggregate-read
-    no-head-requires
-    read-requires
-    list-requires
+    slice-aggregate-list-text
+    list-text-requires
     array-share-prefix-out
     slice-aggregate-write-all
     write-all-requires
