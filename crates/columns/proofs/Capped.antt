@@ -1,7 +1,7 @@
 -- Sums held at the ceiling: a part that is held already changes nothing. Assumes nothing.
 use mathlib.Core.Bool.{Bool, true, false}
 use mathlib.Core.Path.{_≡_, sym, ap, _∙_}
-use Prim.Native.Nat.{ℕ, zero, suc, _+_, _-_, _*_, _≤_, max}
+use Prim.Native.Nat.{ℕ, zero, suc, _+_, _*_, _≤_, max}
 use native.Mathlib.Nat.{mul-le-mul, suc-mul, zero-mul}
 use native.Mathlib.Decide.{decLe}
 use native.Mathlib.Omega.{arith}
@@ -27,6 +27,10 @@ cap-low n h = omega arith
 -- A loop's product fits with room.
 pub product : (c b y : ℕ) → c ≤ 1048576 → b ≤ 65535 → y ≤ ceiling → b * (y + c) ≤ 65535 * 2199024304128
 product c b y hc hb hy = let h : y + c ≤ 2199024304128 = omega arith in mul-le-mul hb h
+
+-- So does that of rounds within the limit.
+pub rounds-low : (b y : ℕ) → b ≤ 65535 → y ≤ limit → b * y ≤ 65535 * 1099511627776
+rounds-low b y hb hy = mul-le-mul hb hy
 
 -- A leaf's cost is within its range.
 pub price-le : (l : Bool) (b : Block) → Costs b → price l b ≤ 1048576

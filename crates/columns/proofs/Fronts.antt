@@ -1,7 +1,7 @@
 -- A column, form by form: what stands in it, and what is to be written. Assumes nothing.
-use mathlib.Core.Path.{_≡_, refl, sym, ap, _∙_}
+use mathlib.Core.Path.{_≡_, refl, sym, ap, _∙_, subst}
 use mathlib.Core.List.{List, [], _∷_, _++_, append-assoc}
-use Prim.Native.Nat.{ℕ, suc, _+_, _-_, _<_}
+use Prim.Native.Nat.{ℕ, suc, _+_, _<_}
 use native.Mathlib.Omega.{arith}
 use lib.ListN.{length, getD, set, length-append}
 use lib.Seq.{sets}
@@ -12,7 +12,7 @@ use Rattle.rows.proofs.Shape.{LeafAt, CallAt, LoopAt, IfAt}
 use Rattle.columns.specs.Sums.{Laid}
 use Rattle.columns.specs.Columns.{Rule, column, front, Holds}
 use Rattle.columns.proofs.Sizes.{then-laid}
-use Rattle.columns.proofs.Stores.{sets-then, set-before, holds-append}
+use Rattle.columns.proofs.Stores.{sets-then, set-before, holds-append, holds-both}
 
 module _ (u : Rule) where
   pub column-split : (l : Lines) (s : ℕ) → column u l s ≡ front u l (u .next (rest l) s) ++ column u (rest l) s
@@ -153,3 +153,21 @@ module _ (u : Rule) where
       let k = rw (sym e) at g in
       let j : suc i ≡ i + 1 = omega arith in
       holds-append (column u (h .then .lines) x) (column u (h .else .lines) x) o (i + 1) mid (rw j at (k .1)) (laid-fill (then-laid hm h) x)
+
+  -- The same the other way: a form's numbers, from the first one and those of the parts.
+  pub loop-holds : (o : List ℕ) (x : ℕ) {w hs : List ℕ} {left v i : ℕ} {l : Lines} (h : LoopAt w hs left v i l) → getD o i 0 ≡ u .value l x
+      → Holds o (i + 1) (column u (h .body .lines) (u .inner l x)) → Holds o i (front u l x)
+  unfolding Holds
+  loop-holds o x {w} {hs} {left} {v} {i} {l} h a g =
+      let e = as-loop l (h .body .lines) (rest l) (block-at w i) (field w i 4) x (h .shape) in
+      let j : i + 1 ≡ suc i = omega arith in
+      subst (λ (xs : List ℕ). Holds o i xs) e (a, rw j at g)
+
+  pub if-holds : (o : List ℕ) (x : ℕ) {w hs : List ℕ} {left v i mid : ℕ} {l : Lines} (h : IfAt w hs left v i l) → mid ≡ field w i 5 → getD o i 0 ≡ u .value l x
+      → Holds o (i + 1) (column u (h .then .lines) x) → Holds o mid (column u (h .else .lines) x) → Holds o i (front u l x)
+  unfolding Holds
+  if-holds o x {w} {hs} {left} {v} {i} {mid} {l} h hm a f g =
+      let e = as-if l (h .then .lines) (h .else .lines) (rest l) (block-at w i) x (h .shape) in
+      let j : i + 1 ≡ suc i = omega arith in
+      let b = holds-both (column u (h .then .lines) x) (column u (h .else .lines) x) o (i + 1) mid (laid-fill (then-laid hm h) x) f g in
+      subst (λ (xs : List ℕ). Holds o i xs) e (a, rw j at b)

@@ -100,6 +100,10 @@ exact-at {l} {w} {starts} {ts} {o} {n} v q (suc m) f h lt =
 pub exact-known : {l : Bool} {w starts ts o : List ℕ} {n : ℕ} (v : Funs w starts n) → Exact l (v .lines) starts n ts o → Agree ts (known (price l) (v .lines) n) n
 exact-known {l} {w} {starts} {ts} {o} {n} v q j h = exact-at v q n j h h ∙ sym (known-at (price l) (v .lines) n j h)
 
+-- And they are as `measure` gives them.
+pub exact-measured : {l : Bool} {w starts ts o : List ℕ} {n : ℕ} (v : Funs w starts n) → Exact l (v .lines) starts n ts o → Measured l (v .lines) starts n ts o
+exact-measured v q = record { totals = λ f h. omega (arith, exact-known v q f h, q .small f h); rounds = q .rounds }
+
 -- The totals of a list of functions are these.
 known-on : (k : Block → ℕ) (F : ℕ → Lines) (m : ℕ) (ls : List Lines) → ((f : ℕ) → f < length ls → F (m + f) ≡ getD ls f close)
     → tallies k (known k F m) ls ≡ known k F (m + length ls)
@@ -154,7 +158,7 @@ names-below f k (if-line y t e r) b (inr (inr u)) = names-below f k r (b .2) u
 abbrev pub Named : (ℕ → Lines) → ℕ → Type 0
 Named F n = (f : ℕ) → suc f < n → (k : ℕ) × (k < n) × Names f (F k)
 
-main-most : {w starts : List ℕ} {n : ℕ} (k : Block → ℕ) (v : Funs w starts n) → Named (v .lines) n → (d f : ℕ) → n ≤ f + d → f < n
+pub main-most : {w starts : List ℕ} {n : ℕ} (k : Block → ℕ) (v : Funs w starts n) → Named (v .lines) n → (d f : ℕ) → n ≤ f + d → f < n
     → getD (known k (v .lines) n) f 0 ≤ getD (known k (v .lines) n) (n - 1) 0
 main-most k v c zero f h lt = absurd (omega arith)
 main-most {w} {starts} {n} k v c (suc d) f h lt =

@@ -7,6 +7,7 @@ pub mod Listing
 pub mod Readiness
 pub mod Backing
 pub mod Tailing
+pub mod Fitting
 pub mod Hushing
 pub mod Widening
 pub mod Functions

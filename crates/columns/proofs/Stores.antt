@@ -47,6 +47,12 @@ unfolding Holds
 holds-append [] ys o i j h e = let e′ : j ≡ i = omega arith in (tt, rw e′ h)
 holds-append (x ∷ xs) ys o i j h e = let r = holds-append xs ys o (suc i) j (h .1) (omega arith) in ((h .0, r .0), r .1)
 
+-- Numbers that stand one after the other stand there together.
+pub holds-both : (xs ys o : List ℕ) (i j : ℕ) → j ≡ i + length xs → Holds o i xs → Holds o j ys → Holds o i (xs ++ ys)
+unfolding Holds
+holds-both [] ys o i j e h k = let z : j ≡ i = omega arith in rw z at k
+holds-both (x ∷ xs) ys o i j e h k = (h .0, holds-both xs ys o (suc i) j (omega arith) (h .1) k)
+
 -- Stores read back, and stores elsewhere.
 pub sets-below : (vs o : List ℕ) (i x : ℕ) → x < i → getD (sets o i vs) x 0 ≡ getD o x 0
 sets-below [] o i x h = refl

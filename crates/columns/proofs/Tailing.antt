@@ -16,13 +16,14 @@ use Rattle.columns.specs.Order.{later}
 use Rattle.columns.proofs.Sizes.{tally-split, loop-lead, if-lead, round-back}
 use Rattle.columns.proofs.Readiness.{ready-turn}
 
--- What follows the body of a loop, where t is the tail of the loop and x follows it.
-module _ {w ts o : List ℕ} {left i e x : ℕ} (lt : i < e) (z : Ready false w ts o left i e x) where
-  loop-rounds : {hs : List ℕ} {v : ℕ} (h : LoopAt w hs left v i (z .laid .part .lines)) →
-      rounds ts (z .laid .part .lines) x ≡ C (block-at w i) + (field w i 4 - 1) * (tally C ts (h .body .lines) + C (block-at w i)) + x
-  unfolding rounds
-  loop-rounds h = ap (λ u. rounds ts u x) (h .shape)
+-- What follows the body of a loop, where x follows it.
+pub loop-rounds : (ts : List ℕ) (x : ℕ) {w hs : List ℕ} {left v i : ℕ} {l : Lines} (h : LoopAt w hs left v i l) →
+    rounds ts l x ≡ C (block-at w i) + (field w i 4 - 1) * (tally C ts (h .body .lines) + C (block-at w i)) + x
+unfolding rounds
+loop-rounds ts x h = ap (λ u. rounds ts u x) (h .shape)
 
+-- The same, where t is the tail of the loop.
+module _ {w ts o : List ℕ} {left i e x : ℕ} (lt : i < e) (z : Ready false w ts o left i e x) where
   pub loop-behind : {hs : List ℕ} {v t : ℕ} (h : LoopAt w hs left v i (z .laid .part .lines)) → t ≡ lead C ts (z .laid .part .lines) + x
       → (t - getD o i 0 ≡ rounds ts (z .laid .part .lines) x) × (tally C ts (h .body .lines) + (t - getD o i 0) ≤ limit) × (getD o i 0 ≤ t)
   loop-behind {hs} {v} {t} h ht =
@@ -31,7 +32,7 @@ module _ {w ts o : List ℕ} {left i e x : ℕ} (lt : i < e) (z : Ready false w 
       let a = round-back (field w i 4) (y + c) (h .least) in
       let b = loop-lead C ts h in
       let d = ready-turn lt z h in
-      let r = loop-rounds h in
+      let r = loop-rounds ts x h in
       (omega (arith, a, b, d, r, ht), omega (arith, a, b, d, ht, z .small), omega (arith, a, b, d, ht))
 
 -- The tail of an if.

@@ -4,3 +4,4 @@ pub mod Order
 pub mod Quiet
 pub mod Stretches
 pub mod Whole
+pub mod Local

@@ -1,5 +1,6 @@
 // The derived columns of a plan's table: the sum of one round of each loop, tails and stretches. Each leaf is looked at a fixed number of times,
 // whatever the nesting: sums are noted once for each loop, and siblings are walked from the last to the first, with what follows them at hand.
+// Lent totals, turns and tails are tested where they stand, from the first leaf to the last.
 ghost use mathlib.Core.Path.{_≡_};
 ghost use mathlib.Core.Bool.{true, false};
 ghost use mathlib.Core.List.{[], _∷_};
@@ -17,6 +18,8 @@ ghost use Rattle.model.specs.Static.{line-silence};
 ghost use Rattle.columns.specs.Quiet.{heard, Hush, Low, hushed, head-at, flag};
 ghost use Rattle.columns.specs.Stretches.{marked, stretch-rule, raise, raised, lifted};
 ghost use Rattle.columns.specs.Whole.{Funs, Measured, Costed, Summed, painted, tailed};
+ghost use Rattle.rows.specs.Answers.{Says};
+ghost use Rattle.columns.specs.Local.{Fits, Fits-first, Begins, Lent};
 use rows::get;
 use rows::index;
 use rows::larger;
@@ -50,6 +53,12 @@ const BRACKETS: usize = 62;
 
 // Sums are held at 2^41.
 const CEILING: u64 = 2199023255552;
+
+// No total of an accepted plan is over 2^40.
+const LIMIT: u64 = 1099511627776;
+
+// The most functions.
+const FUNCTIONS: usize = 16;
 
 // The cost of the record i that a sum counts.
 fn cost(row: &[u64], i: usize, load: bool) -> u64
@@ -658,6 +667,30 @@ fn stretch_all(
     }
 }
 
+// Writes the stretch of every leaf of the n functions, and returns the stretch of the release. Given are the functions' max-load totals and the sums
+// of their loops' rounds at M.
+pub fn stretches(
+    row: &[u64],
+    starts: &[usize],
+    n: usize,
+    loaded: &[u64; 16],
+    burden: &[u64; 512],
+    stretch: &mut [u64; 512],
+) -> u64
+    requires { ⌜ (1 ≤ n) × (n < length (now starts)) × (n ≤ 16) ⌝ }
+    requires { ⌜ Costed true (now row) (now starts) n (now loaded) (now burden) ⌝ }
+    ensures { λ r. ⌜ ((v : Costed true (now (row .entry)) (now (starts .entry)) n (now (loaded .entry)) (now (burden .entry)))
+        → r ≡ line-silence (now (loaded .entry)) (v .funs .lines (n - 1)) 0) ⌝ }
+    ensures { λ _. ⌜ ((v : Costed true (now (row .entry)) (now (starts .entry)) n (now (loaded .entry)) (now (burden .entry)))
+        → now (stretch .exit) ≡ painted (now (loaded .entry)) (λ f s. line-silence (now (loaded .entry)) (v .funs .lines f) s) (v .funs .lines) (now (starts .entry)) n n
+        (now (stretch .entry))) ⌝ }
+{
+    let heads = hush_all(row, starts, n, loaded, burden);
+    stretch_all(row, starts, n, loaded, burden, &heads, stretch);
+    let q = head(&heads, n - 1);
+    apply(q, 0)
+}
+
 // Writes the tail and the stretch of every leaf of the n functions, and returns the stretch of the release. Given are the functions' totals at
 // both costs, and the sums of their loops' rounds: `turn` at C, `burden` at M.
 pub fn derive(
@@ -682,8 +715,202 @@ pub fn derive(
         (now (stretch .entry))) ⌝ }
 {
     tail_all(row, starts, n, isolated, turn, tail);
-    let heads = hush_all(row, starts, n, loaded, burden);
-    stretch_all(row, starts, n, loaded, burden, &heads, stretch);
-    let q = head(&heads, n - 1);
-    apply(q, 0)
+    stretches(row, starts, n, loaded, burden, stretch)
+}
+
+// Whether two numbers are the same.
+fn equal(x: u64, y: u64) -> bool
+    ensures { λ r. ⌜ Says r (x ≡ y) ⌝ }
+{
+    if x != y {
+        return false;
+    }
+    true
+}
+
+// Whether the tail t is not below what follows its form, and not over the limit.
+fn within(x: u64, t: u64) -> bool
+    ensures { λ r. ⌜ Says r ((x ≤ t) × (t ≤ limit)) ⌝ }
+{
+    if t < x {
+        return false;
+    }
+    if LIMIT < t {
+        return false;
+    }
+    true
+}
+
+// The number at the start of the forms from `from` up to `to`, which e follows.
+fn start(tail: &[u64], from: usize, to: usize, e: u64) -> u64
+    requires { ⌜ to ≤ length (now tail) ⌝ }
+    ensures { λ r. ⌜ Begins (now (tail .entry)) from to e r ⌝ }
+{
+    if from < to { tail[from] } else { e }
+}
+
+// Whether d is the total of the leaf or call at i, the first of the forms from i up to `to`.
+fn flat_fits(row: &[u64], i: usize, to: usize, left: usize, sums: &[u64; 16], d: u64) -> bool
+    requires { ⌜ (i < to) × (to * 8 ≤ length (now row)) × (field (now row) i 0 < 2) ⌝ }
+    requires { ⌜ Laid (now row) left i to ⌝ }
+    ensures { λ r. ⌜ ((p : Laid (now (row .entry)) left i to) → Says r (d ≡ lead C (now (sums .entry)) (p .part .lines))) ⌝ }
+{
+    let c = get(row, i, COST);
+    if get(row, i, KIND) == LEAF {
+        return equal(d, c);
+    }
+    let f = index(row, i, NUMBER);
+    let y = sums[f];
+    if d < y {
+        return false;
+    }
+    equal(d - y, c)
+}
+
+// Whether d is the total of the loop at i, if u is the sum of one of its rounds, and u is not over the loop's tail t.
+fn rounds_fit(row: &[u64], i: usize, d: u64, u: u64, t: u64) -> bool
+    requires { ⌜ (i * 8 + 8 ≤ length (now row)) × (field (now row) i 2 ≤ 1048576) × (field (now row) i 4 ≤ 65535) × (t ≤ limit) ⌝ }
+    ensures { λ r. ⌜ Says r ((u ≤ t) × (d ≡ field (now (row .entry)) i 2 + field (now (row .entry)) i 4 * u)) ⌝ }
+{
+    if t < u {
+        return false;
+    }
+    if d != get(row, i, COST) + get(row, i, NUMBER) * u {
+        return false;
+    }
+    true
+}
+
+// Whether the lent numbers of the form at i, the first of those from i up to `to`, are the derived ones, where x follows the form.
+fn form_fits(
+    row: &[u64],
+    i: usize,
+    to: usize,
+    left: usize,
+    sums: &[u64; 16],
+    turn: &[u64],
+    tail: &[u64],
+    x: u64,
+) -> bool
+    requires { ⌜ (i < to) × (to * 8 ≤ length (now row)) × (to ≤ length (now turn)) × (to ≤ length (now tail)) ⌝ }
+    requires { ⌜ Laid (now row) left i to ⌝ }
+    ensures { λ r. ⌜ ((p : Laid (now (row .entry)) left i to)
+        → Says r (Fits-first (now (sums .entry)) (now (turn .entry)) (now (tail .entry)) (p .part .lines) i x)) ⌝ }
+{
+    let t = tail[i];
+    let u = turn[i];
+    if !within(x, t) {
+        return false;
+    }
+    let kind = get(row, i, KIND);
+    let c = get(row, i, COST);
+    let end = index(row, i, END);
+    if kind == LOOP {
+        if !rounds_fit(row, i, t - x, u, t) {
+            return false;
+        }
+        if !block_fits(row, i + 1, end, left - 1, sums, turn, tail, t - u) {
+            return false;
+        }
+        return equal(t, c + start(tail, i + 1, end, t - u));
+    }
+    if u != 0 {
+        return false;
+    }
+    if kind == IF {
+        let mid = index(row, i, ELSE);
+        if !block_fits(row, i + 1, mid, left - 2, sums, turn, tail, x) {
+            return false;
+        }
+        if !block_fits(row, mid, end, left - 2, sums, turn, tail, x) {
+            return false;
+        }
+        return equal(
+            t,
+            c + larger(start(tail, i + 1, mid, x), start(tail, mid, end, x)),
+        );
+    }
+    flat_fits(row, i, to, left, sums, t - x)
+}
+
+// Whether the lent numbers of the forms from `from` up to `to`, which e follows in their function, are the derived ones.
+fn block_fits(
+    row: &[u64],
+    from: usize,
+    to: usize,
+    left: usize,
+    sums: &[u64; 16],
+    turn: &[u64],
+    tail: &[u64],
+    e: u64,
+) -> bool
+    requires { ⌜ (to * 8 ≤ length (now row)) × (to ≤ length (now turn)) × (to ≤ length (now tail)) × (e ≤ limit) ⌝ }
+    requires { ⌜ Laid (now row) left from to ⌝ }
+    ensures { λ r. ⌜ ((p : Laid (now (row .entry)) left from to)
+        → Says r (Fits (now (sums .entry)) (now (turn .entry)) (now (tail .entry)) (p .part .lines) from e)) ⌝ }
+{
+    let mut i = from;
+    while i < to {
+        let end = index(row, i, END);
+        let x = start(tail, end, to, e);
+        if !form_fits(row, i, to, left, sums, turn, tail, x) {
+            return false;
+        }
+        i = end;
+    }
+    true
+}
+
+// Whether the totals behind the last of n functions are 0.
+fn settled(sums: &[u64; 16], n: usize) -> bool
+    requires { ⌜ n ≤ 16 ⌝ }
+    ensures { λ r. ⌜ Says r ((f : ℕ) → n ≤ f → f < 16 → getD (now (sums .entry)) f 0 ≡ 0) ⌝ }
+{
+    let mut f = n;
+    while f < FUNCTIONS {
+        if sums[f] != 0 {
+            return false;
+        }
+        f += 1;
+    }
+    true
+}
+
+// Whether lent isolated totals of the n functions, and lent columns of turns and tails, are the derived ones and no total is over the limit. Nothing is
+// derived anew: each number is held to those beside it.
+pub fn tails_agree(
+    row: &[u64],
+    starts: &[usize],
+    n: usize,
+    sums: &[u64; 16],
+    turn: &[u64],
+    tail: &[u64],
+) -> bool
+    requires { ⌜ (n < length (now starts)) × (n ≤ 16) ⌝ }
+    requires { ⌜ Funs (now row) (now starts) n ⌝ }
+    ensures { λ r. ⌜ ((v : Funs (now (row .entry)) (now (starts .entry)) n)
+        → Says r (Lent (v .lines) (now (starts .entry)) n (now (sums .entry)) (now (turn .entry)) (now (tail .entry)))) ⌝ }
+{
+    if turn.len() < starts[n] {
+        return false;
+    }
+    if tail.len() < starts[n] {
+        return false;
+    }
+    if !settled(sums, n) {
+        return false;
+    }
+    let mut f = 0;
+    while f < n {
+        let from = starts[f];
+        let to = starts[f + 1];
+        if !block_fits(row, from, to, BRACKETS, sums, turn, tail, 0) {
+            return false;
+        }
+        if sums[f] != start(tail, from, to, 0) {
+            return false;
+        }
+        f += 1;
+    }
+    true
 }

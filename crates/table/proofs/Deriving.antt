@@ -61,7 +61,7 @@ turns-size ts (if-line b t e r) =
     omega (arith, length-append (turns-in ts t) (turns-in ts e ++ turns-in ts r), length-append (turns-in ts e) (turns-in ts r), turns-size ts t, turns-size ts e, turns-size ts r)
 
 -- Where no total is over the limit, none of the rounds' sums is held.
-turns-exact : (ts : List ℕ) (l : Lines) → Turning l → tally C ts l ≤ limit → turns C ts l ≡ turns-in ts l
+pub turns-exact : (ts : List ℕ) (l : Lines) → Turning l → tally C ts l ≤ limit → turns C ts l ≡ turns-in ts l
 unfolding column turn turns-in tally Turning
 turns-exact ts close t h = refl
 turns-exact ts (leaf-line b r) t h = ap (λ (z : List ℕ). 0 ∷ z) (turns-exact ts r t (omega arith))
@@ -136,7 +136,7 @@ module _ (n : ℕ) where
 -- THE FUNCTIONS OF A ROW
 
 -- The first m functions of a plan, as its row holds them.
-abbrev funs-at : {w s : List ℕ} {n : ℕ} (q : Plan-of w s n) (m : ℕ) → m ≤ n → Funs w s m
+abbrev pub funs-at : {w s : List ℕ} {n : ℕ} (q : Plan-of w s n) (m : ℕ) → m ≤ n → Funs w s m
 funs-at {w} {s} {n} q m le =
     let ls = q .functions in
     record {
@@ -151,7 +151,7 @@ funs-at {w} {s} {n} q m le =
     }
 
 -- The totals of functions are as many as these.
-tallies-length : (k : Block → ℕ) (ts : List ℕ) (ls : List Lines) → length (tallies k ts ls) ≡ length ts + length ls
+pub tallies-length : (k : Block → ℕ) (ts : List ℕ) (ls : List Lines) → length (tallies k ts ls) ≡ length ts + length ls
 unfolding tallies
 tallies-length k ts [] = omega arith
 tallies-length k ts (l ∷ ls) = omega (arith, tallies-length k (ts ++ (tally k ts l ∷ [])) ls, length-append ts (tally k ts l ∷ []))
@@ -165,19 +165,19 @@ length-padded (suc k) (x ∷ xs) = ap suc (length-padded k xs)
 -- Consider a row that keeps rules 3 to 9.
 module _ {w s : List ℕ} {n : ℕ} (q : Structured w s n) where
   -- Its functions.
-  abbrev ls : List Lines
+  abbrev pub ls : List Lines
   ls = q .plan .functions
 
   -- A plan of the row's functions; its numbers depend on these alone.
-  abbrev plain : Plan
+  abbrev pub plain : Plan
   plain = record { deadline = 1; switch = 0; functions = ls }
 
   -- The lines of one of them.
-  abbrev line : ℕ → Lines
+  abbrev pub line : ℕ → Lines
   line f = getD ls f close
 
   -- Rules 3 to 7.
-  formed : Formed plain
+  pub formed : Formed plain
   formed =
       let c = q .plan .count in
       record {
@@ -191,7 +191,7 @@ module _ {w s : List ℕ} {n : ℕ} (q : Structured w s n) where
       }
 
   -- The total of the last function is the plan's.
-  main-total : (k : Block → ℕ) → getD (tallies k [] ls) (length ls - 1) 0 ≡ total k (main plain)
+  pub main-total : (k : Block → ℕ) → getD (tallies k [] ls) (length ls - 1) 0 ≡ total k (main plain)
   main-total k = plan-totals k plain (length ls - 1) (omega (arith, formed .some-function)) ∙ sym (ap (total k) (main-last plain))
 
   -- So its held total is the plan's, held.
@@ -215,14 +215,14 @@ module _ {w s : List ℕ} {n : ℕ} (q : Structured w s n) where
     -- Consider held totals that are not over the limit.
     module _ (h : getD cs (length ls - 1) 0 ≤ limit) (k : getD ms (length ls - 1) 0 ≤ limit) where
       -- They are the totals.
-      exact-isolated : getD cs (length ls - 1) 0 ≡ total C (main plain)
+      pub exact-isolated : getD cs (length ls - 1) 0 ≡ total C (main plain)
       exact-isolated = let e = held-total mc in e ∙ cap-low (total C (main plain)) (omega arith)
 
-      exact-loaded : getD ms (length ls - 1) 0 ≡ total M (main plain)
+      pub exact-loaded : getD ms (length ls - 1) 0 ≡ total M (main plain)
       exact-loaded = let e = held-total mm in e ∙ cap-low (total M (main plain)) (omega arith)
 
       -- Rule 10 is kept.
-      short : short? plain ≡ true
+      pub short : short? plain ≡ true
       short =
           rw (
             le-leb (total C (main plain)) (2 ^ 40) (omega (arith, exact-isolated)),
@@ -230,7 +230,7 @@ module _ {w s : List ℕ} {n : ℕ} (q : Structured w s n) where
           )
 
       -- So the plan is accepted.
-      accepted : Accepted plain
+      pub accepted : Accepted plain
       accepted =
           record {
             formed = formed;
@@ -241,7 +241,7 @@ module _ {w s : List ℕ} {n : ℕ} (q : Structured w s n) where
           }
 
       -- The totals of all functions are exact.
-      abbrev summed : Summed w s (length ls) cs o ms b
+      abbrev pub summed : Summed w s (length ls) cs o ms b
       summed = totals-summed (funs-at (q .plan) (length ls) (omega (arith, q .plan .count))) (q .called) mc mm h k
 
       -- The isolated totals.
@@ -249,7 +249,7 @@ module _ {w s : List ℕ} {n : ℕ} (q : Structured w s n) where
       ts = tallies C [] ls
 
       -- The functions' totals, with 0 behind the last.
-      totals-are : length cs ≡ 16 → ((f : ℕ) → length ls ≤ f → getD cs f 0 ≡ 0) → cs ≡ padded 16 ts
+      pub totals-are : length cs ≡ 16 → ((f : ℕ) → length ls ≤ f → getD cs f 0 ≡ 0) → cs ≡ padded 16 ts
       totals-are long behind =
           let count : length ts ≡ length ls = tallies-length C [] ls ∙ omega arith in
           let few = formed .few-functions in
@@ -270,8 +270,8 @@ module _ {w s : List ℕ} {n : ℕ} (q : Structured w s n) where
           let x = turns-exact ts (line f) (plan-turning plain formed f lt) (omega (arith, v .isolated .total f lt, v .isolated .small f lt)) in
           rw (e ∙ x) at (mc .rounds f lt)
 
-      turns-taken : length o ≡ 512 → take (sizes ls) o ≡ all-turns ts ls
-      turns-taken wide = joined-take (turns-join ts) w s o ls (q .plan .lie) (q .plan .bounds .first) (omega (arith, q .plan .small)) turns-hold
+      pub turns-taken : sizes ls ≤ length o → take (sizes ls) o ≡ all-turns ts ls
+      turns-taken long = joined-take (turns-join ts) w s o ls (q .plan .lie) (q .plan .bounds .first) long turns-hold
 
       -- The column of tails.
       tails-taken : (c : List ℕ) → length c ≡ 512 → take (sizes ls) (tailed cs line s (length ls) c) ≡ all-tails ts ls
@@ -294,7 +294,7 @@ module _ {w s : List ℕ} {n : ℕ} (q : Structured w s n) where
       hushes f x = line-silence ms (line f) x
 
       -- The column of stretches.
-      stretches-taken : (c : List ℕ) → length c ≡ 512 → take (sizes ls) (painted ms hushes line s (length ls) (length ls) c) ≡ map (stretch-of plain) (all-leaves ls)
+      pub stretches-taken : (c : List ℕ) → length c ≡ 512 → take (sizes ls) (painted ms hushes line s (length ls) (length ls) c) ≡ map (stretch-of plain) (all-leaves ls)
       stretches-taken c wide =
           let d = painted ms hushes line s (length ls) (length ls) c in
           let marks : Marks (stretch-of plain) d (all-leaves ls) = λ b m.
@@ -306,7 +306,7 @@ module _ {w s : List ℕ} {n : ℕ} (q : Structured w s n) where
           (marks-of (stretch-of plain) d ls marks f lt))
 
       -- The stretch of the release.
-      release-is : line-silence ms (line (length ls - 1)) 0 ≡ silence (main plain) 0
+      pub release-is : line-silence ms (line (length ls - 1)) 0 ≡ silence (main plain) 0
       release-is = release-entry plain accepted summed (λ f. refl)
 
 -- WHAT `measure` AND `derive` GIVE
@@ -351,7 +351,7 @@ row-funs {n = n} e q = rw e (funs-at (q .plan) n (omega arith))
 -- Consider a row that keeps rules 3 to 9, and what `measure` and `derive` give for it.
 module _ {w s : List ℕ} {n : ℕ} (q : Structured w s n) where
   -- What holds of the bounds and of the number of the functions holds of the indexes and of n.
-  moved : (K : List ℕ → ℕ → Type 0) → K s (length (ls q)) → {starts : List ℕ} → starts ≡ s → K starts n
+  pub moved : (K : List ℕ → ℕ → Type 0) → K s (length (ls q)) → {starts : List ℕ} → starts ≡ s → K starts n
   moved K x e = subst (λ (t : List ℕ). K t n) (sym e) (subst (λ (m : ℕ). K s m) (q .plan .count) x)
 
   -- All functions of the row.
@@ -395,7 +395,7 @@ module _ {w s : List ℕ} {n : ℕ} (q : Structured w s n) where
               loaded = exact-loaded q x y h k;
               stretch = g .release v ∙ release-is q x y h k;
               totals = totals-are q x y h k (z .long) (z .behind);
-              turns-are = turns-taken q x y h k (z .turns);
+              turns-are = turns-taken q x y h k (omega (arith, q .plan .small, z .turns));
               tails-are = rw (g .tails v) (tails-taken q x y h k t₀ (z .tails));
               stretches-are = rw (g .stretches v) (stretches-taken q x y h k u₀ (z .stretches));
             })

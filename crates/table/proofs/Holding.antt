@@ -5,7 +5,7 @@ use mathlib.Core.Path.{_≡_, refl, sym, ap, _∙_}
 use Prim.Native.Nat.{ℕ, zero, suc, _+_, _≤_, _<_}
 use native.Mathlib.Nat.{not-suc-le-zero, le-of-suc-le-suc}
 use native.Mathlib.Omega.{arith}
-use lib.ListN.{length, getD, take, length-append, length-map}
+use lib.ListN.{length, getD, take, length-append, length-map, length-take}
 use lib.Seq.{length-take-le, getD-take, ext-getD}
 use Rattle.model.specs.Plan.{Block, Lines, close, leaf-line, call-line, loop-line, if-line, leaves, all-leaves}
 use Rattle.model.specs.Runs.{Among}
@@ -15,14 +15,9 @@ use Rattle.rows.specs.Rows.{field, end-at, Rep}
 use Rattle.structure.specs.Plans.{Lies}
 use Rattle.structure.proofs.Measures.{rep-size}
 use Rattle.columns.specs.Columns.{Holds}
+use Rattle.columns.proofs.Stores.{holds-append, holds-both}
 
 -- NUMBERS IN A COLUMN
-
--- Numbers that stand one after the other stand there together.
-holds-both : (xs ys o : List ℕ) (i j : ℕ) → j ≡ i + length xs → Holds o i xs → Holds o j ys → Holds o i (xs ++ ys)
-unfolding Holds
-holds-both [] ys o i j e h k = let z : j ≡ i = omega arith in rw z at k
-holds-both (x ∷ xs) ys o i j e h k = (h .0, holds-both xs ys o (suc i) j (omega arith) (h .1) k)
 
 -- One of the numbers that stand in a column.
 holds-at : (xs o : List ℕ) (i j : ℕ) → Holds o i xs → j < length xs → getD o (i + j) 0 ≡ getD xs j 0
@@ -31,12 +26,38 @@ holds-at [] o i j h lt = absurd (not-suc-le-zero lt)
 holds-at (x ∷ xs) o i zero h lt = let z : i + 0 ≡ i = omega arith in rw z (h .0)
 holds-at (x ∷ xs) o i (suc j) h lt = let z : i + suc j ≡ suc i + j = omega arith in rw z (holds-at xs o (suc i) j (h .1) (le-of-suc-le-suc lt))
 
+-- The numbers that stand at one place are the same, if they are as many.
+pub holds-one : (xs ys o : List ℕ) (i : ℕ) → Holds o i xs → Holds o i ys → length xs ≡ length ys → xs ≡ ys
+unfolding Holds
+holds-one [] [] o i h k e = refl
+holds-one [] (y ∷ ys) o i h k e = absurd (omega arith)
+holds-one (x ∷ xs) [] o i h k e = absurd (omega arith)
+holds-one (x ∷ xs) (y ∷ ys) o i h k e = rw (sym (h .0) ∙ k .0, holds-one xs ys o (suc i) (h .1) (k .1) (omega arith))
+
+-- Numbers stand in a column that has each of them at its place.
+holds-from : (xs o : List ℕ) (i : ℕ) → ((j : ℕ) → j < length xs → getD o (i + j) 0 ≡ getD xs j 0) → Holds o i xs
+unfolding Holds
+holds-from [] o i h = tt
+holds-from (x ∷ xs) o i h =
+    let z : i + 0 ≡ i = omega arith in
+    (rw z at (h 0 (omega arith)), holds-from xs o (suc i) (λ j lt. let y : i + suc j ≡ suc i + j = omega arith in rw y at (h (suc j) (omega arith))))
+
 -- A column that holds numbers from its beginning on begins with them.
 holds-take : (xs o : List ℕ) (n : ℕ) → Holds o 0 xs → length xs ≡ n → n ≤ length o → take n o ≡ xs
 holds-take xs o n h e le =
     let k : length (take n o) ≡ n = length-take-le n o le in
     ext-getD 0 (take n o) xs (k ∙ sym e)
     (λ j lt. let z : 0 + j ≡ j = omega arith in getD-take n o j 0 (omega arith) ∙ (rw z at (holds-at xs o 0 j h (omega arith))))
+
+-- And one that begins with them holds them.
+take-holds : (xs o : List ℕ) (n : ℕ) → take n o ≡ xs → Holds o 0 xs
+take-holds xs o n e =
+    holds-from xs o 0
+    (λ j lt.
+    let k = length-take n o in
+    let m = ap length e in
+    let z : 0 + j ≡ j = omega arith in
+    rw z (sym (getD-take n o j 0 (omega arith)) ∙ ap (λ (l : List ℕ). getD l j 0) e))
 
 -- LEAVES
 
@@ -151,3 +172,31 @@ module _ {part : Lines → List ℕ} {all : List Lines → List ℕ} (j : Joins 
       let k : Holds o (getD s 0 0) (all ls) =
       joined-hold w s o ls 0 h (λ k lt. let z : 0 + k ≡ k = omega arith in rw z (e k lt)) in
       holds-take (all ls) o (sizes ls) (rw first at k) (joined-size ls) le
+
+  -- And where it begins with them, each function's numbers stand at its bound.
+  joined-parts :
+      (w s o : List ℕ) (ls : List Lines) (f : ℕ) → Lies w s f ls → Holds o (getD s f 0) (all ls)
+      → (k : ℕ) → k < length ls → Holds o (getD s (f + k) 0) (part (getD ls k close))
+  unfolding Lies
+  joined-parts w s o [] f h e k lt = absurd (not-suc-le-zero lt)
+  joined-parts w s o (l ∷ ls) f h e k lt =
+      let a = holds-append (part l) (all ls) o (getD s f 0) (getD s (f + 1) 0) (rw (j .more l ls) at e)
+      (omega (arith, rep-size w l 1 (getD s f 0) (getD s (f + 1) 0) (h .0), j .each l)) in
+      by k lt (a .0) (joined-parts w s o ls (f + 1) (h .1) (a .1))
+    where
+      by : (k : ℕ) → k < suc (length ls) → Holds o (getD s f 0) (part l)
+          → ((m : ℕ) → m < length ls → Holds o (getD s (f + 1 + m) 0) (part (getD ls m close)))
+          → Holds o (getD s (f + k) 0) (part (getD (l ∷ ls) k close))
+      by zero lt a b = let z : f + 0 ≡ f = omega arith in rw z a
+      by (suc m) lt a b = let z : f + suc m ≡ f + 1 + m = omega arith in rw z (b m (le-of-suc-le-suc lt))
+
+  pub joined-part :
+      (w s o : List ℕ) (ls : List Lines) → Lies w s 0 ls → getD s 0 0 ≡ 0 → take (sizes ls) o ≡ all ls
+      → (k : ℕ) → k < length ls → Holds o (getD s k 0) (part (getD ls k close))
+  joined-part w s o ls h first e k lt =
+      let z : 0 + k ≡ k = omega arith in
+      rw z at (joined-parts w s o ls 0 h (rw first (take-holds (all ls) o (sizes ls) e)) k lt)
+
+  -- It is then long enough.
+  pub joined-long : (o : List ℕ) (ls : List Lines) → take (sizes ls) o ≡ all ls → sizes ls ≤ length o
+  joined-long o ls e = omega (arith, length-take (sizes ls) o, ap length e, joined-size ls)

@@ -1,7 +1,7 @@
 -- What the private functions promise. Nothing of this stands in the contracts of `read` and `check`.
 -- Assumes nothing: these are definitions.
 use mathlib.Core.Bool.{true}
-use mathlib.Core.List.{List, []}
+use mathlib.Core.List.{List}
 use mathlib.Core.Path.{_≡_}
 use Prim.Native.Nat.{ℕ, _*_, _^_, _≤_}
 use lib.ListN.{length, take}
@@ -44,13 +44,6 @@ pub record Wide (turns tails stretches : List ℕ) : Type 0 where
   pub turns-wide : length turns ≡ 512
   pub tails-wide : length tails ≡ 512
   pub stretches-wide : length stretches ≡ 512
-
--- A head has the derived numbers.
-pub record Same (h : Head) (d : Derived) : Type 0 where
-  pub total : h .total ≡ d .total
-  pub loaded : h .loaded ≡ d .loaded
-  pub stretch : h .stretch ≡ d .stretch
-  pub totals : h .totals ≡ d .totals
 
 -- A lent table has the derived numbers of the plan, which keeps rule 10.
 pub record Agrees (p : Plan) (turns tails stretches : List ℕ) (h : Head) : Type 0 where

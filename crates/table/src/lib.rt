@@ -1,19 +1,19 @@
 // The table of a plan: made from a text, and checked.
 ghost use mathlib.Core.Path.{_≡_};
-ghost use mathlib.Core.List.{List};
-ghost use Prim.Native.Nat.{ℕ, _+_, _*_, _≤_, _<_};
-ghost use lib.ListN.{length, getD, take};
+ghost use Prim.Native.Nat.{_*_, _≤_, _<_};
+ghost use lib.ListN.{length, take};
 ghost use lib.Seq.{sets};
 ghost use Rattle.model.specs.Plan.{Plan};
 ghost use Rattle.model.specs.Acceptance.{sizes};
 ghost use Rattle.rows.specs.Answers.{Says};
 ghost use Rattle.structure.specs.Plans.{Structured};
-ghost use Rattle.table.specs.Table.{Table, zeros, table-at, good};
+ghost use Rattle.table.specs.Table.{zeros, table-at, good};
 ghost use Rattle.reader.specs.Machine.{Outcome, refused};
 ghost use Rattle.table.specs.Reading.{after-lines, verdict, verdict-of, stored};
-ghost use Rattle.table.specs.Deriving.{Ranged, Wide, Derives, Same, Agrees, Came, Filled, headed};
+ghost use Rattle.table.specs.Deriving.{Ranged, Wide, Derives, Agrees, Came, Filled, headed};
 use columns::derive;
 use columns::measure;
+use columns::tails_agree;
 use reader::Answer;
 use reader::Raw;
 use reader::read_raw;
@@ -76,9 +76,6 @@ const SWITCH: u64 = 1048576;
 
 // The most leaves.
 const LEAVES: usize = 512;
-
-// The most functions.
-const FUNCTIONS: usize = 16;
 
 // The numbers of a record.
 const STRIDE: usize = 8;
@@ -169,24 +166,6 @@ fn same(lent: &[u64], derived: &[u64], n: usize) -> bool
     true
 }
 
-// Whether the head has the derived numbers.
-fn same_head(head: Head, d: Derived) -> bool
-    ensures { λ r. ⌜ Says r (Same head d) ⌝ }
-{
-    let lent = head.totals;
-    let totals = d.totals;
-    if head.total != d.total {
-        return false;
-    }
-    if head.loaded != d.loaded {
-        return false;
-    }
-    if head.stretch != d.stretch {
-        return false;
-    }
-    same(&lent, &totals, FUNCTIONS)
-}
-
 // Whether deadline and switch cost are in range, and a lent row of so many numbers holds the leaves.
 fn ranged(head: Head, room: usize) -> bool
     ensures { λ r. ⌜ Says r (Ranged room head) ⌝ }
@@ -222,30 +201,38 @@ fn store(numbers: &[u64], lent: &mut [u64])
     }
 }
 
-// Whether the lent columns and the head have the derived numbers of a row that keeps rules 3 to 9.
+// Whether the lent columns and the head have the derived numbers of a row that keeps rules 3 to 9. Turns, tails and isolated totals are checked where
+// they stand; what max-load costs come to is derived anew.
 fn agrees(row: &[u64], turns: &[u64], tails: &[u64], stretches: &[u64], head: Head) -> bool
     requires { ⌜ Structured (now row) (head .bounds) (head .functions) × (head .leaves ≤ 512) ⌝ }
     ensures { λ r. ⌜ ((p : Plan) (q : Structured (now (row .entry)) (head .bounds) (head .functions)) → p .functions ≡ q .plan .functions
         → sizes (p .functions) ≡ head .leaves → Says r (Agrees p (now (turns .entry)) (now (tails .entry)) (now (stretches .entry)) head)) ⌝ }
 {
-    let mut t: [u64; 512] = [0; 512];
-    let mut u: [u64; 512] = [0; 512];
-    let mut v: [u64; 512] = [0; 512];
+    let n = head.functions;
     let bounds = head.bounds;
-    let d = derive_all(row, bounds, head.functions, &mut t, &mut u, &mut v);
-    if !d.fits {
+    let totals = head.totals;
+    let starts = indexes(bounds);
+    if !tails_agree(row, &starts, n, &totals, turns, tails) {
         return false;
     }
-    if !same_head(head, d) {
+    let mut burden: [u64; 512] = [0; 512];
+    let loads = measure(row, &starts, n, true, &mut burden);
+    let loaded = loads[n - 1];
+    if LIMIT < loaded {
         return false;
     }
-    if !same(turns, &t, head.leaves) {
+    let mut derived: [u64; 512] = [0; 512];
+    let stretch = columns::stretches(row, &starts, n, &loads, &burden, &mut derived);
+    if head.total != totals[n - 1] {
         return false;
     }
-    if !same(tails, &u, head.leaves) {
+    if head.loaded != loaded {
         return false;
     }
-    same(stretches, &v, head.leaves)
+    if head.stretch != stretch {
+        return false;
+    }
+    same(stretches, &derived, head.leaves)
 }
 
 // Whether the first records of these lists, as many as the head says, are with the head the table of an accepted plan.

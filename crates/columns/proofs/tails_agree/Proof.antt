@@ -1,0 +1,178 @@
+-- `columns::tails_agree` meets its contract. Assumes nothing.
+use borrow.Author.Needs.{needs}
+use borrow.Author.Tests.{not-true, not-false}
+use native.Mathlib.Omega.{arith}
+use mathlib.Core.Path.{refl}
+use Prim.Native.Nat.{ℕ, _-_, _≤_, _<_}
+use Rattle.rows.proofs.Answers.{said-true, said-false}
+use Rattle.columns.specs.Whole.{Funs}
+use Rattle.columns.proofs.Functions.{fun-laid, fun-order}
+use Rattle.columns.proofs.Fitting.{begins, Right, right-on, lent-right, right-lent}
+use Rattle.columns.proofs.tails_agree.Statement.{statement}
+use Rattle.columns.proofs.tails_agree.Tie as tie
+
+abbrev Inv-loop : tie.InvT-loop
+Inv-loop row starts n sums turn tail f₀ f = (f ≤ n) × ((v : Funs row starts n) (g : ℕ) → g < f → Right sums turn tail starts (v .lines) g)
+
+abbrev μ-loop : tie.MeasureT-loop
+μ-loop row starts n sums turn tail f₀ f = n - f
+
+mul-if1 : tie.Need-mul-if1 Inv-loop μ-loop
+mul-if1 c = search needs
+
+shared-slice-read-if1 : tie.Need-shared-slice-read-if1 Inv-loop μ-loop
+shared-slice-read-if1 c = search needs
+
+returns : tie.Need-returns Inv-loop μ-loop
+returns c = λ v l. omega (arith, l .turns-long, c .if1 .taken)
+
+mul-if2 : tie.Need-mul-if2 Inv-loop μ-loop
+mul-if2 c = search needs
+
+shared-slice-read-if2 : tie.Need-shared-slice-read-if2 Inv-loop μ-loop
+shared-slice-read-if2 c = search needs
+
+returns-2 : tie.Need-returns-2 Inv-loop μ-loop
+returns-2 c = λ v l. omega (arith, l .tails-long, c .if2 .taken)
+
+settled-requires : tie.Need-settled-requires Inv-loop μ-loop
+settled-requires c κs = c .before .before .before .before .before .before .before .before .pre .0 .1
+
+returns-3 : tie.Need-returns-3 Inv-loop μ-loop
+returns-3 c = λ v l. said-false (c .before .settled .result) (not-true _ (c .if3 .taken)) (c .before .settled .ensures) (l .behind)
+
+loop-holds : tie.Need-loop-holds Inv-loop μ-loop
+loop-holds c = (omega arith, λ v g l. absurd (omega arith))
+
+mul-from : tie.Need-mul-from Inv-loop μ-loop
+mul-from c = search needs
+
+shared-slice-read-from : tie.Need-shared-slice-read-from Inv-loop μ-loop
+shared-slice-read-from c = search needs
+
+add-to : tie.Need-add-to Inv-loop μ-loop
+add-to c = search needs
+
+mul-to : tie.Need-mul-to Inv-loop μ-loop
+mul-to c = search needs
+
+shared-slice-read-to : tie.Need-shared-slice-read-to Inv-loop μ-loop
+shared-slice-read-to c = search needs
+
+block-fits-requires : tie.Need-block-fits-requires Inv-loop μ-loop
+block-fits-requires c κs =
+    let s = c .before .before .before .before .before .before .before .before .before .before .before .before .before .before in
+    let ts = s .args .sums .now in
+    let o = s .args .turn .now in
+    let u = s .args .tail .now in
+    let starts = s .args .starts .now in
+    let f = c .before .before .before .loop .f in
+    let lt = c .before .before .loop-test .taken in
+    let v = s .pre .1 in
+    let e = fun-order v f (s .args .n) lt (omega arith) in
+    ((v .inside f lt .0, omega (arith, e, c .before .before .before .before .before .before .before .before .if1 .left), omega (arith, e, c .before .before .before .before .before .before .if2 .left), omega arith), fun-laid v f lt)
+
+returns-4 : tie.Need-returns-4 Inv-loop μ-loop
+returns-4 c =
+    let s = c .before .before .before .before .before .before .before .before .before .before .before .before .before .before .before .before in
+    let ts = s .args .sums .now in
+    let o = s .args .turn .now in
+    let u = s .args .tail .now in
+    let starts = s .args .starts .now in
+    let f = c .before .before .before .before .before .loop .f in
+    let lt = c .before .before .before .before .loop-test .taken in
+    λ v l. said-false (c .before .block-fits .result) (not-true _ (c .if4 .taken)) (c .before .block-fits .ensures (fun-laid v f lt)) (lent-right ts o u starts (v .lines) l f lt .0)
+
+mul-if5 : tie.Need-mul-if5 Inv-loop μ-loop
+mul-if5 c = search needs
+
+element-copy-out-if5 : tie.Need-element-copy-out-if5 Inv-loop μ-loop
+element-copy-out-if5 c = search needs
+
+start-requires : tie.Need-start-requires Inv-loop μ-loop
+start-requires c κs =
+    let s = c .before .before .before .before .before .before .before .before .before .before .before .before .before .before .before .before .before in
+    let ts = s .args .sums .now in
+    let o = s .args .turn .now in
+    let u = s .args .tail .now in
+    let starts = s .args .starts .now in
+    let f = c .before .before .before .before .before .before .loop .f in
+    let lt = c .before .before .before .before .before .loop-test .taken in
+    let v = s .pre .1 in
+    let e = fun-order v f (s .args .n) lt (omega arith) in
+    omega (arith, e, c .before .before .before .before .before .before .before .before .before .if2 .left)
+
+returns-5 : tie.Need-returns-5 Inv-loop μ-loop
+returns-5 c =
+    let s = c .before .before .before .before .before .before .before .before .before .before .before .before .before .before .before .before .before .before .before in
+    let ts = s .args .sums .now in
+    let o = s .args .turn .now in
+    let u = s .args .tail .now in
+    let starts = s .args .starts .now in
+    let f = c .before .before .before .before .before .before .before .before .loop .f in
+    let lt = c .before .before .before .before .before .before .before .loop-test .taken in
+    λ v l. let fit = said-true (c .before .before .before .before .block-fits .result) (not-false _ (c .before .before .before .if4 .left)) (c .before .before .before .before .block-fits .ensures (fun-laid v f lt)) in
+    let y = begins ts o u (c .before .start .ensures) (fun-laid v f lt) fit in
+    c .if5 .taken (omega (arith, y, lent-right ts o u starts (v .lines) l f lt .1))
+
+add-f : tie.Need-add-f Inv-loop μ-loop
+add-f c = search needs
+
+loop-less : tie.Need-loop-less Inv-loop μ-loop
+loop-less c = search needs
+
+loop-again : tie.Need-loop-again Inv-loop μ-loop
+loop-again c =
+    let s = c .before .before .before .before .before .before .before .before .before .before .before .before .before .before .before .before .before .before .before in
+    let ts = s .args .sums .now in
+    let o = s .args .turn .now in
+    let u = s .args .tail .now in
+    let starts = s .args .starts .now in
+    let f = c .before .before .before .before .before .before .before .before .loop .f in
+    let lt = c .before .before .before .before .before .before .before .loop-test .taken in (
+      omega arith,
+      λ v. let fit = said-true (c .before .before .before .before .block-fits .result) (not-false _ (c .before .before .before .if4 .left)) (c .before .before .before .before .block-fits .ensures (fun-laid v f lt)) in
+          let y = begins ts o u (c .before .start .ensures) (fun-laid v f lt) fit in
+          right-on ts o u starts (v .lines) (c .before .before .before .before .before .before .before .before .loop .inv .1 v) (fit, omega (arith, y, c .if5 .left)) refl,
+    )
+
+returns-6 : tie.Need-returns-6 Inv-loop μ-loop
+returns-6 c =
+    let s = c .before .before .before .before .before .before .before .before .before .before .before .before in
+    let ts = s .args .sums .now in
+    let o = s .args .turn .now in
+    let u = s .args .tail .now in
+    let starts = s .args .starts .now in
+    λ v. right-lent ts o u starts (v .lines) (λ g l. c .before .loop .inv .1 v g (omega (arith, l, c .loop-test .left)))
+    (said-true (c .before .before .before .settled .result) (not-false _ (c .before .before .if3 .left)) (c .before .before .before .settled .ensures)) (omega (arith, c .before .before .before .before .before .before .if1 .left)) (omega (arith, c .before .before .before .before .if2 .left))
+
+pub tails-agree-spec : {M : Type 1} → statement M
+tails-agree-spec =
+    tie.close
+    (tie.spec
+    Inv-loop
+    μ-loop
+    mul-if1
+    shared-slice-read-if1
+    returns
+    mul-if2
+    shared-slice-read-if2
+    returns-2
+    settled-requires
+    returns-3
+    loop-holds
+    mul-from
+    shared-slice-read-from
+    add-to
+    mul-to
+    shared-slice-read-to
+    block-fits-requires
+    returns-4
+    mul-if5
+    element-copy-out-if5
+    start-requires
+    returns-5
+    add-f
+    loop-less
+    loop-again
+    returns-6)
