@@ -1,4 +1,4 @@
--- The array that `gather` leaves holds the table in the lent row.
+-- The array that `gather` leaves holds the table of the first leaves, and that is the table in the lent row.
 -- Assumes nothing.
 use mathlib.Core.List.{List, [], _∷_, _++_, map, append-assoc, map-append}
 use mathlib.Core.Path.{_≡_, refl, ap, sym, _∙_}
@@ -6,30 +6,30 @@ use Prim.Native.Nat.{ℕ, zero, suc, _+_, _-_, _*_, _≤_, _<_, min}
 use native.Mathlib.Nat.{le-of-lt}
 use native.Mathlib.Omega.{arith}
 use native.Mathlib.Decide.{decLt}
-use lib.ListN.{length, getD, set, take, drop, length-set, length-append, length-drop, replicate, length-replicate}
-use lib.Seq.{sets, sets-eq, length-sets, take-suc, take-at, take-length, take-all, length-take-le, take-set-le, drop-set-lt, drop-set-add, take-suc-set}
+use lib.ListN.{length, getD, set, take, drop, length-set, length-append, length-drop, length-take, length-map, take-append-drop}
+use lib.Seq.{sets, sets-eq, length-sets, take-suc, take-at, take-length, take-all, take-take, length-take-le, take-set-le, drop-set-lt, drop-set-add, take-suc-set}
 use Rattle.model.specs.Calls.{Call}
 use Rattle.table.specs.declared.Head.{Head}
 use Rattle.table.specs.Table.{Table, table-at}
-use Rattle.control.specs.declared.State.{State}
+use Rattle.control.specs.declared.State as control
 use Rattle.control.specs.Answers.{reply-of}
 use Rattle.control.specs.Calls.{call-on}
 use Rattle.rolsipay.specs.declared.Leaf.{Leaf}
-use Rattle.rolsipay.specs.Lent.{no-leaf, fields, numbers, table-in}
-use Rattle.rolsipay.specs.Flat.{with-record, with-leaf, gathered}
-use Rattle.rolsipay.specs.declared.State as lent
+use Rattle.rolsipay.specs.declared.State.{State}
 use Rattle.rolsipay.specs.declared.Moved.{Moved}
+use Rattle.rolsipay.specs.Lent.{no-leaf, fields, numbers, table-with}
+use Rattle.rolsipay.specs.Flat.{with-record, with-leaf, gathered}
 use Rattle.rolsipay.specs.Calling.{call-with, called, table-on}
 use Rattle.rolsipay.proofs.Steps.{length-gathered}
 
 -- A call on parts of the array is one on its table.
-pub same-call : (xs : List ℕ) (n : ℕ) (h : Head) (s t : State) (c : Call) → t ≡ s
-    → reply-of (call-on (table-at (take (n * 8) xs) (take (4096 + n - 4096) (drop 4096 xs)) (take (4608 + n - 4608) (drop 4608 xs)) (take (5120 + n - 5120) (drop 5120 xs)) h) t c)
-    ≡ reply-of (call-on (table-on xs n h) s c)
-same-call xs n h s t c e =
-    let k : 4096 + n - 4096 ≡ n = omega arith in
-    let l : 4608 + n - 4608 ≡ n = omega arith in
-    let m : 5120 + n - 5120 ≡ n = omega arith in
+pub same-call : (room : ℕ) (xs : List ℕ) (n : ℕ) (h : Head) (s t : control.State) (c : Call) → t ≡ s
+    → reply-of (call-on (table-at (take (n * 8) xs) (take (room * 8 + n - room * 8) (drop (room * 8) xs)) (take (room * 8 + room + n - (room * 8 + room)) (drop (room * 8 + room) xs))
+    (take (room * 8 + room + room + n - (room * 8 + room + room)) (drop (room * 8 + room + room) xs)) h) t c) ≡ reply-of (call-on (table-on room xs n h) s c)
+same-call room xs n h s t c e =
+    let k : room * 8 + n - room * 8 ≡ n = omega arith in
+    let l : room * 8 + room + n - (room * 8 + room) ≡ n = omega arith in
+    let m : room * 8 + room + room + n - (room * 8 + room + room) ≡ n = omega arith in
     rw (k, l, m, e) refl
 
 -- Writing a raw record is storing its eight numbers.
@@ -45,22 +45,21 @@ record-stored xs k l =
     rw (e₁, e₂, e₃, e₄, e₅, e₆, e₇) refl
 
 -- One leaf more in the raw row.
-rows-next : (xs : List ℕ) (k : ℕ) (l : Leaf) → k < 512 → length xs ≡ 5632 → take (suc k * 8) (with-leaf xs k l) ≡ take (k * 8) xs ++ fields l
-rows-next xs k l h w =
+rows-next : (room : ℕ) (xs : List ℕ) (k : ℕ) (l : Leaf) → k < room → length xs ≡ room * 11 → take (suc k * 8) (with-leaf room xs k l) ≡ take (k * 8) xs ++ fields l
+rows-next room xs k l h w =
     let r : List ℕ = with-record xs (k * 8) l in
-    let a : List ℕ = set r (4096 + k) (l .turn) in
-    let b : List ℕ = set a (4608 + k) (l .tail) in
-    let n : suc k * 8 ≡ k * 8 + 8 = omega arith in
+    let a : List ℕ = set r (room * 8 + k) (l .turn) in
+    let b : List ℕ = set a (room * 8 + room + k) (l .tail) in
     let front : List ℕ = take (k * 8) xs ++ fields l in
     let size : length front ≡ suc k * 8 = omega (arith, length-append (take (k * 8) xs) (fields l), length-take-le (k * 8) xs (omega arith)) in
-    take-set-le (suc k * 8) b (5120 + k) (l .stretch) (omega arith) ∙ (take-set-le (suc k * 8) a (4608 + k) (l .tail) (omega arith) ∙
-    (take-set-le (suc k * 8) r (4096 + k) (l .turn) (omega arith) ∙
+    take-set-le (suc k * 8) b (room * 8 + room + room + k) (l .stretch) (omega arith) ∙ (take-set-le (suc k * 8) a (room * 8 + room + k) (l .tail) (omega arith) ∙
+    (take-set-le (suc k * 8) r (room * 8 + k) (l .turn) (omega arith) ∙
     (ap (λ (z : List ℕ). take (suc k * 8) z) (record-stored xs (k * 8) l ∙ sets-eq (fields l) xs (k * 8) (omega arith)) ∙
     take-at front (drop (k * 8 + 8) xs) (suc k * 8) size)))
 
 -- One leaf more in each column.
-record-apart : (xs : List ℕ) (k : ℕ) (l : Leaf) (n : ℕ) → k < 512 → 4096 ≤ n → drop n (with-record xs (k * 8) l) ≡ drop n xs
-record-apart xs k l n h m = ap (λ (z : List ℕ). drop n z) (record-stored xs (k * 8) l) ∙ apart (fields l) xs (k * 8) (omega arith)
+record-apart : (xs : List ℕ) (k : ℕ) (l : Leaf) (n : ℕ) → k * 8 + 8 ≤ n → drop n (with-record xs (k * 8) l) ≡ drop n xs
+record-apart xs k l n h = ap (λ (z : List ℕ). drop n z) (record-stored xs (k * 8) l) ∙ apart (fields l) xs (k * 8) (omega arith)
   where
     apart : (ys zs : List ℕ) (j : ℕ) → j + length ys ≤ n → drop n (sets zs j ys) ≡ drop n zs
     apart [] zs j r = refl
@@ -75,83 +74,125 @@ beyond n k i l a h =
 here : (n k : ℕ) (l : List ℕ) (a : ℕ) → n + k < length l → take (suc k) (drop n (set l (n + k) a)) ≡ take k (drop n l) ++ (a ∷ [])
 here n k l a h = ap (λ (u : List ℕ). take (suc k) u) (drop-set-add n l k a) ∙ take-suc-set (drop n l) k a (omega (arith, length-drop n l))
 
-module _ (xs : List ℕ) (k : ℕ) (l : Leaf) (h : k < 512) (w : length xs ≡ 5632) where
+module _ (room : ℕ) (xs : List ℕ) (k : ℕ) (l : Leaf) (h : k < room) (w : length xs ≡ room * 11) where
+  -- Where the columns begin.
+  abbrev turns : ℕ
+  turns = room * 8
+
+  abbrev tails : ℕ
+  tails = room * 8 + room
+
+  abbrev stretches : ℕ
+  stretches = room * 8 + room + room
+
   abbrev raws : List ℕ
   raws = with-record xs (k * 8) l
 
   abbrev with-turn : List ℕ
-  with-turn = set raws (4096 + k) (l .turn)
+  with-turn = set raws (turns + k) (l .turn)
 
   abbrev with-tail : List ℕ
-  with-tail = set with-turn (4608 + k) (l .tail)
+  with-tail = set with-turn (tails + k) (l .tail)
 
-  raws-wide : length raws ≡ 5632
+  raws-wide : length raws ≡ room * 11
   raws-wide = ap length (record-stored xs (k * 8) l) ∙ (length-sets xs (k * 8) (fields l) ∙ w)
 
-  turns-next : take (suc k) (drop 4096 (with-leaf xs k l)) ≡ take k (drop 4096 xs) ++ (l .turn ∷ [])
+  turns-next : take (suc k) (drop turns (with-leaf room xs k l)) ≡ take k (drop turns xs) ++ (l .turn ∷ [])
   turns-next =
-      beyond 4096 k (5120 + k) with-tail (l .stretch) (omega arith) ∙ (beyond 4096 k (4608 + k) with-turn (l .tail) (omega arith) ∙
-      (here 4096 k raws (l .turn) (omega (arith, raws-wide)) ∙ ap (λ (u : List ℕ). take k u ++ (l .turn ∷ [])) (record-apart xs k l 4096 h (omega arith))))
+      beyond turns k (stretches + k) with-tail (l .stretch) (omega arith) ∙ (beyond turns k (tails + k) with-turn (l .tail) (omega arith) ∙
+      (here turns k raws (l .turn) (omega (arith, raws-wide)) ∙ ap (λ (u : List ℕ). take k u ++ (l .turn ∷ [])) (record-apart xs k l turns (omega arith))))
 
-  tails-next : take (suc k) (drop 4608 (with-leaf xs k l)) ≡ take k (drop 4608 xs) ++ (l .tail ∷ [])
+  tails-next : take (suc k) (drop tails (with-leaf room xs k l)) ≡ take k (drop tails xs) ++ (l .tail ∷ [])
   tails-next =
-      beyond 4608 k (5120 + k) with-tail (l .stretch) (omega arith) ∙
-      (here 4608 k with-turn (l .tail) (omega (arith, raws-wide, length-set raws (4096 + k) (l .turn))) ∙
-      ap (λ (u : List ℕ). take k u ++ (l .tail ∷ [])) (drop-set-lt 4608 raws (4096 + k) (l .turn) (omega arith) ∙ record-apart xs k l 4608 h (omega arith)))
+      beyond tails k (stretches + k) with-tail (l .stretch) (omega arith) ∙ (here tails k with-turn (l .tail) (omega (arith, raws-wide, length-set raws (turns + k) (l .turn))) ∙
+      ap (λ (u : List ℕ). take k u ++ (l .tail ∷ [])) (drop-set-lt tails raws (turns + k) (l .turn) (omega arith) ∙ record-apart xs k l tails (omega arith)))
 
-  stretches-next : take (suc k) (drop 5120 (with-leaf xs k l)) ≡ take k (drop 5120 xs) ++ (l .stretch ∷ [])
+  stretches-next : take (suc k) (drop stretches (with-leaf room xs k l)) ≡ take k (drop stretches xs) ++ (l .stretch ∷ [])
   stretches-next =
-      here 5120 k with-tail (l .stretch) (omega (arith, raws-wide, length-set raws (4096 + k) (l .turn), length-set with-turn (4608 + k) (l .tail))) ∙
-      ap (λ (u : List ℕ). take k u ++ (l .stretch ∷ [])) (drop-set-lt 5120 with-turn (4608 + k) (l .tail) (omega arith) ∙
-      (drop-set-lt 5120 raws (4096 + k) (l .turn) (omega arith) ∙ record-apart xs k l 5120 h (omega arith)))
+      here stretches k with-tail (l .stretch) (omega (arith, raws-wide, length-set raws (turns + k) (l .turn), length-set with-turn (tails + k) (l .tail))) ∙
+      ap (λ (u : List ℕ). take k u ++ (l .stretch ∷ [])) (drop-set-lt stretches with-turn (tails + k) (l .tail) (omega arith) ∙
+      (drop-set-lt stretches raws (turns + k) (l .turn) (omega arith) ∙ record-apart xs k l stretches (omega arith)))
 
--- The raw row of leaves with one more behind.
-numbers-snoc : (us : List Leaf) (l : Leaf) → numbers (us ++ (l ∷ [])) ≡ numbers us ++ fields l
-numbers-snoc [] l = refl
-numbers-snoc (u ∷ us) l = ap (λ (r : List ℕ). fields u ++ r) (numbers-snoc us l) ∙ sym (append-assoc (fields u) (numbers us) (fields l))
+-- The raw row of leaves and more leaves, and its length.
+pub numbers-append : (us vs : List Leaf) → numbers (us ++ vs) ≡ numbers us ++ numbers vs
+numbers-append [] vs = refl
+numbers-append (u ∷ us) vs = ap (λ (r : List ℕ). fields u ++ r) (numbers-append us vs) ∙ sym (append-assoc (fields u) (numbers us) (numbers vs))
 
--- The raw row after n leaves.
-rows-are : (ls : List Leaf) (k : ℕ) (xs : List ℕ) → k ≤ length ls → k ≤ 512 → length xs ≡ 5632 → take (k * 8) (gathered ls k xs) ≡ numbers (take k ls)
-rows-are ls zero xs h r w = refl
-rows-are ls (suc k) xs h r w =
-    let l : Leaf = getD ls k no-leaf in
-    rows-next (gathered ls k xs) k l (omega arith) (length-gathered ls k xs ∙ w) ∙ (ap (λ (u : List ℕ). u ++ fields l) (rows-are ls k xs (le-of-lt h) (le-of-lt r) w) ∙
-    (sym (numbers-snoc (take k ls) l) ∙ ap (λ (u : List Leaf). numbers u) (sym (take-suc ls k no-leaf h))))
+length-numbers : (us : List Leaf) → length (numbers us) ≡ length us * 8
+length-numbers [] = refl
+length-numbers (u ∷ us) = omega (arith, length-numbers us, length-append (fields u) (numbers us))
 
--- A column after n leaves, given what one leaf more does to it.
-column-is : (base : ℕ) (part : Leaf → ℕ) → ((xs : List ℕ) (k : ℕ) (l : Leaf) → k < 512 → length xs ≡ 5632 → take (suc k) (drop base (with-leaf xs k l)) ≡ take k (drop base xs) ++ (part l ∷ []))
-    → (ls : List Leaf) (k : ℕ) (xs : List ℕ) → k ≤ length ls → k ≤ 512 → length xs ≡ 5632 → take k (drop base (gathered ls k xs)) ≡ map part (take k ls)
-column-is base part next ls zero xs h r w = refl
-column-is base part next ls (suc k) xs h r w =
-    let l : Leaf = getD ls k no-leaf in
-    next (gathered ls k xs) k l (omega arith) (length-gathered ls k xs ∙ w) ∙ (ap (λ (u : List ℕ). u ++ (part l ∷ [])) (column-is base part next ls k xs (le-of-lt h) (le-of-lt r) w) ∙
-    (sym (map-append part (take k ls) (l ∷ [])) ∙ ap (λ (u : List Leaf). map part u) (sym (take-suc ls k no-leaf h))))
+module _ (room : ℕ) (ls : List Leaf) where
+  -- The raw row after n leaves.
+  rows-are : (k : ℕ) (xs : List ℕ) → k ≤ length ls → k ≤ room → length xs ≡ room * 11 → take (k * 8) (gathered room ls k xs) ≡ numbers (take k ls)
+  rows-are zero xs h r w = refl
+  rows-are (suc k) xs h r w =
+      let l : Leaf = getD ls k no-leaf in
+      rows-next room (gathered room ls k xs) k l (omega arith) (length-gathered room ls k xs ∙ w) ∙ (ap (λ (u : List ℕ). u ++ fields l) (rows-are k xs (le-of-lt h) (le-of-lt r) w) ∙
+      (sym (numbers-append (take k ls) (l ∷ [])) ∙ ap (λ (u : List Leaf). numbers u) (sym (take-suc ls k no-leaf h))))
 
--- The leaves that are used are the first 512.
-first-used : (ls : List Leaf) → take (min (length ls) 512) ls ≡ take 512 ls
-first-used ls =
-    elim (decLt (length ls) 512) [
-      | yes h ↦ let z : min (length ls) 512 ≡ length ls = omega arith in rw z (take-length ls ∙ sym (take-all 512 ls (omega arith)))
-      | no h ↦ let z : min (length ls) 512 ≡ 512 = omega arith in rw z refl
+  -- A column after n leaves, given what one leaf more does to it.
+  column-is : (base : ℕ) (part : Leaf → ℕ) → ((xs : List ℕ) (k : ℕ) (l : Leaf) → k < room → length xs ≡ room * 11 → take (suc k) (drop base (with-leaf room xs k l)) ≡ take k (drop base xs) ++ (part l ∷ []))
+      → (k : ℕ) (xs : List ℕ) → k ≤ length ls → k ≤ room → length xs ≡ room * 11 → take k (drop base (gathered room ls k xs)) ≡ map part (take k ls)
+  column-is base part next zero xs h r w = refl
+  column-is base part next (suc k) xs h r w =
+      let l : Leaf = getD ls k no-leaf in
+      next (gathered room ls k xs) k l (omega arith) (length-gathered room ls k xs ∙ w) ∙ (ap (λ (u : List ℕ). u ++ (part l ∷ [])) (column-is base part next k xs (le-of-lt h) (le-of-lt r) w) ∙
+      (sym (map-append part (take k ls) (l ∷ [])) ∙ ap (λ (u : List Leaf). map part u) (sym (take-suc ls k no-leaf h))))
+
+  -- The table in the array is the one of the first n leaves.
+  pub table-gathered : (n : ℕ) (xs : List ℕ) (h : Head) → n ≤ length ls → n ≤ room → length xs ≡ room * 11 → table-on room (gathered room ls n xs) n h ≡ table-with (take n ls) h
+  table-gathered n xs h few small w =
+      let a = rows-are n xs few small w in
+      let b = column-is (room * 8) (λ (l : Leaf). l .turn) (turns-next room) n xs few small w in
+      let c = column-is (room * 8 + room) (λ (l : Leaf). l .tail) (tails-next room) n xs few small w in
+      let d = column-is (room * 8 + room + room) (λ (l : Leaf). l .stretch) (stretches-next room) n xs few small w in
+      λ i. table-at (a i) (b i) (c i) (d i) h
+
+-- The table of the first n of some leaves, where n is all of them or as many as the head says, is the table of them all.
+pub table-of-first : (ls : List Leaf) (h : Head) (n : ℕ) → n ≡ min (length ls) (h .leaves) → table-with (take n ls) h ≡ table-with ls h
+table-of-first ls h n e =
+    elim (decLt (h .leaves) (length ls)) [
+      | yes l ↦ let z : n ≡ h .leaves = omega arith in rw z (cut (omega arith))
+      | no l ↦ let z : n ≡ length ls = omega arith in rw z (ap (λ (u : List Leaf). table-with u h) (take-length ls))
     ]
+  where
+    m : ℕ
+    m = h .leaves
 
--- The table in the array is the one in the lent row.
-pub table-gathered : (ls : List Leaf) (xs : List ℕ) (h : Head) → length xs ≡ 5632 → table-on (gathered ls (min (length ls) 512) xs) (min (length ls) 512) h ≡ table-in ls h
-table-gathered ls xs h w =
-    let m : ℕ = min (length ls) 512 in
-    let few : m ≤ length ls = omega arith in
-    let small : m ≤ 512 = omega arith in
-    let e = first-used ls in
-    let a = rows-are ls m xs few small w ∙ ap (λ (u : List Leaf). numbers u) e in
-    let b = column-is 4096 (λ (l : Leaf). l .turn) turns-next ls m xs few small w ∙ ap (λ (u : List Leaf). map (λ (l : Leaf). l .turn) u) e in
-    let c = column-is 4608 (λ (l : Leaf). l .tail) tails-next ls m xs few small w ∙ ap (λ (u : List Leaf). map (λ (l : Leaf). l .tail) u) e in
-    let d = column-is 5120 (λ (l : Leaf). l .stretch) stretches-next ls m xs few small w ∙ ap (λ (u : List Leaf). map (λ (l : Leaf). l .stretch) u) e in
-    λ i. table-at (a i) (b i) (c i) (d i) h
+    us : List Leaf
+    us = take m ls
 
--- What a call on the array gives is the delivered call.
-pub called-is : (ls : List Leaf) (h : Head) (s : lent.State) (c : Call) (xs : List ℕ) (m : ℕ) (t : Moved) → m ≡ min (length ls) 512 → xs ≡ gathered ls m (replicate 5632 0)
-    → t ≡ call-with (table-on xs m h) s c → t ≡ called ls h s c
+    vs : List Leaf
+    vs = drop m ls
+
+    apart : us ++ vs ≡ ls
+    apart = take-append-drop m ls
+
+    column : (f : Leaf → ℕ) → m ≤ length ls → take m (map f us) ≡ take m (map f ls)
+    column f r =
+        let w : length (map f us) ≡ m = length-map us f ∙ length-take-le m ls r in
+        take-all m (map f us) (omega arith) ∙ (sym (take-at (map f us) (map f vs) m w) ∙ ap (λ (u : List ℕ). take m u) (sym (map-append f us vs) ∙ ap (map f) apart))
+
+    raw : m ≤ length ls → take (m * 8) (numbers us) ≡ take (m * 8) (numbers ls)
+    raw r =
+        let w : length (numbers us) ≡ m * 8 = omega (arith, length-numbers us, length-take-le m ls r) in
+        take-all (m * 8) (numbers us) (omega arith) ∙ (sym (take-at (numbers us) (numbers vs) (m * 8) w) ∙ ap (λ (u : List ℕ). take (m * 8) u) (sym (numbers-append us vs) ∙ ap numbers apart))
+
+    cut : m ≤ length ls → table-with us h ≡ table-with ls h
+    cut r =
+        λ i. record {
+          row = raw r i;
+          turns = column (λ (l : Leaf). l .turn) r i;
+          tails = column (λ (l : Leaf). l .tail) r i;
+          stretches = column (λ (l : Leaf). l .stretch) r i;
+          head = h;
+        }
+
+-- What a call on the leaves that are used gives is the delivered call.
+pub called-is : (ls : List Leaf) (h : Head) (s : State) (c : Call) (n : ℕ) (t : Moved) → n ≡ min (min (length ls) 512) (h .leaves) → t ≡ call-with (table-with (take n ls) h) s c → t ≡ called ls h s c
 unfolding called
-called-is ls h s c xs m t e f g =
-    g ∙ (ap (λ (u : List ℕ). call-with (table-on u m h) s c) f ∙ (ap (λ (k : ℕ). call-with (table-on (gathered ls k (replicate 5632 0)) k h) s c) e ∙
-    ap (λ (u : Table). call-with u s c) (table-gathered ls (replicate 5632 0) h (length-replicate {A = ℕ} 5632 0))))
+called-is ls h s c n t e g =
+    let few : n ≤ 512 = omega arith in
+    let z : n ≡ min (length (take 512 ls)) (h .leaves) = omega (arith, length-take 512 ls) in
+    g ∙ ap (λ (u : Table). call-with u s c) (ap (λ (u : List Leaf). table-with u h) (sym (take-take n 512 ls few)) ∙ table-of-first (take 512 ls) h n z)

@@ -1,5 +1,6 @@
 pub mod Steps
 pub mod Lending
+pub mod Local
 pub mod Stored
 pub mod Packing
 pub mod Spreading

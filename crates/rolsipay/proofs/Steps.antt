@@ -20,13 +20,13 @@ fails true f = absurd (f tt)
 fails false f = refl
 
 -- Writing a leaf's numbers keeps the length.
-pub length-with-leaf : (xs : List ℕ) (i : ℕ) (l : Leaf) → length (with-leaf xs i l) ≡ length xs
-length-with-leaf xs i l = simp length-set refl
+pub length-with-leaf : (room : ℕ) (xs : List ℕ) (i : ℕ) (l : Leaf) → length (with-leaf room xs i l) ≡ length xs
+length-with-leaf room xs i l = simp length-set refl
 
 -- So does writing those of the first leaves, and making the first leaves those of the numbers.
-pub length-gathered : (ls : List Leaf) (i : ℕ) (xs : List ℕ) → length (gathered ls i xs) ≡ length xs
-length-gathered ls zero xs = refl
-length-gathered ls (suc i) xs = length-with-leaf (gathered ls i xs) i (getD ls i no-leaf) ∙ length-gathered ls i xs
+pub length-gathered : (room : ℕ) (ls : List Leaf) (i : ℕ) (xs : List ℕ) → length (gathered room ls i xs) ≡ length xs
+length-gathered room ls zero xs = refl
+length-gathered room ls (suc i) xs = length-with-leaf room (gathered room ls i xs) i (getD ls i no-leaf) ∙ length-gathered room ls i xs
 
 pub length-spread : (xs : List ℕ) (i : ℕ) (ls : List Leaf) → length (spread-over xs i ls) ≡ length ls
 length-spread xs zero ls = refl

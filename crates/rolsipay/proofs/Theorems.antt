@@ -28,6 +28,7 @@ use Rattle.rolsipay.specs.Lent.{fields, numbers, table-with, table-in, l
 use Rattle.rolsipay.specs.Reading.{row-after}
 use Rattle.rolsipay.specs.Calling.{state-of, flag, lent, refusing, called}
 use Rattle.rolsipay.proofs.Spreading.{length-leaves}
+use Rattle.rolsipay.proofs.Gathering.{numbers-append}
 
 -- THE TABLE READ BACK
 
@@ -77,11 +78,6 @@ column-from t f col e i (suc n) h =
     let z : i + 1 ≡ suc i = omega arith in
     ap (λ (k : ℕ). k ∷ map f (leaves-from t (i + 1) n)) (e i) ∙ (ap (λ (r : List ℕ). getD col i 0 ∷ r) (column-from t f col e (i + 1) n (omega arith) ∙ ap (λ (k : ℕ). take n (drop k col)) z) ∙
     ap (λ (r : List ℕ). take (suc n) r) (sym (drop-cons col i 0 (omega arith))))
-
--- The raw row of leaves and more leaves.
-numbers-append : (us vs : List Leaf) → numbers (us ++ vs) ≡ numbers us ++ numbers vs
-numbers-append [] vs = refl
-numbers-append (u ∷ us) vs = ap (λ (r : List ℕ). fields u ++ r) (numbers-append us vs) ∙ sym (append-assoc (fields u) (numbers us) (numbers vs))
 
 -- A column's beginning.
 column-back : (p : Plan) (f : Leaf → ℕ) (col : List ℕ) → ((i : ℕ) → f (leaf-of (table-of p) i) ≡ getD col i 0) → length col ≡ sizes (p .functions) → (vs : List Leaf)

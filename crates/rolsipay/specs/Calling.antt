@@ -2,11 +2,11 @@
 -- Assumes nothing: these are definitions.
 use mathlib.Core.Bool.{Bool, true, false, not}
 use mathlib.Core.List.{List}
-use Prim.Native.Nat.{ℕ, _*_}
+use Prim.Native.Nat.{ℕ, _+_, _*_}
 use lib.Dec.{eqb}
 use lib.ListN.{take, drop}
 use Rattle.model.specs.Places.{pick}
-use Rattle.model.specs.Calls.{Call}
+use Rattle.model.specs.Calls.{Call, release, report, end}
 use Rattle.table.specs.declared.Head.{Head}
 use Rattle.table.specs.Table.{Table, table-at}
 use Rattle.control.specs.declared.State as control
@@ -69,6 +69,11 @@ call-with t s c = moved s (reply-of (call-on t (state-of s) c))
 unfoldable pub called : List Leaf → Head → State → Call → Moved
 called ls h s c = call-with (table-in ls h) s c
 
--- The table of the first n leaves in an array of all numbers.
-abbrev pub table-on : List ℕ → ℕ → Head → Table
-table-on xs n h = table-at (take (n * 8) xs) (take n (drop 4096 xs)) (take n (drop 4608 xs)) (take n (drop 5120 xs)) h
+-- The call of a number: 0 release, 1 report, else end.
+abbrev pub call-of : ℕ → ℕ → ℕ → Call
+call-of k point reading = pick (eqb k 0) release (pick (eqb k 1) (report point reading) (end reading))
+
+-- The table of the first n leaves in an array with room for so many: the raw row, then the columns.
+abbrev pub table-on : ℕ → List ℕ → ℕ → Head → Table
+table-on room xs n h =
+    table-at (take (n * 8) xs) (take n (drop (room * 8) xs)) (take n (drop (room * 8 + room) xs)) (take n (drop (room * 8 + room + room) xs)) h

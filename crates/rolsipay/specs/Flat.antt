@@ -1,4 +1,4 @@
--- The numbers of 512 leaves in one array: the raw row of eight numbers for each leaf, then the three derived columns.
+-- The numbers of leaves in one array: the raw row of eight numbers for each leaf it has room for, then the three derived columns.
 -- Assumes nothing: these are definitions.
 use mathlib.Core.List.{List}
 use Prim.Native.Nat.{ℕ, zero, suc, _+_, _*_}
@@ -13,10 +13,11 @@ with-half xs k l = set (set (set (set xs k (l .kind)) (k + 1) (l .point)) (k + 2
 abbrev pub with-record : List ℕ → ℕ → Leaf → List ℕ
 with-record xs k l = set (set (set (set (with-half xs k l) (k + 4) (l .detail)) (k + 5) (l .other)) (k + 6) (l .after)) (k + 7) (l .level)
 
-abbrev pub with-leaf : List ℕ → ℕ → Leaf → List ℕ
-with-leaf xs i l = set (set (set (with-record xs (i * 8) l) (4096 + i) (l .turn)) (4608 + i) (l .tail)) (5120 + i) (l .stretch)
+abbrev pub with-leaf : ℕ → List ℕ → ℕ → Leaf → List ℕ
+with-leaf room xs i l =
+    set (set (set (with-record xs (i * 8) l) (room * 8 + i) (l .turn)) (room * 8 + room + i) (l .tail)) (room * 8 + room + room + i) (l .stretch)
 
--- The leaf whose numbers stand at the place i.
+-- The leaf whose numbers stand at the place i, of 512.
 abbrev pub leaf-in : List ℕ → ℕ → Leaf
 leaf-in xs i =
     record {
@@ -34,9 +35,9 @@ leaf-in xs i =
     }
 
 -- The numbers once those of the first n leaves are written.
-abbrev pub gathered : List Leaf → ℕ → List ℕ → List ℕ
-gathered ls zero xs = xs
-gathered ls (suc i) xs = with-leaf (gathered ls i xs) i (getD ls i no-leaf)
+abbrev pub gathered : ℕ → List Leaf → ℕ → List ℕ → List ℕ
+gathered room ls zero xs = xs
+gathered room ls (suc i) xs = with-leaf room (gathered room ls i xs) i (getD ls i no-leaf)
 
 -- The leaves once the first n are those of the numbers.
 abbrev pub spread-over : List ℕ → ℕ → List Leaf → List Leaf

@@ -1,12 +1,16 @@
 // The delivered calls: the caller lends a row of leaf records, a head and a state.
 ghost use mathlib.Core.Path.{_≡_};
 ghost use Prim.Native.Nat.{_+_, _*_, _≤_, _<_, min};
-ghost use lib.ListN.{length};
+ghost use lib.ListN.{length, take};
 ghost use lib.Seq.{sets};
 ghost use Rattle.table.specs.Reading.{verdict, verdict-of};
 ghost use Rattle.rolsipay.specs.Flat.{with-leaf, leaf-in, gathered, spread-over};
 ghost use Rattle.model.specs.Calls.{release, report, end};
-ghost use Rattle.rolsipay.specs.Calling.{state-of, flag, lent, refusing, moved, call-with, called, table-on};
+ghost use Rattle.table.specs.Table.{table-at};
+ghost use Rattle.control.specs.Answers.{reply-of};
+ghost use Rattle.control.specs.Calls.{call-on};
+ghost use Rattle.rolsipay.specs.Lent.{table-with};
+ghost use Rattle.rolsipay.specs.Calling.{state-of, flag, lent, refusing, moved, call-with, called, call-of, table-on};
 ghost use Rattle.rolsipay.specs.Face.{ruling-of, accepted, reply-from};
 ghost use Rattle.rolsipay.specs.Reading.{filled, counted, Holds, row-after};
 use reader::Answer;
@@ -74,8 +78,10 @@ pub struct Reply {
     pub late: u64,
 }
 
-// The most leaves.
+// The most leaves, and the most for which a call takes its small array.
 const LEAVES: usize = 512;
+
+const FEW: usize = 64;
 
 // The numbers of a raw record, and where the columns begin in an array of all numbers.
 const STRIDE: usize = 8;
@@ -86,19 +92,30 @@ const TAILS: usize = 4608;
 
 const STRETCHES: usize = 5120;
 
-// Of a longer row only the first 512 are used.
-fn used(records: usize) -> usize
-    ensures { λ r. ⌜ r ≡ min records 512 ⌝ }
+// The less of two.
+fn least(a: usize, b: usize) -> usize
+    ensures { λ r. ⌜ r ≡ min a b ⌝ }
 {
-    if records < LEAVES { records } else { LEAVES }
+    if a < b { a } else { b }
 }
 
-// Writes the numbers of a leaf at its place.
-fn put(out: &mut [u64; 5632], i: usize, leaf: Leaf)
-    requires { ⌜ (i < 512) × (length (now out) ≡ 5632) ⌝ }
-    ensures { λ _. ⌜ now (out .exit) ≡ with-leaf (now (out .entry)) i leaf ⌝ }
+// How many leaves a call uses: as many as the head says, if the row has them, and of a longer row only the first 512.
+fn used(records: usize, head: Head) -> usize
+    ensures { λ r. ⌜ r ≡ min (min records 512) (head .leaves) ⌝ }
+{
+    let most = least(records, LEAVES);
+    least(most, head.leaves)
+}
+
+// Writes the numbers of a leaf at its place, in an array with room for so many leaves: the raw row, then the columns.
+fn put(out: &mut [u64], room: usize, i: usize, leaf: Leaf)
+    requires { ⌜ (i < room) × (room ≤ 512) × (length (now out) ≡ room * 11) ⌝ }
+    ensures { λ _. ⌜ now (out .exit) ≡ with-leaf room (now (out .entry)) i leaf ⌝ }
 {
     let k = i * STRIDE;
+    let turns = room * STRIDE;
+    let tails = turns + room;
+    let stretches = tails + room;
     out[k] = leaf.kind;
     out[k + 1] = leaf.point;
     out[k + 2] = leaf.isolated;
@@ -107,9 +124,9 @@ fn put(out: &mut [u64; 5632], i: usize, leaf: Leaf)
     out[k + 5] = leaf.other;
     out[k + 6] = leaf.after;
     out[k + 7] = leaf.level;
-    out[TURNS + i] = leaf.turn;
-    out[TAILS + i] = leaf.tail;
-    out[STRETCHES + i] = leaf.stretch;
+    out[turns + i] = leaf.turn;
+    out[tails + i] = leaf.tail;
+    out[stretches + i] = leaf.stretch;
 }
 
 // The leaf whose numbers stand at this place.
@@ -133,14 +150,14 @@ fn leaf_at(xs: &[u64; 5632], i: usize) -> Leaf
     }
 }
 
-// Writes the numbers of the first n leaves.
-fn gather(row: &[Leaf], n: usize, out: &mut [u64; 5632])
-    requires { ⌜ (n ≤ length (now row)) × (n ≤ 512) × (length (now out) ≡ 5632) ⌝ }
-    ensures { λ _. ⌜ now (out .exit) ≡ gathered (now (row .entry)) n (now (out .entry)) ⌝ }
+// Writes the numbers of the first n leaves, in an array with room for so many.
+fn gather(row: &[Leaf], out: &mut [u64], room: usize, n: usize)
+    requires { ⌜ (n ≤ length (now row)) × (n ≤ room) × (room ≤ 512) × (length (now out) ≡ room * 11) ⌝ }
+    ensures { λ _. ⌜ now (out .exit) ≡ gathered room (now (row .entry)) n (now (out .entry)) ⌝ }
 {
     let mut i = 0;
     while i < n {
-        put(out, i, row[i]);
+        put(out, room, i, row[i]);
         i += 1;
     }
 }
@@ -357,77 +374,130 @@ fn decided(word: u64, remaining: u64, margin: i64, late: bool) -> Reply
     }
 }
 
-// Release, on the first n leaves in numbers: the raw row, then the columns.
-fn release_in(xs: &[u64], n: usize, head: Head, state: State) -> Moved
-    requires { ⌜ (n ≤ 512) × (length (now xs) ≡ 5632) ⌝ }
-    ensures { λ r. ⌜ r ≡ call-with (table-on (now (xs .entry)) n head) state release ⌝ }
+// The calls, by number.
+const RELEASE: u64 = 0;
+
+const REPORT: u64 = 1;
+
+const END: u64 = 2;
+
+// The call of this number, on a table's parts.
+fn step_on(
+    row: &[u64],
+    turns: &[u64],
+    tails: &[u64],
+    stretches: &[u64],
+    head: Head,
+    state: control::State,
+    kind: u64,
+    point: u64,
+    reading: u64,
+) -> control::Step
+    ensures { λ r. ⌜ r ≡ reply-of (call-on (table-at (now (row .entry)) (now (turns .entry)) (now (tails .entry)) (now (stretches .entry)) head) state (call-of kind point reading)) ⌝ }
 {
-    let row = &xs[..n * STRIDE];
-    let turns = &xs[TURNS..TURNS + n];
-    let tails = &xs[TAILS..TAILS + n];
-    let stretches = &xs[STRETCHES..STRETCHES + n];
-    let before = state_in(state);
-    let step = control::release(row, turns, tails, stretches, head, before);
-    move_on(state, step)
+    if kind == RELEASE {
+        return control::release(row, turns, tails, stretches, head, state);
+    }
+    if kind == REPORT {
+        return control::report(row, turns, tails, stretches, head, state, point, reading);
+    }
+    control::end(row, turns, tails, stretches, head, state, reading)
 }
 
-// The same on the array.
-fn release_on(xs: &[u64; 5632], n: usize, head: Head, state: State) -> Moved
-    requires { ⌜ (n ≤ 512) × (length (now xs) ≡ 5632) ⌝ }
-    ensures { λ r. ⌜ r ≡ call-with (table-on (now (xs .entry)) n head) state release ⌝ }
-{
-    release_in(xs, n, head, state)
-}
-
-// Report of a point with a reading, on the first n leaves in numbers: the raw row, then the columns.
-fn report_in(xs: &[u64], n: usize, head: Head, state: State, point: u64, reading: u64) -> Moved
-    requires { ⌜ (n ≤ 512) × (length (now xs) ≡ 5632) ⌝ }
-    ensures { λ r. ⌜ r ≡ call-with (table-on (now (xs .entry)) n head) state (report point reading) ⌝ }
-{
-    let row = &xs[..n * STRIDE];
-    let turns = &xs[TURNS..TURNS + n];
-    let tails = &xs[TAILS..TAILS + n];
-    let stretches = &xs[STRETCHES..STRETCHES + n];
-    let before = state_in(state);
-    let step = control::report(row, turns, tails, stretches, head, before, point, reading);
-    move_on(state, step)
-}
-
-// The same on the array.
-fn report_on(
-    xs: &[u64; 5632],
+// A call on the first n leaves in numbers, in an array with room for so many: the raw row, then the columns.
+fn call_on(
+    xs: &[u64],
+    room: usize,
     n: usize,
     head: Head,
     state: State,
+    kind: u64,
     point: u64,
     reading: u64,
 ) -> Moved
-    requires { ⌜ (n ≤ 512) × (length (now xs) ≡ 5632) ⌝ }
-    ensures { λ r. ⌜ r ≡ call-with (table-on (now (xs .entry)) n head) state (report point reading) ⌝ }
+    requires { ⌜ (n ≤ room) × (room ≤ 512) × (length (now xs) ≡ room * 11) ⌝ }
+    ensures { λ r. ⌜ r ≡ call-with (table-on room (now (xs .entry)) n head) state (call-of kind point reading) ⌝ }
 {
-    report_in(xs, n, head, state, point, reading)
-}
-
-// End with a reading, on the first n leaves in numbers: the raw row, then the columns.
-fn end_in(xs: &[u64], n: usize, head: Head, state: State, reading: u64) -> Moved
-    requires { ⌜ (n ≤ 512) × (length (now xs) ≡ 5632) ⌝ }
-    ensures { λ r. ⌜ r ≡ call-with (table-on (now (xs .entry)) n head) state (end reading) ⌝ }
-{
+    let k = room * STRIDE;
+    let l = k + room;
+    let m = l + room;
     let row = &xs[..n * STRIDE];
-    let turns = &xs[TURNS..TURNS + n];
-    let tails = &xs[TAILS..TAILS + n];
-    let stretches = &xs[STRETCHES..STRETCHES + n];
+    let turns = &xs[k..k + n];
+    let tails = &xs[l..l + n];
+    let stretches = &xs[m..m + n];
     let before = state_in(state);
-    let step = control::end(row, turns, tails, stretches, head, before, reading);
+    let step = step_on(
+        row,
+        turns,
+        tails,
+        stretches,
+        head,
+        before,
+        kind,
+        point,
+        reading,
+    );
     move_on(state, step)
 }
 
-// The same on the array.
-fn end_on(xs: &[u64; 5632], n: usize, head: Head, state: State, reading: u64) -> Moved
-    requires { ⌜ (n ≤ 512) × (length (now xs) ≡ 5632) ⌝ }
-    ensures { λ r. ⌜ r ≡ call-with (table-on (now (xs .entry)) n head) state (end reading) ⌝ }
+// A call on the first n of a row's leaves, at most 64.
+fn call_small(
+    row: &[Leaf],
+    n: usize,
+    head: Head,
+    state: State,
+    kind: u64,
+    point: u64,
+    reading: u64,
+) -> Moved
+    requires { ⌜ (n ≤ length (now row)) × (n ≤ 64) ⌝ }
+    ensures { λ r. ⌜ r ≡ call-with (table-with (take n (now (row .entry))) head) state (call-of kind point reading) ⌝ }
 {
-    end_in(xs, n, head, state, reading)
+    let mut numbers = [0u64; 704];
+    gather(row, &mut numbers, FEW, n);
+    call_on(&numbers, FEW, n, head, state, kind, point, reading)
+}
+
+// The same on at most 512.
+fn call_large(
+    row: &[Leaf],
+    n: usize,
+    head: Head,
+    state: State,
+    kind: u64,
+    point: u64,
+    reading: u64,
+) -> Moved
+    requires { ⌜ (n ≤ length (now row)) × (n ≤ 512) ⌝ }
+    ensures { λ r. ⌜ r ≡ call-with (table-with (take n (now (row .entry))) head) state (call-of kind point reading) ⌝ }
+{
+    let mut numbers = [0u64; 5632];
+    gather(row, &mut numbers, LEAVES, n);
+    call_on(&numbers, LEAVES, n, head, state, kind, point, reading)
+}
+
+// A call on lent memory: the state is moved on where it lies. Most plans have few leaves, and zeroing the large array would take most of a call's time.
+fn call(
+    row: &[Leaf],
+    head: &Head,
+    state: &mut State,
+    kind: u64,
+    point: u64,
+    reading: u64,
+) -> control::Answer
+    ensures { λ r. ⌜ (r ≡ called (now (row .entry)) (now (head .entry)) (now (state .entry)) (call-of kind point reading) .answer)
+        × (now (state .exit) ≡ called (now (row .entry)) (now (head .entry)) (now (state .entry)) (call-of kind point reading) .state) ⌝ }
+{
+    let beside = *head;
+    let before = *state;
+    let n = used(row.len(), beside);
+    let moved = if n <= FEW {
+        call_small(row, n, beside, before, kind, point, reading)
+    } else {
+        call_large(row, n, beside, before, kind, point, reading)
+    };
+    *state = moved.state;
+    moved.answer
 }
 
 // Release: 11, 12, 13, or the decision at the release; the state is moved on where it lies.
@@ -435,14 +505,7 @@ pub fn release(row: &[Leaf], head: &Head, state: &mut State) -> control::Answer
     ensures { λ r. ⌜ (r ≡ called (now (row .entry)) (now (head .entry)) (now (state .entry)) release .answer)
         × (now (state .exit) ≡ called (now (row .entry)) (now (head .entry)) (now (state .entry)) release .state) ⌝ }
 {
-    let mut numbers = [0u64; 5632];
-    let n = used(row.len());
-    gather(row, n, &mut numbers);
-    let beside = *head;
-    let before = *state;
-    let after = release_on(&numbers, n, beside, before);
-    *state = after.state;
-    after.answer
+    call(row, head, state, RELEASE, 0, 0)
 }
 
 // Report of a point with a reading: 11, 14, 15, 16, 17, or the decision at the report; the state is moved on where it lies.
@@ -456,14 +519,7 @@ pub fn report(
     ensures { λ r. ⌜ (r ≡ called (now (row .entry)) (now (head .entry)) (now (state .entry)) (report point reading) .answer)
         × (now (state .exit) ≡ called (now (row .entry)) (now (head .entry)) (now (state .entry)) (report point reading) .state) ⌝ }
 {
-    let mut numbers = [0u64; 5632];
-    let n = used(row.len());
-    gather(row, n, &mut numbers);
-    let beside = *head;
-    let before = *state;
-    let moved = report_on(&numbers, n, beside, before, point, reading);
-    *state = moved.state;
-    moved.answer
+    call(row, head, state, REPORT, point, reading)
 }
 
 // End with a reading: 11, 14, 16, 17, or resume or ended; the state is fresh again where it lies.
@@ -471,14 +527,7 @@ pub fn end(row: &[Leaf], head: &Head, state: &mut State, reading: u64) -> contro
     ensures { λ r. ⌜ (r ≡ called (now (row .entry)) (now (head .entry)) (now (state .entry)) (end reading) .answer)
         × (now (state .exit) ≡ called (now (row .entry)) (now (head .entry)) (now (state .entry)) (end reading) .state) ⌝ }
 {
-    let mut numbers = [0u64; 5632];
-    let n = used(row.len());
-    gather(row, n, &mut numbers);
-    let beside = *head;
-    let before = *state;
-    let moved = end_on(&numbers, n, beside, before, reading);
-    *state = moved.state;
-    moved.answer
+    call(row, head, state, END, 0, reading)
 }
 
 // `read` for other languages.

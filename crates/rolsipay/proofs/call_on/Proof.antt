@@ -1,17 +1,26 @@
--- `end_in` meets its contract. Assumes nothing.
+-- `call_on` meets its contract. Assumes nothing.
 use mathlib.Core.Path.{_≡_, ap, sym, _∙_}
 use Prim.Native.Nat.{_*_}
 use native.Mathlib.Omega.{arith}
 use lib.Seq.{length-take-le}
-use Rattle.model.specs.Calls.{end}
+use Rattle.model.specs.Calls.{Call}
 use Rattle.control.specs.declared.Step.{Step}
 use Rattle.control.specs.Answers.{reply-of}
 use Rattle.control.specs.Calls.{call-on}
+use Rattle.rolsipay.specs.Calling.{state-of, moved, call-of, table-on}
 use Rattle.rolsipay.proofs.Gathering.{same-call}
-use Rattle.rolsipay.specs.Calling.{state-of, moved, table-on}
 use borrow.Author.Needs.{needs}
-use Rattle.rolsipay.proofs.end_in.Statement.{statement}
-use Rattle.rolsipay.proofs.end_in.Tie as tie
+use Rattle.rolsipay.proofs.call_on.Statement.{statement}
+use Rattle.rolsipay.proofs.call_on.Tie as tie
+
+mul-k : tie.Need-mul-k
+mul-k c = search needs
+
+add-l : tie.Need-add-l
+add-l c = search needs
+
+add-m : tie.Need-add-m
+add-m c = search needs
 
 mul-row : tie.Need-mul-row
 mul-row c = search needs
@@ -21,6 +30,9 @@ slice-aggregate-row c = sym (length-take-le (c .before .before .args .n * 8) (c 
 
 add-turns : tie.Need-add-turns
 add-turns c = search needs
+
+mul-turns : tie.Need-mul-turns
+mul-turns c = search needs
 
 sub-turns : tie.Need-sub-turns
 sub-turns c = search needs
@@ -34,6 +46,9 @@ part-turns-end c = search needs
 add-tails : tie.Need-add-tails
 add-tails c = search needs
 
+mul-tails : tie.Need-mul-tails
+mul-tails c = search needs
+
 sub-tails : tie.Need-sub-tails
 sub-tails c = search needs
 
@@ -45,6 +60,9 @@ part-tails-end c = search needs
 
 add-stretches : tie.Need-add-stretches
 add-stretches c = search needs
+
+mul-stretches : tie.Need-mul-stretches
+mul-stretches c = search needs
 
 sub-stretches : tie.Need-sub-stretches
 sub-stretches c = search needs
@@ -58,8 +76,8 @@ part-stretches-end c = search needs
 state-in-requires : tie.Need-state-in-requires
 state-in-requires c κs = search needs
 
-end-requires : tie.Need-end-requires
-end-requires c κs = search needs
+step-on-requires : tie.Need-step-on-requires
+step-on-requires c κs = search needs
 
 move-on-requires : tie.Need-move-on-requires
 move-on-requires c κs = search needs
@@ -67,29 +85,36 @@ move-on-requires c κs = search needs
 returns : tie.Need-returns
 returns c =
     let a = c .before .before .before .before .before .before .before .before .args in
-    let e : c .before .end .result ≡ reply-of (call-on (table-on (a .xs .now) (a .n) (a .head)) (state-of (a .state)) (end (a .reading))) =
-    c .before .end .ensures ∙ same-call (a .xs .now) (a .n) (a .head) (state-of (a .state)) (c .before .before .state-in .result) (end (a .reading)) (c .before .before .state-in .ensures) in
+    let k : Call = call-of (a .kind) (a .point) (a .reading) in
+    let e : c .before .step-on .result ≡ reply-of (call-on (table-on (a .room) (a .xs .now) (a .n) (a .head)) (state-of (a .state)) k) =
+    c .before .step-on .ensures ∙ same-call (a .room) (a .xs .now) (a .n) (a .head) (state-of (a .state)) (c .before .before .state-in .result) k (c .before .before .state-in .ensures) in
     c .move-on .ensures ∙ ap (λ (s : Step). moved (a .state) s) e
 
-pub end-in-spec : {M : Type 1} → statement M
-end-in-spec =
+pub call-on-spec : {M : Type 1} → statement M
+call-on-spec =
     tie.close
     (tie.spec
+    mul-k
+    add-l
+    add-m
     mul-row
     slice-aggregate-row
     add-turns
+    mul-turns
     sub-turns
     part-turns-start
     part-turns-end
     add-tails
+    mul-tails
     sub-tails
     part-tails-start
     part-tails-end
     add-stretches
+    mul-stretches
     sub-stretches
     part-stretches-start
     part-stretches-end
     state-in-requires
-    end-requires
+    step-on-requires
     move-on-requires
     returns)
