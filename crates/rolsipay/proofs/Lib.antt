@@ -1,6 +1,7 @@
 pub mod Steps
 pub mod Lending
 pub mod Local
+pub mod Sized
 pub mod Stored
 pub mod Packing
 pub mod Spreading
