@@ -1,4 +1,4 @@
--- The array of 5632 numbers that a call makes in a local and lends: as its type, and between the local's cell and what can be lent.
+-- The array of 5632 numbers that `read` makes in a local and lends: as its type, and between the local's cell and what can be lent.
 -- Assumes `Given`.
 use mathlib.Core.Path.{refl}
 use mathlib.Core.List.{List, [], _∷_}

@@ -17,7 +17,7 @@ use prog.Routine.{Routine}
 use prog.Wp.{Heap, Env, Calls, Loops, WpFn}
 use ghost.Atoms.{Atoms, sem}
 use contract.Monad.{Fun, fact}
-use types.Kit.{Given, Item, Go, ‵, raw, _⊛_, ⋆, some, later, _$_, _∵_, !, qed, by, move, keep, drop, use1, use2, use3, split, join, pick, rewrite, fsplit, fjoin, feqL, frame, await, done}
+use types.Kit.{Given, Item, Go, ‵, raw, _⊛_, ⋆, some, later, _$_, _∵_, !, qed, by, move, drop, use1, use2, use3, split, join, pick, rewrite, fsplit, fjoin, feqL, frame, await, done}
 use types.Run.{Opd, look, init, forget, stop, from, load, lit, addr, and-then, no-more, land, assigns, returns, enter, alloc1, alloc0, params1, pass1, pass0, free1, free0}
 use types.Part.{agg, rep}
 use types.SemTy.{cells, Arr}
@@ -43,7 +43,6 @@ use denote.Triple.Spec.{tripleOf}
 use denote.Triple.Walked.{says, Stays, stay-none, stay-none-slice, AllGo, goes-none, goes-none-slice}
 use denote.Triple.Clauses.{ensured, lasts}
 use denote.Exit.{yes}
-use Rattle.model.specs.Calls.{Call}
 use Rattle.table.specs.declared.Head.{Head}
 use Rattle.table.specs.Table.{Table}
 use Rattle.table.proofs.Head as T
@@ -55,7 +54,6 @@ use Rattle.rolsipay.specs.Lent.{table-with}
 use Rattle.rolsipay.specs.Flat.{gathered}
 use Rattle.rolsipay.specs.Calling.{call-with, call-of, table-on}
 use Rattle.rolsipay.proofs.Local.{as-row, to-parts, to-cell}
-use Rattle.rolsipay.proofs.Steps.{length-gathered}
 use Rattle.rolsipay.proofs.Gathering.{table-gathered}
 use Rattle.rolsipay.proofs.Leaf as F
 use Rattle.rolsipay.proofs.State as S
@@ -122,36 +120,55 @@ module _ {M : Type 1} (𝓤 : URA M) (H : Heap 𝓤) (A : Atoms 𝓤) (W : Given
     ),
   )
 
-module _ {M : Type 1} (𝓤 : URA M) (H : Heap 𝓤) (A : Atoms 𝓤) (W : Given 𝓤 H A) (mem : Memory → SProp 𝓤) (run : Routine → Fun 𝓤) (κ : Lft) (q : Share) (b o : ℕ) (γ : GName) (ys : List Leaf) (n : ℕ) (h : Head) (s : State) (kind point reading : ℕ) where
-  -- the row, and the array under the name δ at the list l, where it lies in block c
-  abbrev r : RefT (List Leaf)
-  r = record { ptr = (b, o); name = γ; now = ys }
+-- the arguments of both, their machine values, and what is returned
+abbrev pub Arg : Type 0
+Arg = RefT (List Leaf) × (ℕ × (Head × (State × (ℕ × (ℕ × (ℕ × Unit {0}))))))
 
+abbrev pub at : (κ : Lft) → Arg → Vals f.signature (κ, tt)
+at κ (r, (n, (h, (s, (kind, (point, (reading, _))))))) = (sliceVal (r .ptr) (length (r .now)) ∷ [], (vint w64 n ∷ [], (mT h ∷ [], (mS s ∷ [], (vint w64 kind ∷ [], (vint w64 point ∷ [], (vint w64 reading ∷ [], tt)))))))
+
+abbrev pub Gives : Arg → Moved
+Gives (r, (n, (h, (s, (kind, (point, (reading, _))))))) = call-with (table-with (take n (r .now)) h) s (call-of kind point reading)
+
+module _ {M : Type 1} (𝓤 : URA M) (H : Heap 𝓤) (A : Atoms 𝓤) (W : Given 𝓤 H A) (mem : Memory → SProp 𝓤) (run : Routine → Fun 𝓤) (κ : Lft) (q : Share) (a : Arg) where
+  abbrev r : RefT (List Leaf)
+  r = a .0
+
+  abbrev ys : List Leaf
+  ys = r .now
+
+  abbrev n : ℕ
+  n = a .1 .0
+
+  abbrev h : Head
+  h = a .1 .1 .0
+
+  abbrev s : State
+  s = a .1 .1 .1 .0
+
+  abbrev kind : ℕ
+  kind = a .1 .1 .1 .1 .0
+
+  abbrev point : ℕ
+  point = a .1 .1 .1 .1 .1 .0
+
+  abbrev reading : ℕ
+  reading = a .1 .1 .1 .1 .1 .1 .0
+
+  -- the array under the name δ at the list l, where it lies in block c
   abbrev x : ℕ → GName → List ℕ → RefT (List ℕ)
   x c δ l = record { ptr = (c, 0); name = δ; now = l }
 
+  -- the row's machine value, and what it owns
   abbrev rv : Val
-  rv = sliceVal (b, o) (length ys)
+  rv = sliceVal (r .ptr) (length ys)
 
-  abbrev Arg : Type 0
-  Arg = RefT (List Leaf) × (ℕ × (Head × (State × (ℕ × (ℕ × (ℕ × Unit {0}))))))
-
-  abbrev pub a : Arg
-  a = (r, (n, (h, (s, (kind, (point, (reading, tt)))))))
-
-  abbrev pub at : Vals f.signature (κ, tt)
-  at = (rv ∷ [], (vint w64 n ∷ [], (mT h ∷ [], (mS s ∷ [], (vint w64 kind ∷ [], (vint w64 point ∷ [], (vint w64 reading ∷ [], tt)))))))
-
-  abbrev pub Row : Fml
+  abbrev Row : Fml
   Row = ShrSlice (named 0) κ F.the-row .own r (rv ∷ [])
-
-  -- what the call gives
-  abbrev pub Gives : Moved
-  Gives = call-with (table-with (take n ys) h) s (call-of kind point reading)
 
   -- what is left when `call_on` has returned: the row's token, what the arguments own, and what the result owns
   abbrev pub Left : Moved → Val → List (Item 𝓤)
-  Left t v = (‵ (flft κ q) ⊛ ‵ ftrue) ∷ ‵ (owns (ShrSlice (named 0) κ F.the-row ∷ usize ∷ T.the-row ∷ S.the-row ∷ u64 ∷ u64 ∷ u64 ∷ []) a at) ∷ ‵ (P.the-row .own t (v ∷ [])) ∷ []
+  Left t v = (‵ (flft κ q) ⊛ ‵ ftrue) ∷ ‵ (owns (ShrSlice (named 0) κ F.the-row ∷ usize ∷ T.the-row ∷ S.the-row ∷ u64 ∷ u64 ∷ u64 ∷ []) a (at κ a)) ∷ ‵ (P.the-row .own t (v ∷ [])) ∷ []
 
   module _ (len-fits : length ys < 2 ^ 64) (n-fits : n < 2 ^ 64) (h-is : Is T.the-row h (mT h ∷ [])) (s-is : Is S.the-row s (mS s ∷ [])) (kind-fits : kind < 2 ^ 64) (point-fits : point < 2 ^ 64) (reading-fits : reading < 2 ^ 64)
       (room size : ℕ) (room-fits : room < 2 ^ 64) (size-fits : Room u64 size) (wide : size ≡ room * 11) (most : room ≤ 512) (within : n ≤ length ys) (few : n ≤ room) where
@@ -190,10 +207,10 @@ module _ {M : Type 1} (𝓤 : URA M) (H : Heap 𝓤) (A : Atoms 𝓤) (W : Given
         owned ! usize (Is usize) (uint-makes 𝓤 H A W w64) n _ (refl, n-fits) $ fjoin ! $ owned ! usize (Is usize) (uint-makes 𝓤 H A W w64) room _ (refl, room-fits) $ fjoin ! $ move ! (1 ∷ 0 ∷ []) $ fjoin ! $ done !
 
     module _ (C : Calls 𝓤 H) (Λ : Loops 𝓤 H) (fm : FmC 𝓤 H (W .laws) C) (known-rr : Triple 𝓤 (C #rr) (RR 𝓤 H A mem run)) (known-g : Triple 𝓤 (C #g) (G 𝓤 H A mem run)) (room-opd size-opd : Operand)
-        (room-reads : (Γ : List (Item 𝓤)) (E : Env 𝓤 H) → Opd (Go {0}) W Γ E room-opd (vint w64 room)) (size-reads : (Γ : List (Item 𝓤)) (E : Env 𝓤 H) → Opd (Go {0}) W Γ E size-opd (vint w64 size)) (Post : Val → SProp 𝓤) (exits : (t : Moved) (v : Val) → t ≡ Gives → ent 𝓤 (⋆ 𝓤 H A (Left t v)) (Post v)) where
-      pub walk : ent 𝓤 (onEntry 𝓤 H A f.signature (κ, tt) (q, tt) a at) (WpFn 𝓤 H C Λ (code size room-opd size-opd) (rv ∷ vint w64 n ∷ mT h ∷ mS s ∷ vint w64 kind ∷ vint w64 point ∷ vint w64 reading ∷ []) Post)
+        (room-reads : (Γ : List (Item 𝓤)) (E : Env 𝓤 H) → Opd (Go {0}) W Γ E room-opd (vint w64 room)) (size-reads : (Γ : List (Item 𝓤)) (E : Env 𝓤 H) → Opd (Go {0}) W Γ E size-opd (vint w64 size)) (Post : Val → SProp 𝓤) (exits : (t : Moved) (v : Val) → t ≡ Gives a → ent 𝓤 (⋆ 𝓤 H A (Left t v)) (Post v)) where
+      pub walk : ent 𝓤 (onEntry 𝓤 H A f.signature (κ, tt) (q, tt) a (at κ a)) (WpFn 𝓤 H C Λ (code size room-opd size-opd) (rv ∷ vint w64 n ∷ mT h ∷ mS s ∷ vint w64 kind ∷ vint w64 point ∷ vint w64 reading ∷ []) Post)
       walk =
-          qed W ((‵ (flft κ q) ⊛ ‵ ftrue) ∷ ‵ (owns (ShrSlice (named 0) κ F.the-row ∷ usize ∷ T.the-row ∷ S.the-row ∷ u64 ∷ u64 ∷ u64 ∷ []) a at) ∷ []) ∵ enter ! C Λ (code size room-opd size-opd) (rv ∷ vint w64 n ∷ mT h ∷ mS s ∷ vint w64 kind ∷ vint w64 point ∷ vint w64 reading ∷ []) _ $
+          qed W ((‵ (flft κ q) ⊛ ‵ ftrue) ∷ ‵ (owns (ShrSlice (named 0) κ F.the-row ∷ usize ∷ T.the-row ∷ S.the-row ∷ u64 ∷ u64 ∷ u64 ∷ []) a (at κ a)) ∷ []) ∵ enter ! C Λ (code size room-opd size-opd) (rv ∷ vint w64 n ∷ mT h ∷ mS s ∷ vint w64 kind ∷ vint w64 point ∷ vint w64 reading ∷ []) _ $
           alloc1 ! (λ l₀. alloc1 ! (λ l₁. alloc1 ! (λ l₂. alloc1 ! (λ l₃. alloc1 ! (λ l₄. alloc1 ! (λ l₅. alloc1 ! (λ l₆. alloc1 ! (λ l₇. alloc1 ! (λ l₈. alloc1 ! (λ l₉. alloc1 ! (λ l₁₀. alloc1 ! (λ l₁₁. alloc1 ! (λ l₁₂. alloc1 ! (λ l₁₃. alloc0 ! $ params1 ! $
           pass1 ! (init ! 24 refl (tt, (tt, (record { fits = len-fits }, tt)))) $ pass1 ! (init ! 22 refl (tt, record { fits = n-fits })) $ pass1 ! (init ! 20 refl (LL.lawful T.the-type T′.the-laws 𝓤 H A W .typed h _ h-is .0)) $ pass1 ! (init ! 18 refl (LL.lawful S.the-type S′.the-laws 𝓤 H A W .typed s _ s-is .0)) $
           pass1 ! (init ! 16 refl (tt, record { fits = kind-fits })) $ pass1 ! (init ! 14 refl (tt, record { fits = point-fits })) $ pass1 ! (init ! 12 refl (tt, record { fits = reading-fits })) $ pass0 ! $

@@ -393,7 +393,8 @@ fn step_on(
     point: u64,
     reading: u64,
 ) -> control::Step
-    ensures { λ r. ⌜ r ≡ reply-of (call-on (table-at (now (row .entry)) (now (turns .entry)) (now (tails .entry)) (now (stretches .entry)) head) state (call-of kind point reading)) ⌝ }
+    ensures { λ r. ⌜ r ≡ reply-of (call-on (table-at (now (row .entry)) (now (turns .entry)) (now (tails .entry)) (now (stretches .entry)) head) state
+        (call-of kind point reading)) ⌝ }
 {
     if kind == RELEASE {
         return control::release(row, turns, tails, stretches, head, state);

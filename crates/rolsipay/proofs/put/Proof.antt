@@ -2,7 +2,6 @@
 use native.Mathlib.Omega.{arith}
 use lib.ListN.{length-set}
 use borrow.Author.Needs.{needs}
-use Rattle.rolsipay.proofs.Steps.{length-with-leaf}
 use Rattle.rolsipay.proofs.put.Statement.{statement}
 use Rattle.rolsipay.proofs.put.Tie as tie
 
@@ -115,7 +114,7 @@ slice-write-out-11 : tie.Need-slice-write-out-11
 slice-write-out-11 c = simp length-set (omega arith)
 
 same-length : tie.Need-same-length
-same-length c = length-with-leaf (c .args .room) (c .args .out .now) (c .args .i) (c .args .leaf)
+same-length c = simp length-set (omega arith)
 
 returns : tie.Need-returns
 returns c = search needs
