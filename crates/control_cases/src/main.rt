@@ -136,8 +136,8 @@ fn plan_b(calls: &[u64]) {
     );
 }
 
-// m1 to m5.
-fn cases_of_a() {
+// Plays a run in which the others are never suspended, and a visit of the loop's condition too many.
+fn rounds_of_a() {
     // m1, m4 and the first half of m5: go 49 47, go 49 38, go 44 19, go 32 7, go 20 2, go 8 0; a fifth visit is 17.
     plan_a(
         &[
@@ -164,10 +164,18 @@ fn cases_of_a() {
             64,
         ],
     );
+}
+
+// Plays the loop's first visit at the last reading that goes on, and one tick later.
+fn edge_of_a() {
     // m2: at 28 go 44 0.
     plan_a(&[0, 0, 0, 1, 0, 0, 1, 1, 28]);
     // And at 29 suspend 44 -1.
     plan_a(&[0, 0, 0, 1, 0, 0, 1, 1, 29]);
+}
+
+// Plays runs that suspend the others.
+fn suspensions_of_a() {
     // m3: visit 3 at 57 gives suspend 20 -5, visit 4 at 73 stay 8 -9, and the end at 81 resumes.
     plan_a(
         &[
@@ -196,6 +204,13 @@ fn cases_of_a() {
     );
     // m5: visit 4 at 65 gives suspend 8 -1.
     plan_a(&[0, 0, 0, 1, 0, 0, 1, 1, 9, 1, 1, 33, 1, 1, 50, 1, 1, 65]);
+}
+
+// m1 to m5.
+fn cases_of_a() {
+    rounds_of_a();
+    edge_of_a();
+    suspensions_of_a();
 }
 
 // m6 to m9.

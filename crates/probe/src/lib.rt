@@ -461,6 +461,43 @@ fn answer_out(from: &[u64; 5], answer: &mut [u64])
     }
 }
 
+// Makes the call that is asked for, and writes the later state and the answer.
+fn call_on_numbers(
+    row: &[u64],
+    turns: &[u64],
+    tails: &[u64],
+    stretches: &[u64],
+    head: &[u64],
+    state: &mut [u64],
+    asked: &[u64],
+    answer: &mut [u64],
+)
+    requires { ⌜ (40 ≤ length (now head)) × (103 ≤ length (now state)) × (3 ≤ length (now asked)) × (5 ≤ length (now answer)) ⌝ }
+{
+    let lent = table_head_in(head);
+    let old = state_in(state);
+    let kind = asked[0];
+    let point = asked[1];
+    let reading = asked[2];
+    let step = call(
+        row,
+        turns,
+        tails,
+        stretches,
+        lent,
+        old,
+        kind,
+        point,
+        reading,
+    );
+    let new = step.state;
+    let later = state_of(new);
+    state_out(&later, state);
+    let said = step.answer;
+    let numbers = answer_of(said);
+    answer_out(&numbers, answer);
+}
+
 // Makes a call for a test, on a table, and moves the state on: gives 0, or the greatest number where head, state, call or answer is too short, and
 // then nothing is changed.
 #[no_mangle]
@@ -486,27 +523,15 @@ pub extern "C" fn rolsipay_probe_call(
     if answer.len() < ANSWER {
         return SHORT;
     }
-    let lent = table_head_in(head);
-    let old = state_in(state);
-    let kind = call_numbers[0];
-    let point = call_numbers[1];
-    let reading = call_numbers[2];
-    let step = call(
+    call_on_numbers(
         row,
         turns,
         tails,
         stretches,
-        lent,
-        old,
-        kind,
-        point,
-        reading,
+        head,
+        state,
+        call_numbers,
+        answer,
     );
-    let new = step.state;
-    let later = state_of(new);
-    state_out(&later, state);
-    let said = step.answer;
-    let numbers = answer_of(said);
-    answer_out(&numbers, answer);
     0
 }

@@ -188,51 +188,42 @@ fn long_texts() {
     show(&text[..f2], 512);
 }
 
+// Shows a text of its first lines, so many ifs, each in the then part of the one before, and its last closing brackets.
+fn show_ifs(first: &[u8], count: usize, last: usize) {
+    let mut text = blank();
+    let a = add(&mut text, 0, first, 1);
+    let b = add(&mut text, a, b"(if s 0 0\n(then\n", count);
+    let c = add(&mut text, b, b")\n(else\n)\n)\n", count);
+    let d = add(&mut text, c, b")\n", last);
+    show(&text[..d], 512);
+}
+
+// Shows a text whose first function has so many loops, each in the body of the one before; `last` closes it and the text.
+fn show_loops(count: usize, last: &[u8]) {
+    let mut text = blank();
+    let a = add(&mut text, 0, b"(task 1 0\n(fun\n", 1);
+    let b = add(&mut text, a, b"(loop s 1 0 0\n", count);
+    let c = add(&mut text, b, b")\n", count);
+    let d = add(&mut text, c, last, 1);
+    show(&text[..d], 512);
+}
+
 // Refusal 7, depth.
 fn deep_texts() {
-    let mut text = blank();
     // 64 open brackets: task, fun and 31 times if and then. The level stays 1. 31 ifs.
-    let a0 = add(&mut text, 0, b"(task 1 0\n(fun\n", 1);
-    let a1 = add(&mut text, a0, b"(if s 0 0\n(then\n", 31);
-    let a2 = add(&mut text, a1, b")\n(else\n)\n)\n", 31);
-    let a3 = add(&mut text, a2, b")\n", 2);
-    show(&text[..a3], 512);
+    show_ifs(b"(task 1 0\n(fun\n", 31, 2);
     // The same with a 32nd if in line 2 + 62 + 1: the 65th open bracket.
-    let b0 = add(&mut text, 0, b"(task 1 0\n(fun\n", 1);
-    let b1 = add(&mut text, b0, b"(if s 0 0\n(then\n", 32);
-    let b2 = add(&mut text, b1, b")\n(else\n)\n)\n", 32);
-    let b3 = add(&mut text, b2, b")\n", 2);
-    show(&text[..b3], 512);
+    show_ifs(b"(task 1 0\n(fun\n", 32, 2);
     // A loop in line 3, 30 times if and then in lines 4 to 63, the 64th bracket in line 64: its then in line 65 is the 65th.
-    let c0 = add(&mut text, 0, b"(task 1 0\n(fun\n(loop s 1 0 0\n", 1);
-    let c1 = add(&mut text, c0, b"(if s 0 0\n(then\n", 31);
-    let c2 = add(&mut text, c1, b")\n(else\n)\n)\n", 31);
-    let c3 = add(&mut text, c2, b")\n", 3);
-    show(&text[..c3], 512);
+    show_ifs(b"(task 1 0\n(fun\n(loop s 1 0 0\n", 31, 3);
     // 32 loops, each in the body of the one before: the innermost has level 32.
-    let d0 = add(&mut text, 0, b"(task 1 0\n(fun\n", 1);
-    let d1 = add(&mut text, d0, b"(loop s 1 0 0\n", 32);
-    let d2 = add(&mut text, d1, b")\n", 34);
-    show(&text[..d2], 512);
+    show_loops(32, b")\n)\n");
     // 33 loops: the innermost, in line 35, has level 33.
-    let e0 = add(&mut text, 0, b"(task 1 0\n(fun\n", 1);
-    let e1 = add(&mut text, e0, b"(loop s 1 0 0\n", 33);
-    let e2 = add(&mut text, e1, b")\n", 35);
-    show(&text[..e2], 512);
+    show_loops(33, b")\n)\n");
     // Function 0 has 31 loops, each in the one before; the call at level 1 reaches level 32. 31 loops and a call.
-    let f0 = add(&mut text, 0, b"(task 1 0\n(fun\n", 1);
-    let f1 = add(&mut text, f0, b"(loop s 1 0 0\n", 31);
-    let f2 = add(&mut text, f1, b")\n", 32);
-    let f3 = add(&mut text, f2, b"(fun\n(call s 0 0 0)\n", 1);
-    let f4 = add(&mut text, f3, b")\n", 2);
-    show(&text[..f4], 512);
+    show_loops(31, b")\n(fun\n(call s 0 0 0)\n)\n)\n");
     // Function 0 has 32 loops in lines 3 to 34 and closes in line 67; the call in line 69 reaches level 33.
-    let g0 = add(&mut text, 0, b"(task 1 0\n(fun\n", 1);
-    let g1 = add(&mut text, g0, b"(loop s 1 0 0\n", 32);
-    let g2 = add(&mut text, g1, b")\n", 33);
-    let g3 = add(&mut text, g2, b"(fun\n(call s 0 0 0)\n", 1);
-    let g4 = add(&mut text, g3, b")\n", 2);
-    show(&text[..g4], 512);
+    show_loops(32, b")\n(fun\n(call s 0 0 0)\n)\n)\n");
 }
 
 fn main() {
