@@ -12,6 +12,26 @@ pub struct Case {
     pub refusal: Option<Refusal>,
 }
 
+const LEAF: &str = "(leaf s 0 0)";
+const POINT: &str = "(leaf p 1 1)";
+const SILENT: &str = "(leaf s 1 1)";
+const CALL: &str = "(call s 0 0 0)";
+
+/// Five leaves, on lines 3, 4, 5, 7 and 10 of a plan of this one function.
+const FIVE_LEAVES: [&str; 11] = [
+    "(loop s 1 0 0",
+    LEAF,
+    "(if s 0 0",
+    "(then",
+    LEAF,
+    ")",
+    "(else",
+    LEAF,
+    ")",
+    ")",
+    ")",
+];
+
 pub const SMALLEST: &str = "(task 10 3\n(fun\n(leaf s 7 9)\n)\n)\n";
 
 /// One of every form, so that each line's bytes can be changed.
@@ -51,12 +71,12 @@ pub fn nest(open: &[&str], count: usize, inner: &[&str], close: &[&str]) -> Vec<
     lines
 }
 
-fn loops(count: usize, inner: &[&str]) -> Vec<String> {
+pub fn loops(count: usize, inner: &[&str]) -> Vec<String> {
     nest(&["(loop s 1 0 0"], count, inner, &[")"])
 }
 
 /// Each if is two open brackets.
-fn ifs(count: usize, inner: &[&str]) -> Vec<String> {
+pub fn ifs(count: usize, inner: &[&str]) -> Vec<String> {
     nest(
         &["(if s 0 0", "(then"],
         count,
@@ -86,9 +106,9 @@ impl Cases {
     }
 }
 
-fn depths(cases: &mut Cases) {
-    let leaf = "(leaf s 0 0)";
-    cases.accept("64 brackets", &[ifs(31, &[leaf])]);
+/// 64 brackets and 65, the task's and the function's among them.
+fn brackets(cases: &mut Cases) {
+    cases.accept("64 brackets", &[ifs(31, &[LEAF])]);
     cases.refuse(
         "a loop is the 65th bracket",
         &[ifs(31, &["(loop s 1 0 0", ")"])],
@@ -105,7 +125,7 @@ fn depths(cases: &mut Cases) {
     odd.extend(ifs(30, &["(if s 0 0", "(then"]));
     cases.refuse("a then is the 65th bracket", &[odd.clone()], 7, 65);
     odd.truncate(61);
-    odd.extend(words(&["(loop s 1 0 0", leaf, ")"]));
+    odd.extend(words(&["(loop s 1 0 0", LEAF, ")"]));
     odd.extend((0..30).flat_map(|_| words(&[")", "(else", ")", ")"])));
     odd.push(")".to_string());
     cases.accept("a loop is the 64th bracket", &[odd]);
@@ -115,87 +135,89 @@ fn depths(cases: &mut Cases) {
         5,
         65,
     );
+}
 
+/// Levels 32 and 33 by loops alone.
+fn levels(cases: &mut Cases) {
     cases.accept("empty loop at level 32", &[loops(32, &[])]);
-    cases.accept("leaf at level 32", &[loops(31, &[leaf])]);
-    cases.refuse("leaf at level 33", &[loops(32, &[leaf])], 7, 35);
+    cases.accept("leaf at level 32", &[loops(31, &[LEAF])]);
+    cases.refuse("leaf at level 33", &[loops(32, &[LEAF])], 7, 35);
     cases.refuse("loop at level 33", &[loops(33, &[])], 7, 35);
     cases.refuse("if at level 33", &[loops(32, &["(if s 0 0"])], 7, 35);
-    cases.refuse(
-        "own call at level 33",
-        &[loops(32, &["(call s 0 0 0)"])],
-        6,
-        35,
-    );
+    cases.refuse("own call at level 33", &[loops(32, &[CALL])], 6, 35);
     cases.refuse(
         "leaf at level 33 with M below C",
         &[loops(32, &["(leaf s 1 0)"])],
         5,
         35,
     );
-    let call = &["(call s 0 0 0)"];
-    cases.accept(
-        "empty function called at level 32",
-        &[vec![], loops(31, call)],
-    );
-    cases.refuse(
-        "leaf called at level 32",
-        &[words(&[leaf]), loops(31, call)],
-        7,
-        37,
-    );
+}
+
+/// Levels 32 and 33 by a call of function 0, which adds what it calls.
+fn called_levels(cases: &mut Cases) {
+    let call_at = |level: usize| loops(level - 1, &[CALL]);
+    let leaf = || words(&[LEAF]);
+    cases.accept("empty function called at level 32", &[vec![], call_at(32)]);
+    cases.refuse("leaf called at level 32", &[leaf(), call_at(32)], 7, 37);
     cases.refuse(
         "empty function called at level 33",
-        &[vec![], loops(32, call)],
+        &[vec![], call_at(33)],
         7,
         37,
     );
-    cases.accept(
-        "leaf called at level 31",
-        &[words(&[leaf]), loops(30, call)],
-    );
+    cases.accept("leaf called at level 31", &[leaf(), call_at(31)]);
     cases.accept(
         "empty loop at 16 called at 16",
-        &[loops(16, &[]), loops(15, call)],
+        &[loops(16, &[]), call_at(16)],
     );
     cases.refuse(
         "leaf at 17 called at 16",
-        &[loops(16, &[leaf]), loops(15, call)],
+        &[loops(16, &[LEAF]), call_at(16)],
         7,
         53,
     );
-    let second = |count: usize| loops(count, &["(call s 1 0 0)"]);
-    let chain = |last: usize| [loops(9, &[leaf]), loops(9, call), second(last)];
+}
+
+/// Levels of more than one call, and as many functions as may call one another.
+fn levels_of_calls(cases: &mut Cases) {
+    let call_second = "(call s 1 0 0)";
+    let chain = |last: usize| {
+        [
+            loops(9, &[LEAF]),
+            loops(9, &[CALL]),
+            loops(last, &[call_second]),
+        ]
+    };
     cases.accept("levels 10 + 10 + 12 by two calls", &chain(11));
     cases.refuse("levels 10 + 10 + 13 by two calls", &chain(12), 7, 57);
     let low = [
-        loops(30, &[leaf]),
-        words(&[leaf]),
-        [loops(20, &["(call s 1 0 0)"]), words(call)].concat(),
+        loops(30, &[LEAF]),
+        words(&[LEAF]),
+        [loops(20, &[call_second]), words(&[CALL])].concat(),
     ];
     cases.accept("a low function after a tall one", &low);
-    let both = words(&["(call s 0 0 0)", "(call s 1 0 0)"]);
+    let both = words(&[CALL, call_second]);
     cases.accept(
         "the taller of two calls counts",
-        &[words(&[leaf]), loops(30, &[leaf]), both],
+        &[words(&[LEAF]), loops(30, &[LEAF]), both],
     );
     let steps = |count: usize| -> Vec<Vec<String>> {
         let call = |f: usize| vec![format!("(call s {} 0 0)", f - 1)];
         (0..count)
-            .map(|f| if f == 0 { words(&[leaf]) } else { call(f) })
+            .map(|f| if f == 0 { words(&[LEAF]) } else { call(f) })
             .collect()
     };
     cases.accept("16 functions, each calling the one before", &steps(16));
     cases.refuse("a 17th function", &steps(17), 4, 50);
 }
 
+/// 512 leaves and 513, and what else the 513th may break.
 fn counts(cases: &mut Cases) {
-    let leaf = "(leaf s 0 0)";
-    cases.accept("512 leaves", &[many(leaf, 512)]);
-    cases.refuse("513 leaves", &[many(leaf, 513)], 4, 515);
-    let after = |line: &str| [[many(leaf, 512), words(&[line])].concat()];
+    cases.accept("512 leaves", &[many(LEAF, 512)]);
+    cases.refuse("513 leaves", &[many(LEAF, 513)], 4, 515);
+    let after = |line: &str| [[many(LEAF, 512), words(&[line])].concat()];
     cases.refuse("513th leaf with M below C", &after("(leaf s 2 1)"), 4, 515);
-    cases.refuse("513th leaf calls its own", &after("(call s 0 0 0)"), 4, 515);
+    cases.refuse("513th leaf calls its own", &after(CALL), 4, 515);
     cases.refuse(
         "513th leaf out of range",
         &after("(leaf s 0 1048577)"),
@@ -205,65 +227,40 @@ fn counts(cases: &mut Cases) {
     cases.refuse("513th leaf is a loop", &after("(loop s 1 0 0"), 4, 515);
     cases.refuse("513th leaf is an if", &after("(if s 0 0"), 4, 515);
     cases.refuse("513th leaf of no form", &after("(leaf s 0 0"), 2, 515);
-    let deep = [many(leaf, 480), loops(32, &[leaf])].concat();
+    let deep = [many(LEAF, 480), loops(32, &[LEAF])].concat();
     cases.refuse("513th leaf at level 33", &[deep], 4, 515);
     let full: Vec<Vec<String>> = (0..16)
         .map(|f: usize| match f.checked_sub(1) {
-            None => many(leaf, 32),
-            Some(before) => [many(leaf, 31), vec![format!("(call s {before} 0 0)")]].concat(),
+            None => many(LEAF, 32),
+            Some(before) => [many(LEAF, 31), vec![format!("(call s {before} 0 0)")]].concat(),
         })
         .collect();
     cases.accept("16 functions of 32 leaves", &full);
+}
+
+/// Lent rows of fewer and of more records than there are leaves.
+fn lent_rows(cases: &mut Cases) {
     for row in [0, 1, 511, 512, 513, 600, usize::MAX] {
         let refusal = (row < 512).then_some((4, 3 + row));
-        cases.add(
-            "512 leaves and other rows",
-            task(&[many(leaf, 512)]),
-            row,
-            refusal,
-        );
-        cases.add(
-            "513 leaves and other rows",
-            task(&[many(leaf, 513)]),
-            row,
-            Some((4, 3 + row.min(512))),
-        );
-        cases.add("no leaf and other rows", task(&[vec![]]), row, None);
-        cases.add(
-            "smallest and other rows",
-            SMALLEST.to_string(),
-            row,
-            (row == 0).then_some((4, 3)),
-        );
-        let five = task(&[words(&[
-            "(loop s 1 0 0",
-            "(leaf s 0 0)",
-            "(if s 0 0",
-            "(then",
-            leaf,
-            ")",
-            "(else",
-            leaf,
-            ")",
-            ")",
-            ")",
-        ])]);
+        let leaves = |count: usize| task(&[many(LEAF, count)]);
+        cases.add("512 leaves and other rows", leaves(512), row, refusal);
+        let refusal = Some((4, 3 + row.min(512)));
+        cases.add("513 leaves and other rows", leaves(513), row, refusal);
+        cases.add("no leaf and other rows", leaves(0), row, None);
+        let refusal = (row == 0).then_some((4, 3));
+        let smallest = SMALLEST.to_string();
+        cases.add("smallest and other rows", smallest, row, refusal);
         let refusal = [Some((4, 3)), Some((4, 4))].get(row).copied().flatten();
+        let five = task(&[words(&FIVE_LEAVES)]);
         cases.add("five leaves and other rows", five, row, refusal);
     }
 }
 
-fn late_rules(cases: &mut Cases) {
-    let point = words(&["(leaf p 1 1)"]);
-    let silent = words(&["(leaf s 1 1)"]);
-    let call = words(&["(call s 0 0 0)"]);
-    cases.refuse(
-        "point in a silent loop",
-        &[loops(1, &["(leaf p 1 1)"])],
-        8,
-        0,
-    );
-    cases.accept("point in a silent if", &[ifs(1, &["(leaf p 1 1)"])]);
+/// Rule 8: points inside silent forms.
+fn points_in_silence(cases: &mut Cases) {
+    let (point, silent, call) = (words(&[POINT]), words(&[SILENT]), words(&[CALL]));
+    cases.refuse("point in a silent loop", &[loops(1, &[POINT])], 8, 0);
+    cases.accept("point in a silent if", &[ifs(1, &[POINT])]);
     let in_if = nest(
         &["(loop s 1 0 0", "(if s 0 0", "(then"],
         1,
@@ -277,64 +274,61 @@ fn late_rules(cases: &mut Cases) {
         8,
         0,
     );
-    cases.accept("silent call of silence", &[silent.clone(), call.clone()]);
+    cases.accept("silent call of silence", &[silent, call]);
     cases.accept(
         "call that is a point",
         &[point.clone(), words(&["(call p 0 0 0)"])],
     );
     let far = [
-        point.clone(),
+        point,
         ifs(1, &["(call p 0 0 0)"]),
         words(&["(call s 1 0 0)"]),
     ];
     cases.refuse("silent call of a call of a point", &far, 8, 0);
+}
+
+/// Rule 9, and rule 8 before it.
+fn uncalled_functions(cases: &mut Cases) {
+    let (silent, call) = (words(&[SILENT]), words(&[CALL]));
     let unused = [silent.clone(), silent.clone()];
     cases.refuse("a function that no call names", &unused, 9, 0);
-    cases.refuse(
-        "8 before 9",
-        &[silent.clone(), loops(1, &["(leaf p 1 1)"])],
-        8,
-        0,
-    );
-    let unseen_there = [loops(1, &["(leaf p 1 1)"]), silent.clone()];
+    let hidden = loops(1, &[POINT]);
+    cases.refuse("8 before 9", &[silent.clone(), hidden.clone()], 8, 0);
+    let unseen_there = [hidden, silent.clone()];
     cases.refuse("8 in a function that no call names", &unseen_there, 8, 0);
     cases.refuse(
         "called by one that no call names",
-        &[silent.clone(), call.clone(), call.clone()],
+        &[silent.clone(), call.clone(), call],
         9,
         0,
     );
     cases.refuse(
         "an empty function that no call names",
-        &[vec![], silent.clone()],
+        &[vec![], silent],
         9,
         0,
     );
+}
 
-    let square = |inner: &[&str]| nest(&["(loop s 1024 0 0"], 2, inner, &[")"]);
-    let with = |inner: &[&str], more: &str| [[square(inner), words(&[more])].concat()];
-    cases.accept(
-        "totals of 2^40",
-        &with(&["(leaf s 1048576 1048576)"], "(leaf s 0 0)"),
-    );
-    cases.refuse(
-        "totals of 2^40 + 1",
-        &with(&["(leaf s 1048576 1048576)"], "(leaf s 1 1)"),
-        10,
-        0,
-    );
+/// Rule 10 at its edge, and rule 9 before it.
+fn totals(cases: &mut Cases) {
+    let most = "(leaf s 1048576 1048576)";
+    let square = |inner: &str| nest(&["(loop s 1024 0 0"], 2, &[inner], &[")"]);
+    let with = |inner: &str, more: &str| [square(inner), words(&[more])].concat();
+    cases.accept("totals of 2^40", &[with(most, LEAF)]);
+    cases.refuse("totals of 2^40 + 1", &[with(most, SILENT)], 10, 0);
     cases.refuse(
         "max-load total of 2^40 + 1",
-        &with(&["(leaf s 0 1048576)"], "(leaf s 0 1)"),
+        &[with("(leaf s 0 1048576)", "(leaf s 0 1)")],
         10,
         0,
     );
-    let unnamed = [
-        silent.clone(),
-        with(&["(leaf s 1048576 1048576)"], "(leaf s 1 1)")[0].clone(),
-    ];
+    let unnamed = [words(&[SILENT]), with(most, SILENT)];
     cases.refuse("9 before 10", &unnamed, 9, 0);
-    // Sums of 2^64, 2^65 and 2^128, which wrap to 0 in words of those sizes.
+}
+
+/// Sums of 2^64, 2^65 and 2^128, which wrap to 0 in words of those sizes.
+fn wrapping_totals(cases: &mut Cases) {
     let powers = |opens: &[&str]| {
         nest(
             opens,
@@ -359,11 +353,24 @@ fn late_rules(cases: &mut Cases) {
 
 pub fn cases() -> Vec<Case> {
     let mut cases = Cases(Vec::new());
-    aimed_lines::sizes(&mut cases);
-    aimed_lines::forms(&mut cases);
-    aimed_lines::ranges(&mut cases);
-    depths(&mut cases);
-    counts(&mut cases);
-    late_rules(&mut cases);
+    for topic in [
+        aimed_lines::sizes,
+        aimed_lines::long_numbers,
+        aimed_lines::forms,
+        aimed_lines::ranges,
+        aimed_lines::first_refusals,
+        brackets,
+        levels,
+        called_levels,
+        levels_of_calls,
+        counts,
+        lent_rows,
+        points_in_silence,
+        uncalled_functions,
+        totals,
+        wrapping_totals,
+    ] {
+        topic(&mut cases);
+    }
     cases.0
 }

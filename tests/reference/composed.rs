@@ -238,9 +238,7 @@ impl<'a> Composed<'a> {
                 return false;
             }
             if let Kind::If(then_part, else_part) = &form.kind {
-                let by_then = self.first_points(then_part, around, found);
-                let by_else = self.first_points(else_part, around, found);
-                if !by_then && !by_else {
+                if !self.first_in_parts(then_part, else_part, around, found) {
                     return false;
                 }
             }
@@ -248,9 +246,22 @@ impl<'a> Composed<'a> {
         true
     }
 
-    /// Adds the points that can come next after the place within these forms;
-    /// true if their end can be reached with no further point. `around` holds
-    /// the open loops and calls outside.
+    /// The same for an if: true if one of its parts can be passed.
+    fn first_in_parts(
+        &self,
+        then_part: &[Form],
+        else_part: &[Form],
+        around: &Place,
+        found: &mut Vec<Place>,
+    ) -> bool {
+        let by_then = self.first_points(then_part, around, found);
+        let by_else = self.first_points(else_part, around, found);
+        by_then || by_else
+    }
+
+    /// Adds the points that can come next after the place within these forms, or
+    /// first where no place is left; true if their end can be reached with no
+    /// further point. `around` holds the open loops and calls outside.
     fn onward(
         &self,
         forms: &[Form],
@@ -258,54 +269,51 @@ impl<'a> Composed<'a> {
         around: &Place,
         found: &mut Vec<Place>,
     ) -> bool {
-        let (leaf, visits) = place[0];
+        let Some(&(leaf, _)) = place.first() else {
+            return self.first_points(forms, around, found);
+        };
         let (position, form) = holder(forms, leaf);
-        let inner = &place[1..];
-        let passed = if form.leaf != leaf {
-            self.onward(part_with(form, leaf), place, around, found)
+        let passed = if form.leaf == leaf {
+            self.out_of(form, place, around, found)
         } else {
-            let opened = [around.as_slice(), &[(leaf, visits)]].concat();
-            match &form.kind {
-                Kind::Leaf => true,
-                Kind::If(then_part, else_part) => {
-                    let by_then = self.first_points(then_part, around, found);
-                    let by_else = self.first_points(else_part, around, found);
-                    by_then || by_else
-                }
-                Kind::Call(target) => {
-                    let called = &self.plan.functions[*target];
-                    if inner.is_empty() {
-                        self.first_points(called, &opened, found)
-                    } else {
-                        self.onward(called, inner, &opened, found)
-                    }
-                }
-                Kind::Loop(bound, body) => {
-                    let body_passed = if !inner.is_empty() {
-                        self.onward(body, inner, &opened, found)
-                    } else {
-                        visits <= *bound && self.first_points(body, &opened, found)
-                    };
-                    if body_passed {
-                        found.push([around.as_slice(), &[(leaf, visits + 1)]].concat());
-                    }
-                    // It can be left at its condition, not inside its body.
-                    inner.is_empty()
-                }
-            }
+            self.onward(part_with(form, leaf), place, around, found)
         };
         passed && self.first_points(&forms[position + 1..], around, found)
+    }
+
+    /// The same for the form that the place begins with.
+    fn out_of(
+        &self,
+        form: &Form,
+        place: &[(usize, u64)],
+        around: &Place,
+        found: &mut Vec<Place>,
+    ) -> bool {
+        let (leaf, visits) = place[0];
+        let inner = &place[1..];
+        let opened = [around.as_slice(), &[(leaf, visits)]].concat();
+        match &form.kind {
+            Kind::Leaf => true,
+            Kind::If(then_part, else_part) => {
+                self.first_in_parts(then_part, else_part, around, found)
+            }
+            Kind::Call(target) => self.onward(&self.plan.functions[*target], inner, &opened, found),
+            Kind::Loop(bound, body) => {
+                let entered = !inner.is_empty() || visits <= *bound;
+                if entered && self.onward(body, inner, &opened, found) {
+                    found.push([around.as_slice(), &[(leaf, visits + 1)]].concat());
+                }
+                // It can be left at its condition, not inside its body.
+                inner.is_empty()
+            }
+        }
     }
 
     /// The places that can come next, and whether the run can end here.
     fn next(&self, place: &Place) -> (Vec<Place>, bool) {
         let main = &self.plan.functions[self.plan.main()];
         let mut found = Vec::new();
-        let ends = if place.is_empty() {
-            self.first_points(main, &Vec::new(), &mut found)
-        } else {
-            self.onward(main, place, &Vec::new(), &mut found)
-        };
+        let ends = self.onward(main, place, &Vec::new(), &mut found);
         (found, ends)
     }
 }

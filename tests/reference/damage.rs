@@ -3,57 +3,60 @@
 use super::gen::Random;
 
 /// Numbers at and around every range edge, and forms that are no numbers.
+const EDGES: [&str; 45] = [
+    "0",
+    "1",
+    "2",
+    "14",
+    "15",
+    "16",
+    "17",
+    "31",
+    "32",
+    "33",
+    "63",
+    "64",
+    "65",
+    "255",
+    "256",
+    "511",
+    "512",
+    "513",
+    "65534",
+    "65535",
+    "65536",
+    "65537",
+    "1048575",
+    "1048576",
+    "1048577",
+    "1099511627775",
+    "1099511627776",
+    "1099511627777",
+    "4294967295",
+    "4294967296",
+    "4294967297",
+    "18446744073709551615",
+    "18446744073709551616",
+    "18446744073709551617",
+    "340282366920938463463374607431768211456",
+    "00",
+    "01",
+    "007",
+    "00000000000000000001",
+    "-1",
+    "+1",
+    "1.0",
+    "0x1",
+    "1e3",
+    "",
+];
+
+/// The edges, and numbers of many digits.
 pub fn edge_numbers() -> Vec<Vec<u8>> {
-    let mut all: Vec<Vec<u8>> = [
-        "0",
-        "1",
-        "2",
-        "14",
-        "15",
-        "16",
-        "17",
-        "31",
-        "32",
-        "33",
-        "63",
-        "64",
-        "65",
-        "255",
-        "256",
-        "511",
-        "512",
-        "513",
-        "65534",
-        "65535",
-        "65536",
-        "65537",
-        "1048575",
-        "1048576",
-        "1048577",
-        "1099511627775",
-        "1099511627776",
-        "1099511627777",
-        "4294967295",
-        "4294967296",
-        "4294967297",
-        "18446744073709551615",
-        "18446744073709551616",
-        "18446744073709551617",
-        "340282366920938463463374607431768211456",
-        "00",
-        "01",
-        "007",
-        "00000000000000000001",
-        "-1",
-        "+1",
-        "1.0",
-        "0x1",
-        "1e3",
-        "",
-    ]
-    .iter()
-    .map(|number| number.as_bytes().to_vec())
-    .collect();
+    let mut all: Vec<Vec<u8>> = EDGES
+        .iter()
+        .map(|number| number.as_bytes().to_vec())
+        .collect();
     for digits in [100, 1_000] {
         all.push(vec![b'9'; digits]);
         all.push([&b"1"[..], &vec![b'0'; digits]].concat());
@@ -111,6 +114,27 @@ fn change_bytes(random: &mut Random, text: &mut Vec<u8>) {
     }
 }
 
+/// Lines that are put where they may not stand.
+const STRAY_LINES: [&[u8]; 17] = [
+    b"\n",
+    b")\n",
+    b"(fun\n",
+    b"(then\n",
+    b"(else\n",
+    b"(task 1 0\n",
+    b"(task 0 0\n",
+    b"(leaf s 0 0)\n",
+    b"(leaf p 1 0)\n",
+    b"(leaf s 1048577 0)\n",
+    b"(if s 0 0\n",
+    b"(loop s 1 0 0\n",
+    b"(loop s 0 0 0\n",
+    b"(call s 0 0 0)\n",
+    b"(call s 15 1 0)\n",
+    b"(call s 16 0 0)\n",
+    b" \n",
+];
+
 fn change_lines(random: &mut Random, text: &mut Vec<u8>) {
     let mut all = lines(text);
     let first = random.index(all.len());
@@ -129,26 +153,7 @@ fn change_lines(random: &mut Random, text: &mut Vec<u8>) {
             all.remove(first);
         }
         _ => {
-            let stray: &[u8] = random.pick(&[
-                &b"\n"[..],
-                b")\n",
-                b"(fun\n",
-                b"(then\n",
-                b"(else\n",
-                b"(task 1 0\n",
-                b"(task 0 0\n",
-                b"(leaf s 0 0)\n",
-                b"(leaf p 1 0)\n",
-                b"(leaf s 1048577 0)\n",
-                b"(if s 0 0\n",
-                b"(loop s 1 0 0\n",
-                b"(loop s 0 0 0\n",
-                b"(call s 0 0 0)\n",
-                b"(call s 15 1 0)\n",
-                b"(call s 16 0 0)\n",
-                b" \n",
-            ]);
-            all.insert(first, stray.to_vec());
+            all.insert(first, random.pick(&STRAY_LINES).to_vec());
         }
     }
     *text = all.concat();

@@ -294,48 +294,85 @@ pub fn valid_plan(random: &mut Random, mut shape: Shape) -> Plan {
     }
 }
 
-/// The leaves visited in one random run, loops of many rounds often cut to a
-/// few and every loop left once the run is `long` visits long; None where
-/// calls alone make it much longer.
-pub fn random_run(random: &mut Random, plan: &Plan, long: usize) -> Option<Vec<usize>> {
-    fn walk(random: &mut Random, plan: &Plan, forms: &[Form], long: usize, run: &mut Vec<usize>) {
-        for form in forms {
-            if run.len() > 10 * long {
-                return;
+/// Adds the leaves visited in one random run of these forms.
+fn walk(random: &mut Random, plan: &Plan, forms: &[Form], long: usize, run: &mut Vec<usize>) {
+    for form in forms {
+        if run.len() > 10 * long {
+            return;
+        }
+        run.push(form.leaf);
+        match &form.kind {
+            Kind::Leaf => {}
+            Kind::Call(target) => walk(random, plan, &plan.functions[*target], long, run),
+            Kind::If(then_part, else_part) => {
+                let part = if random.chance(50) {
+                    then_part
+                } else {
+                    else_part
+                };
+                walk(random, plan, part, long, run);
             }
-            run.push(form.leaf);
-            match &form.kind {
-                Kind::Leaf => {}
-                Kind::Call(target) => walk(random, plan, &plan.functions[*target], long, run),
-                Kind::If(then_part, else_part) => {
-                    let part = if random.chance(50) {
-                        then_part
-                    } else {
-                        else_part
-                    };
-                    walk(random, plan, part, long, run);
-                }
-                Kind::Loop(bound, body) => {
-                    let few = random.below(5);
-                    let rounds = if random.chance(30) {
-                        *bound
-                    } else {
-                        few.min(*bound)
-                    };
-                    for _ in 0..rounds {
-                        if run.len() >= long {
-                            break;
-                        }
-                        walk(random, plan, body, long, run);
-                        run.push(form.leaf);
+            Kind::Loop(bound, body) => {
+                let few = random.below(5);
+                let rounds = if random.chance(30) {
+                    *bound
+                } else {
+                    few.min(*bound)
+                };
+                for _ in 0..rounds {
+                    if run.len() >= long {
+                        break;
                     }
+                    walk(random, plan, body, long, run);
+                    run.push(form.leaf);
                 }
             }
         }
     }
+}
+
+/// The leaves visited in one random run, loops of many rounds often cut to a
+/// few and every loop left once the run is `long` visits long; None where
+/// calls alone make it much longer.
+pub fn random_run(random: &mut Random, plan: &Plan, long: usize) -> Option<Vec<usize>> {
     let mut run = Vec::new();
     walk(random, plan, &plan.functions[plan.main()], long, &mut run);
     (run.len() <= 10 * long).then_some(run)
+}
+
+/// The lines of a function that nests near the caps on brackets and levels.
+fn deep_function(random: &mut Random, function: usize) -> Vec<String> {
+    let call = |random: &mut Random| format!("(call s {} 0 0)", random.index(function));
+    let mut lines = vec!["(fun".to_string()];
+    let brackets = if random.chance(50) {
+        58 + random.index(6)
+    } else {
+        random.index(40)
+    };
+    let loops = random.pick(&[5, 40, 50, 95]);
+    let mut closing = vec![")"];
+    let mut open = 0;
+    while open < brackets {
+        if random.chance(loops) {
+            lines.push(format!("(loop s {} 0 0", 1 + random.below(3)));
+            closing.push(")");
+            open += 1;
+        } else {
+            lines.push("(if s 0 0\n(then".to_string());
+            closing.push(")\n(else\n)\n)");
+            open += 2;
+        }
+        if function > 0 && random.chance(4) {
+            lines.push(call(random));
+        }
+    }
+    match random.below(3) {
+        0 => lines.push("(leaf s 0 0)".to_string()),
+        1 if function > 0 => lines.push(call(random)),
+        _ => {}
+    }
+    lines.extend(closing.iter().rev().map(|line| line.to_string()));
+    lines
 }
 
 /// A text of one to four functions that nest near the caps on brackets and
@@ -344,36 +381,7 @@ pub fn deep_text(random: &mut Random) -> Vec<u8> {
     let functions = 1 + random.index(4);
     let mut lines = vec!["(task 1000 1".to_string()];
     for function in 0..functions {
-        lines.push("(fun".to_string());
-        let brackets = if random.chance(50) {
-            58 + random.index(6)
-        } else {
-            random.index(40)
-        };
-        let loops = random.pick(&[5, 40, 50, 95]);
-        let mut closing = Vec::new();
-        let mut open = 0;
-        while open < brackets {
-            if random.chance(loops) {
-                lines.push(format!("(loop s {} 0 0", 1 + random.below(3)));
-                closing.push(")");
-                open += 1;
-            } else {
-                lines.push("(if s 0 0\n(then".to_string());
-                closing.push(")\n(else\n)\n)");
-                open += 2;
-            }
-            if function > 0 && random.chance(4) {
-                lines.push(format!("(call s {} 0 0)", random.index(function)));
-            }
-        }
-        match random.below(3) {
-            0 => lines.push("(leaf s 0 0)".to_string()),
-            1 if function > 0 => lines.push(format!("(call s {} 0 0)", random.index(function))),
-            _ => {}
-        }
-        lines.extend(closing.iter().rev().map(|line| line.to_string()));
-        lines.push(")".to_string());
+        lines.extend(deep_function(random, function));
     }
     lines.push(")".to_string());
     lines

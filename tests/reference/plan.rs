@@ -203,16 +203,23 @@ impl Reader {
         }
     }
 
-    /// Takes a line over that broke no rule.
-    fn take(&mut self, line: Line) {
-        let leaf = self.leaves;
+    /// Counts a line that is a leaf, and how high it reaches; gives the number of
+    /// leaves before.
+    fn count(&mut self, line: &Line) -> usize {
+        let before = self.leaves;
         if matches!(
             line,
             Line::Leaf(..) | Line::Call(..) | Line::Loop(..) | Line::If(..)
         ) {
-            self.height = self.height.max(self.reach(&line));
+            self.height = self.height.max(self.reach(line));
             self.leaves += 1;
         }
+        before
+    }
+
+    /// Takes a line over that broke no rule.
+    fn take(&mut self, line: Line) {
+        let leaf = self.count(&line);
         let form = |point, isolated, loaded, kind| Form {
             leaf,
             point,

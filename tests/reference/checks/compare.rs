@@ -90,6 +90,32 @@ impl Met {
             }
         }
     }
+
+    /// Whether each kind of answer was met.
+    fn check(&self, tally: &mut Tally) {
+        for word in [
+            Word::Go,
+            Word::Suspend,
+            Word::Stay,
+            Word::Resume,
+            Word::Ended,
+        ] {
+            tally.holds(self.words[word as usize] > 0, || {
+                format!("{word:?} is answered")
+            });
+        }
+        for number in 12..=17 {
+            tally.holds(self.refused[number] > 0, || {
+                format!("refusal {number} is met")
+            });
+        }
+        tally.holds(self.deepest >= 5, || {
+            "points at level 5 are met".to_string()
+        });
+        tally.holds(self.late > 0 && self.held > 0, || {
+            "late marks and held margins are met".to_string()
+        });
+    }
 }
 
 /// The reading up to which the next report of this point goes on.
@@ -104,6 +130,104 @@ fn turning(composed: &Composed, controller: &Controller<Composed>, leaf: usize) 
     })
 }
 
+/// Both ways on the same calls.
+struct Both<'a> {
+    listed: &'a Listed<'a>,
+    composed: &'a Composed<'a>,
+    by_runs: Controller<'a, Listed<'a>>,
+    by_forms: Controller<'a, Composed<'a>>,
+    /// The calls made.
+    told: Vec<String>,
+}
+
+impl<'a> Both<'a> {
+    fn new(listed: &'a Listed<'a>, composed: &'a Composed<'a>) -> Both<'a> {
+        Both {
+            listed,
+            composed,
+            by_runs: Controller::new(listed),
+            by_forms: Controller::new(composed),
+            told: Vec::new(),
+        }
+    }
+
+    fn release(&mut self) -> (Answer, Answer) {
+        self.told.push("release".to_string());
+        (self.by_runs.release(), self.by_forms.release())
+    }
+
+    fn report(&mut self, number: u64, at: u64) -> (Answer, Answer) {
+        self.told.push(format!("report {number} {at}"));
+        let first = self.by_runs.report(number, at);
+        (first, self.by_forms.report(number, at))
+    }
+
+    fn end(&mut self, at: u64) -> (Answer, Answer) {
+        self.told.push(format!("end {at}"));
+        (self.by_runs.end(at), self.by_forms.end(at))
+    }
+
+    /// The number of a point that can come next, or, where `stray` asks for it
+    /// or none can, any number.
+    fn number(&self, random: &mut Random, stray: bool) -> u64 {
+        let next = self.by_runs.place();
+        let next = next.map(|place| self.listed.next_points(place));
+        let next: Vec<usize> = next.unwrap_or_default().into_iter().collect();
+        if next.is_empty() || stray {
+            return random.below(self.listed.plan().leaves().len() as u64 + 2);
+        }
+        random.pick(&next) as u64
+    }
+
+    /// A call that mostly goes on with the run; its two answers.
+    fn call(&mut self, random: &mut Random) -> (Answer, Answer) {
+        let plan = self.listed.plan();
+        let last = self.by_runs.last_reading();
+        match random.below(12) {
+            0 => self.release(),
+            1 => self.end(reading(random, plan, last, plan.deadline)),
+            _ if !self.by_runs.is_running() && random.chance(90) => self.release(),
+            roll => {
+                let number = self.number(random, roll == 2);
+                let turning = turning(self.composed, &self.by_forms, number as usize);
+                self.report(number, reading(random, plan, last, turning))
+            }
+        }
+    }
+
+    fn shown(&self) -> String {
+        let plan = text(self.listed.plan());
+        format!("{:?} on {}", self.told, String::from_utf8_lossy(&plan))
+    }
+
+    fn compare_states(&self, tally: &mut Tally) {
+        let (runs, forms) = (&self.by_runs, &self.by_forms);
+        tally.equal(
+            (runs.is_running(), runs.suspended(), runs.last_reading()),
+            (forms.is_running(), forms.suspended(), forms.last_reading()),
+            || self.shown(),
+        );
+        tally.equal(runs.times(), forms.times(), || self.shown());
+    }
+
+    /// Compares where the run stands; gives its level, 0 where none is running.
+    fn compare_places(&self, tally: &mut Tally) -> usize {
+        let (listed, composed) = (self.listed, self.composed);
+        let (Some(history), Some(place)) = (self.by_runs.place(), self.by_forms.place()) else {
+            return 0;
+        };
+        let what = || self.shown();
+        tally.equal(listed.remaining(history), composed.remaining(place), what);
+        let (by_runs, by_forms) = (listed.next_points(history), composed.next_points(place));
+        tally.equal(by_runs, by_forms, what);
+        tally.equal(listed.can_end(history), composed.can_end(place), what);
+        let level = composed.level_in_run(place);
+        tally.equal(listed.level_in_run(history), level, what);
+        level
+    }
+}
+
+/// Forty calls from a fresh state.
 fn histories(
     tally: &mut Tally,
     random: &mut Random,
@@ -111,74 +235,13 @@ fn histories(
     composed: &Composed,
     met: &mut Met,
 ) {
-    let plan = listed.plan();
-    let leaves = plan.leaves().len() as u64;
-    let mut by_runs = Controller::new(listed);
-    let mut by_forms = Controller::new(composed);
-    let mut told = Vec::new();
+    let mut both = Both::new(listed, composed);
     for _ in 0..40 {
-        let last = by_runs.last_reading();
-        let (call, first, second) = match random.below(12) {
-            0 => ("release".to_string(), by_runs.release(), by_forms.release()),
-            1 => {
-                let at = reading(random, plan, last, plan.deadline);
-                (format!("end {at}"), by_runs.end(at), by_forms.end(at))
-            }
-            _ if !by_runs.is_running() && random.chance(90) => {
-                ("release".to_string(), by_runs.release(), by_forms.release())
-            }
-            roll => {
-                let next = by_runs.place().map(|place| listed.next_points(place));
-                let next: Vec<usize> = next.unwrap_or_default().into_iter().collect();
-                let number = if next.is_empty() || roll == 2 {
-                    random.below(leaves + 2)
-                } else {
-                    random.pick(&next) as u64
-                };
-                let turning = turning(composed, &by_forms, number as usize);
-                let at = reading(random, plan, last, turning);
-                let first = by_runs.report(number, at);
-                (
-                    format!("report {number} {at}"),
-                    first,
-                    by_forms.report(number, at),
-                )
-            }
-        };
-        told.push(call);
+        let (first, second) = both.call(random);
         met.note(first);
-        let what = || format!("{told:?} on {}", String::from_utf8_lossy(&text(plan)));
-        tally.equal(first.line(), second.line(), what);
-        let state = |running, suspended, reading| (running, suspended, reading);
-        tally.equal(
-            state(
-                by_runs.is_running(),
-                by_runs.suspended(),
-                by_runs.last_reading(),
-            ),
-            state(
-                by_forms.is_running(),
-                by_forms.suspended(),
-                by_forms.last_reading(),
-            ),
-            what,
-        );
-        tally.equal(by_runs.times(), by_forms.times(), what);
-        if let (Some(history), Some(place)) = (by_runs.place(), by_forms.place()) {
-            tally.equal(listed.remaining(history), composed.remaining(place), what);
-            tally.equal(
-                listed.next_points(history),
-                composed.next_points(place),
-                what,
-            );
-            tally.equal(listed.can_end(history), composed.can_end(place), what);
-            met.deepest = met.deepest.max(composed.level_in_run(place));
-            tally.equal(
-                listed.level_in_run(history),
-                composed.level_in_run(place),
-                what,
-            );
-        }
+        tally.equal(first.line(), second.line(), || both.shown());
+        both.compare_states(tally);
+        met.deepest = met.deepest.max(both.compare_places(tally));
     }
 }
 
@@ -203,24 +266,5 @@ pub fn check(tally: &mut Tally) {
     tally.holds(plans > PLANS / 2 && rich > PLANS / 10, || {
         "plans to compare".to_string()
     });
-    for word in [
-        Word::Go,
-        Word::Suspend,
-        Word::Stay,
-        Word::Resume,
-        Word::Ended,
-    ] {
-        tally.holds(met.words[word as usize] > 0, || {
-            format!("{word:?} is answered")
-        });
-    }
-    for number in 12..=17 {
-        tally.holds(met.refused[number] > 0, || {
-            format!("refusal {number} is met")
-        });
-    }
-    tally.holds(met.deepest >= 5, || "points at level 5 are met".to_string());
-    tally.holds(met.late > 0 && met.held > 0, || {
-        "late marks and held margins are met".to_string()
-    });
+    met.check(tally);
 }

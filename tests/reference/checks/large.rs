@@ -1,7 +1,7 @@
 //! Composed numbers of plans too large to list, against single runs of them:
 //! no run exceeds them, and the dearest run meets them.
 
-use reference::composed::Composed;
+use reference::composed::{Composed, Place};
 use reference::gen::{self, Random};
 use reference::numbers::Numbers;
 use reference::plan::{text, Form, Kind, Plan};
@@ -55,56 +55,88 @@ impl Dearest<'_> {
     }
 }
 
-/// Follows a run report by report. The remaining time is at least what the run
-/// still takes alone, and exactly that on the dearest run; each stretch is at
-/// least what the run takes under load up to its next point.
+/// A run that is followed report by report. The remaining time is at least what
+/// the run still takes alone, and exactly that on the dearest run; each stretch is
+/// at least what the run takes under load up to its next point.
+struct Followed<'a> {
+    composed: &'a Composed<'a>,
+    dearest: bool,
+    place: Place,
+    /// What the run still takes alone.
+    isolated: u64,
+    stretch: u64,
+    /// What it has taken under load since its last point.
+    loaded: u64,
+}
+
+impl Followed<'_> {
+    fn shown(&self) -> String {
+        String::from_utf8_lossy(&text(self.composed.plan())).into_owned()
+    }
+
+    fn fits(&self, remaining: u64) -> bool {
+        match self.dearest {
+            true => remaining == self.isolated,
+            false => remaining >= self.isolated,
+        }
+    }
+
+    /// Moves to a point; false if it cannot come next.
+    fn report(&mut self, tally: &mut Tally, leaf: usize) -> bool {
+        tally.holds(self.loaded <= self.stretch, || {
+            format!("stretch up to {leaf} in {}", self.shown())
+        });
+        let next = self.composed.report(&self.place, leaf);
+        tally.holds(next.is_some(), || {
+            format!("report of {leaf} in {}", self.shown())
+        });
+        let Some(next) = next else {
+            return false;
+        };
+        self.place = next;
+        let remaining = self.composed.remaining(&self.place);
+        tally.holds(self.fits(remaining), || {
+            let isolated = self.isolated;
+            let shown = self.shown();
+            format!("remaining {remaining} for {isolated} at {leaf} in {shown}")
+        });
+        self.stretch = self.composed.stretch(leaf);
+        self.loaded = 0;
+        true
+    }
+
+    fn end(&self, tally: &mut Tally) {
+        tally.holds(self.loaded <= self.stretch, || {
+            format!("stretch up to the end in {}", self.shown())
+        });
+        tally.holds(self.composed.can_end(&self.place), || {
+            format!("end of {}", self.shown())
+        });
+    }
+}
+
 fn follow(tally: &mut Tally, composed: &Composed, run: &[usize], dearest: bool) {
-    let plan = composed.plan();
-    let shown = || String::from_utf8_lossy(&text(plan)).into_owned();
-    let leaves = plan.leaves();
-    let mut isolated: u64 = run.iter().map(|&leaf| leaves[leaf].1.isolated).sum();
-    let mut place = composed.release();
-    let mut stretch = composed.release_stretch();
-    let mut loaded = 0;
-    let fits = |remaining: u64, taken: u64| match dearest {
-        true => remaining == taken,
-        false => remaining >= taken,
+    let leaves = composed.plan().leaves();
+    let mut followed = Followed {
+        composed,
+        dearest,
+        place: composed.release(),
+        isolated: run.iter().map(|&leaf| leaves[leaf].1.isolated).sum(),
+        stretch: composed.release_stretch(),
+        loaded: 0,
     };
-    tally.holds(fits(composed.total(), isolated), || {
-        format!("total of {}", shown())
+    tally.holds(followed.fits(composed.total()), || {
+        format!("total of {}", followed.shown())
     });
     for &leaf in run {
         let form = leaves[leaf].1;
-        if form.point {
-            tally.holds(loaded <= stretch, || {
-                format!("stretch up to {leaf} in {}", shown())
-            });
-            let next = composed.report(&place, leaf);
-            tally.holds(next.is_some(), || {
-                format!("report of {leaf} in {}", shown())
-            });
-            let Some(next) = next else {
-                return;
-            };
-            place = next;
-            let remaining = composed.remaining(&place);
-            let what = || {
-                format!(
-                    "remaining {remaining} for {isolated} at {leaf} in {}",
-                    shown()
-                )
-            };
-            tally.holds(fits(remaining, isolated), what);
-            stretch = composed.stretch(leaf);
-            loaded = 0;
+        if form.point && !followed.report(tally, leaf) {
+            return;
         }
-        isolated -= form.isolated;
-        loaded += form.loaded;
+        followed.isolated -= form.isolated;
+        followed.loaded += form.loaded;
     }
-    tally.holds(loaded <= stretch, || {
-        format!("stretch up to the end in {}", shown())
-    });
-    tally.holds(composed.can_end(&place), || format!("end of {}", shown()));
+    followed.end(tally);
 }
 
 pub fn check(tally: &mut Tally) {

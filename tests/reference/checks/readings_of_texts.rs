@@ -1,285 +1,142 @@
 //! The readings taken where document 01 leaves something open about reading a
 //! plan, each with an example that tells it from the other reading.
 
-use reference::aimed::{joined, task, words};
+use reference::aimed::{ifs, joined, loops, many, nest, task, words};
 use reference::plan::{self, Refusal};
 
 use super::tally::Tally;
 
 const LEAF: &str = "(leaf s 0 0)";
-const LOOP: &str = "(loop s 1 0 0";
-
-/// One function of open lines, what they hold, and as many closing brackets.
-fn nested(open: &str, count: usize, inner: &[&str]) -> Vec<String> {
-    [
-        vec![open.to_string(); count],
-        words(inner),
-        words(&vec![")"; count]),
-    ]
-    .concat()
-}
+const CALL: &str = "(call s 0 0 0)";
 
 fn reads(tally: &mut Tally, reading: &str, text: &str, row: usize, wanted: Option<Refusal>) {
     let found = plan::read(text.as_bytes(), row).err();
     tally.equal(found, wanted, || format!("{reading}: {text:.200}"));
 }
 
-fn levels_and_brackets(tally: &mut Tally) {
-    let only_forms = "only forms have levels";
-    reads(
-        tally,
-        only_forms,
-        &task(&[nested(LOOP, 32, &[])]),
-        512,
-        None,
-    );
-    reads(
-        tally,
-        only_forms,
-        &task(&[nested(LOOP, 32, &[LEAF])]),
-        512,
-        Some((7, 35)),
-    );
-    let call = "(call s 0 0 0)";
-    reads(
-        tally,
-        only_forms,
-        &task(&[vec![], nested(LOOP, 31, &[call])]),
-        512,
-        None,
-    );
-    let of_leaf = task(&[words(&[LEAF]), nested(LOOP, 31, &[call])]);
-    reads(
-        tally,
-        "a call adds what it calls",
-        &of_leaf,
-        512,
-        Some((7, 37)),
-    );
-    let through = |count: usize| {
-        task(&[
-            nested(LOOP, 14, &[LEAF]),
-            words(&[call]),
-            nested(LOOP, count, &["(call s 1 0 0)"]),
-        ])
-    };
-    reads(
-        tally,
-        "heights go through all calls",
-        &through(15),
-        512,
-        None,
-    );
-    reads(
-        tally,
-        "heights go through all calls",
-        &through(16),
-        512,
-        Some((7, 53)),
-    );
-
-    // Task, fun and 31 times if and then are 64 brackets.
-    let parts = |inner: &[&str]| {
-        let mut lines: Vec<String> = (0..31)
-            .flat_map(|_| words(&["(if s 0 0", "(then"]))
-            .collect();
-        lines.extend(words(inner));
-        lines.extend((0..31).flat_map(|_| words(&[")", "(else", ")", ")"])));
-        task(&[lines])
-    };
-    let brackets = "task, fun, loop, if, then and else count as brackets";
-    reads(tally, brackets, &parts(&[LEAF]), 512, None);
-    reads(tally, brackets, &parts(&[LOOP, ")"]), 512, Some((7, 65)));
-    reads(
-        tally,
-        "leaf and call lines are no brackets",
-        &parts(&[LEAF, LEAF, LEAF]),
-        512,
-        None,
-    );
+fn accepts(tally: &mut Tally, reading: &str, text: &str) {
+    reads(tally, reading, text, 512, None);
 }
 
-fn lines_and_ends(tally: &mut Tally) {
-    let main = |lines: &[&str]| task(&[words(lines)]);
+fn refuses(tally: &mut Tally, reading: &str, text: &str, refusal: Refusal) {
+    reads(tally, reading, text, 512, Some(refusal));
+}
+
+/// A plan of one function.
+fn main(lines: &[&str]) -> String {
+    task(&[words(lines)])
+}
+
+fn levels(tally: &mut Tally) {
+    let only_forms = "only forms have levels";
+    accepts(tally, only_forms, &task(&[loops(32, &[])]));
+    refuses(tally, only_forms, &task(&[loops(32, &[LEAF])]), (7, 35));
+    let of_nothing = task(&[vec![], loops(31, &[CALL])]);
+    accepts(tally, only_forms, &of_nothing);
+    let of_leaf = task(&[words(&[LEAF]), loops(31, &[CALL])]);
+    refuses(tally, "a call adds what it calls", &of_leaf, (7, 37));
+    let through = |count: usize| {
+        task(&[
+            loops(14, &[LEAF]),
+            words(&[CALL]),
+            loops(count, &["(call s 1 0 0)"]),
+        ])
+    };
+    let heights = "heights go through all calls";
+    accepts(tally, heights, &through(15));
+    refuses(tally, heights, &through(16), (7, 53));
+}
+
+fn brackets(tally: &mut Tally) {
+    // Task, fun and 31 times if and then are 64 brackets.
+    let in_64 = |inner: &[&str]| task(&[ifs(31, inner)]);
+    let brackets = "task, fun, loop, if, then and else count as brackets";
+    accepts(tally, brackets, &in_64(&[LEAF]));
+    refuses(tally, brackets, &in_64(&["(loop s 1 0 0", ")"]), (7, 65));
+    let no_brackets = "leaf and call lines are no brackets";
+    accepts(tally, no_brackets, &in_64(&[LEAF, LEAF, LEAF]));
+}
+
+fn numbers(tally: &mut Tally) {
     let zeros = "a leading zero is form, also out of range";
-    reads(tally, zeros, &main(&["(leaf s 0 0)"]), 512, None);
-    reads(tally, zeros, &main(&["(leaf s 00 0)"]), 512, Some((2, 3)));
-    reads(
-        tally,
-        zeros,
-        &main(&["(leaf s 0 01048577)"]),
-        512,
-        Some((2, 3)),
-    );
-    reads(
-        tally,
-        zeros,
-        &main(&["(leaf s 0 1048577)"]),
-        512,
-        Some((3, 3)),
-    );
-    let long = format!("(leaf s 0 {})", "7".repeat(500));
-    reads(
-        tally,
-        "any length is judged by value",
-        &main(&[&long]),
-        512,
-        Some((3, 3)),
-    );
+    accepts(tally, zeros, &main(&["(leaf s 0 0)"]));
+    refuses(tally, zeros, &main(&["(leaf s 00 0)"]), (2, 3));
+    refuses(tally, zeros, &main(&["(leaf s 0 01048577)"]), (2, 3));
+    refuses(tally, zeros, &main(&["(leaf s 0 1048577)"]), (3, 3));
+    let long = main(&[&format!("(leaf s 0 {})", "7".repeat(500))]);
+    refuses(tally, "any length is judged by value", &long, (3, 3));
+}
 
-    let nesting = "wrong nesting comes before range";
-    reads(
-        tally,
-        nesting,
-        &main(&["(if s 0 0", "(leaf s 0 1048577)"]),
-        512,
-        Some((2, 4)),
-    );
-    reads(
-        tally,
-        nesting,
-        "(task 9 0\n(leaf s 0 1048577)\n",
-        512,
-        Some((2, 2)),
-    );
-    reads(
-        tally,
-        "a task without a function",
-        "(task 9 0\n)\n",
-        512,
-        Some((2, 2)),
-    );
-    reads(
-        tally,
-        "an if without parts",
-        &main(&["(if s 0 0", ")"]),
-        512,
-        Some((2, 4)),
-    );
-    reads(
-        tally,
-        "parts swapped",
-        &main(&["(if s 0 0", "(else", ")"]),
-        512,
-        Some((2, 4)),
-    );
+fn nesting(tally: &mut Tally) {
+    let first = "wrong nesting comes before range";
+    let in_if = main(&["(if s 0 0", "(leaf s 0 1048577)"]);
+    refuses(tally, first, &in_if, (2, 4));
+    refuses(tally, first, "(task 9 0\n(leaf s 0 1048577)\n", (2, 2));
+    let empty = "a task without a function";
+    refuses(tally, empty, "(task 9 0\n)\n", (2, 2));
+    let no_parts = main(&["(if s 0 0", ")"]);
+    refuses(tally, "an if without parts", &no_parts, (2, 4));
+    let swapped = main(&["(if s 0 0", "(else", ")"]);
+    refuses(tally, "parts swapped", &swapped, (2, 4));
     let doubled = main(&["(if s 0 0", "(then", ")", "(then", ")"]);
-    reads(tally, "parts doubled", &doubled, 512, Some((2, 6)));
-    reads(
-        tally,
-        "a form directly in an if",
-        &main(&["(if s 0 0", LEAF]),
-        512,
-        Some((2, 4)),
-    );
+    refuses(tally, "parts doubled", &doubled, (2, 6));
+    let direct = main(&["(if s 0 0", LEAF]);
+    refuses(tally, "a form directly in an if", &direct, (2, 4));
+}
 
-    reads(tally, "the empty text", "", 512, Some((2, 1)));
+fn ends(tally: &mut Tally) {
+    refuses(tally, "the empty text", "", (2, 1));
     let early = joined(&["(task 9 0", "(fun", LEAF]);
-    reads(tally, "a text that ends early", &early, 512, Some((2, 4)));
+    refuses(tally, "a text that ends early", &early, (2, 4));
+    let with = |more: &str| format!("{early}{more}");
     let no_feed = "a last line without a line feed";
-    reads(tally, no_feed, &(early.clone() + ")"), 512, Some((2, 4)));
-    reads(
-        tally,
-        no_feed,
-        &(early.clone() + "(leaf s 1 0)"),
-        512,
-        Some((2, 4)),
-    );
-    reads(
-        tally,
-        no_feed,
-        &(early.clone() + "(leaf s 1 0)\n"),
-        512,
-        Some((5, 4)),
-    );
+    refuses(tally, no_feed, &with(")"), (2, 4));
+    refuses(tally, no_feed, &with("(leaf s 1 0)"), (2, 4));
+    refuses(tally, no_feed, &with("(leaf s 1 0)\n"), (5, 4));
     let complete = joined(&["(task 9 0", "(fun", ")", ")"]);
-    reads(tally, "anything after the task", &complete, 512, None);
+    let after = "anything after the task";
+    accepts(tally, after, &complete);
     for more in ["\n", " ", ")\n", "\n\n", "(task 9 0\n"] {
-        let goes_on = format!("{complete}{more}");
-        reads(
-            tally,
-            "anything after the task",
-            &goes_on,
-            512,
-            Some((2, 5)),
-        );
+        refuses(tally, after, &format!("{complete}{more}"), (2, 5));
     }
     let bytes = |count: usize| format!("{complete}{}", "\n".repeat(count - complete.len()));
-    reads(
-        tally,
-        "65,537 bytes of anything",
-        &bytes(65_537),
-        512,
-        Some((1, 0)),
-    );
-    reads(
-        tally,
-        "65,536 bytes are read",
-        &bytes(65_536),
-        512,
-        Some((2, 5)),
-    );
+    refuses(tally, "65,537 bytes of anything", &bytes(65_537), (1, 0));
+    refuses(tally, "65,536 bytes are read", &bytes(65_536), (2, 5));
 }
 
 fn order_and_rows(tally: &mut Tally) {
     let order = "2 to 7 in that order, whatever the order of the fields";
-    let main = |lines: &[&str]| task(&[words(lines)]);
-    let after_512 = |line: &str| task(&[[vec![LEAF.to_string(); 512], words(&[line])].concat()]);
-    reads(
-        tally,
-        order,
-        &after_512("(leaf s 2 1)"),
-        512,
-        Some((4, 515)),
-    );
-    reads(tally, order, &main(&["(call s 0 2 1)"]), 512, Some((5, 3)));
-    reads(tally, order, &main(&["(call s 16 0 0)"]), 512, Some((3, 3)));
-    let deep_call = task(&[nested(LOOP, 32, &["(call s 0 0 0)"])]);
-    reads(tally, order, &deep_call, 512, Some((6, 35)));
+    let after_512 = |line: &str| task(&[[many(LEAF, 512), words(&[line])].concat()]);
+    refuses(tally, order, &after_512("(leaf s 2 1)"), (4, 515));
+    refuses(tally, order, &main(&["(call s 0 2 1)"]), (5, 3));
+    refuses(tally, order, &main(&["(call s 16 0 0)"]), (3, 3));
+    refuses(tally, order, &task(&[loops(32, &[CALL])]), (6, 35));
 
-    reads(
-        tally,
-        "a row of no records",
-        &main(&[LEAF]),
-        0,
-        Some((4, 3)),
-    );
-    reads(tally, "a row of one record", &main(&[LEAF]), 1, None);
-    reads(tally, "no leaf needs no record", &main(&[]), 0, None);
+    let (one, none) = (main(&[LEAF]), main(&[]));
+    reads(tally, "a row of no records", &one, 0, Some((4, 3)));
+    reads(tally, "a row of one record", &one, 1, None);
+    reads(tally, "no leaf needs no record", &none, 0, None);
     reads(tally, "a longer row", &after_512(LEAF), 600, Some((4, 515)));
+}
 
+fn whole_plans(tally: &mut Tally) {
     let in_if = ["(if s 0 0", "(then", "(leaf p 0 0)", ")", "(else", ")", ")"];
-    reads(
-        tally,
-        "a silent if may hold points",
-        &main(&in_if),
-        512,
-        None,
-    );
-    let in_loop = nested(LOOP, 1, &in_if);
-    reads(
-        tally,
-        "but inside a silent loop",
-        &task(&[in_loop]),
-        512,
-        Some((8, 0)),
-    );
-    let total = |more: &str| {
-        let square = nested("(loop s 1024 0 0", 2, &["(leaf s 1048576 1048576)"]);
-        task(&[[square, words(&[more])].concat()])
-    };
-    reads(tally, "exactly 2^40 passes", &total(LEAF), 512, None);
-    reads(
-        tally,
-        "one more does not",
-        &total("(leaf s 0 1)"),
-        512,
-        Some((10, 0)),
-    );
+    accepts(tally, "a silent if may hold points", &main(&in_if));
+    let in_loop = task(&[loops(1, &in_if)]);
+    refuses(tally, "but inside a silent loop", &in_loop, (8, 0));
+    let most = "(leaf s 1048576 1048576)";
+    let square = nest(&["(loop s 1024 0 0"], 2, &[most], &[")"]);
+    let total = |more: &str| task(&[[square.clone(), words(&[more])].concat()]);
+    accepts(tally, "exactly 2^40 passes", &total(LEAF));
+    refuses(tally, "one more does not", &total("(leaf s 0 1)"), (10, 0));
 }
 
 pub fn check(tally: &mut Tally) {
-    levels_and_brackets(tally);
-    lines_and_ends(tally);
+    levels(tally);
+    brackets(tally);
+    numbers(tally);
+    nesting(tally);
+    ends(tally);
     order_and_rows(tally);
+    whole_plans(tally);
 }

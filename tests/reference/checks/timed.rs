@@ -16,6 +16,10 @@ struct Timed<'a> {
     controller: Controller<'a, Composed<'a>>,
     clock: u64,
     others_run: bool,
+    /// How the ticks of this run are chosen.
+    habit: u64,
+    /// Whether the condition has held at every decision of this run.
+    held: bool,
 }
 
 /// How many ticks something takes that may take up to `most`.
@@ -28,8 +32,12 @@ fn ticks(random: &mut Random, habit: u64, most: u64) -> u64 {
 }
 
 impl Timed<'_> {
+    fn shown(&self) -> String {
+        String::from_utf8_lossy(&text(self.plan)).into_owned()
+    }
+
     /// Takes over the answer of a call of the timed run; false if it was refused.
-    fn answered(&mut self, random: &mut Random, habit: u64, answer: Answer) -> bool {
+    fn answered(&mut self, random: &mut Random, answer: Answer) -> bool {
         let (word, late) = match answer {
             Answer::Refused(_) => return false,
             Answer::End { word, late } => (word, late),
@@ -38,7 +46,7 @@ impl Timed<'_> {
         match word {
             Word::Suspend => {
                 self.others_run = false;
-                self.clock += ticks(random, habit, self.plan.switch);
+                self.clock += ticks(random, self.habit, self.plan.switch);
             }
             Word::Resume => self.others_run = true,
             Word::Go | Word::Stay | Word::Ended => {}
@@ -73,52 +81,72 @@ impl Timed<'_> {
             format!("{answer:?} for a stray call")
         });
     }
-}
 
-fn timed_run(timed: &mut Timed, random: &mut Random, run: &[usize], tally: &mut Tally) {
-    let shown = || String::from_utf8_lossy(&text(timed.plan)).into_owned();
-    let leaves = timed.plan.leaves();
-    let habit = random.below(3);
-    timed.clock = 0;
-    let answer = timed.controller.release();
-    let mut held = timed.condition(0);
-    tally.holds(timed.answered(random, habit, answer), || {
-        format!("release on {}", shown())
-    });
-    tally.equal(timed.others_run, held, || {
-        format!("others after release on {}", shown())
-    });
-    for &leaf in run {
-        let form = leaves[leaf].1;
-        if form.point {
-            let reading = timed.clock;
-            let answer = timed.controller.report(leaf as u64, reading);
-            held &= timed.condition(reading);
-            let what = || format!("{answer:?} at {reading} for leaf {leaf} on {}", shown());
-            tally.holds(
-                timed.answered(random, habit, answer) && reading <= timed.plan.deadline,
-                what,
-            );
-            tally.equal(timed.others_run, held, what);
-            if random.chance(10) {
-                timed.disturb(random, tally);
-            }
-        }
-        let most = if timed.others_run {
-            form.loaded
-        } else {
-            form.isolated
-        };
-        timed.clock += ticks(random, habit, most);
+    fn release(&mut self, random: &mut Random, tally: &mut Tally) {
+        self.clock = 0;
+        let answer = self.controller.release();
+        self.held = self.condition(0);
+        tally.holds(self.answered(random, answer), || {
+            format!("release on {}", self.shown())
+        });
+        tally.equal(self.others_run, self.held, || {
+            format!("others after release on {}", self.shown())
+        });
     }
-    let answer = timed.controller.end(timed.clock);
-    let what = || format!("{answer:?} at {} for the end on {}", timed.clock, shown());
-    tally.holds(timed.clock <= timed.plan.deadline, what);
-    let ended = timed.answered(random, habit, answer);
-    tally.holds(ended && timed.others_run, || {
-        format!("{answer:?} for the end on {}", shown())
-    });
-    timed.disturb(random, tally);
+
+    fn report(&mut self, random: &mut Random, leaf: usize, tally: &mut Tally) {
+        let reading = self.clock;
+        let answer = self.controller.report(leaf as u64, reading);
+        self.held &= self.condition(reading);
+        let kept = self.answered(random, answer) && reading <= self.plan.deadline;
+        let what = || {
+            format!(
+                "{answer:?} at {reading} for leaf {leaf} on {}",
+                self.shown()
+            )
+        };
+        tally.holds(kept, what);
+        tally.equal(self.others_run, self.held, what);
+        if random.chance(10) {
+            self.disturb(random, tally);
+        }
+    }
+
+    fn end(&mut self, random: &mut Random, tally: &mut Tally) {
+        let answer = self.controller.end(self.clock);
+        tally.holds(self.clock <= self.plan.deadline, || {
+            format!(
+                "{answer:?} at {} for the end on {}",
+                self.clock,
+                self.shown()
+            )
+        });
+        let ended = self.answered(random, answer);
+        tally.holds(ended && self.others_run, || {
+            format!("{answer:?} for the end on {}", self.shown())
+        });
+        self.disturb(random, tally);
+    }
+
+    /// A run from its release to its end, with stray calls in between.
+    fn play(&mut self, random: &mut Random, run: &[usize], tally: &mut Tally) {
+        let leaves = self.plan.leaves();
+        self.habit = random.below(3);
+        self.release(random, tally);
+        for &leaf in run {
+            let form = leaves[leaf].1;
+            if form.point {
+                self.report(random, leaf, tally);
+            }
+            let most = if self.others_run {
+                form.loaded
+            } else {
+                form.isolated
+            };
+            self.clock += ticks(random, self.habit, most);
+        }
+        self.end(random, tally);
+    }
 }
 
 /// Several runs of one plan, run after run on one state.
@@ -134,11 +162,13 @@ fn plan_runs(tally: &mut Tally, random: &mut Random, plan: &Plan, long: usize) -
         controller,
         clock: 0,
         others_run: true,
+        habit: 0,
+        held: true,
     };
     let mut count = 0;
     for _ in 0..4 {
         if let Some(run) = gen::random_run(random, plan, long) {
-            timed_run(&mut timed, random, &run, tally);
+            timed.play(random, &run, tally);
             count += 1;
         }
     }
