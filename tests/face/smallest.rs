@@ -68,45 +68,53 @@ fn marked(tally: &mut Tally) {
     play(tally, "m11, late", &with(18), None, &lines);
 }
 
-/// Costs, switch cost and deadline at their caps, 2^20 and 2^40, and one above.
-fn caps(tally: &mut Tally) {
-    let (cost, most) = (MOST_COST, MOST_DEADLINE);
-    let with = |deadline: u64| text(deadline, cost, cost, cost);
-    let cases: [(u64, &[&str]); 5] = [
-        (
-            2 * cost - 1,
-            &["release -> refused 13", "end 0 -> refused 14"],
-        ),
-        (
-            2 * cost,
-            &["release -> suspend 1048576 -1048576 0", "end 0 -> resume 0"],
-        ),
-        (
-            3 * cost - 1,
-            &["release -> suspend 1048576 -1 0", "end 3145728 -> resume 1"],
-        ),
-        (
-            3 * cost,
-            &["release -> go 1048576 0 0", "end 3145728 -> ended 0"],
-        ),
-        // 2^40 - 3 * 2^20.
-        (
-            most,
-            &[
-                "release -> go 1048576 1099508482048 0",
-                "report 0 0 -> refused 15",
-                "end 1099511627776 -> ended 0",
-            ],
-        ),
-    ];
-    for (deadline, lines) in cases {
-        play(tally, "costs at their caps", &with(deadline), None, lines);
+/// Costs and switch cost at their cap, 2^20: deadlines around what the plan needs,
+/// and the longest, 2^40, with the calls on each.
+const AT_CAPS: [(u64, &[&str]); 5] = [
+    (
+        2 * MOST_COST - 1,
+        &["release -> refused 13", "end 0 -> refused 14"],
+    ),
+    (
+        2 * MOST_COST,
+        &["release -> suspend 1048576 -1048576 0", "end 0 -> resume 0"],
+    ),
+    (
+        3 * MOST_COST - 1,
+        &["release -> suspend 1048576 -1 0", "end 3145728 -> resume 1"],
+    ),
+    (
+        3 * MOST_COST,
+        &["release -> go 1048576 0 0", "end 3145728 -> ended 0"],
+    ),
+    // 2^40 - 3 * 2^20.
+    (
+        MOST_DEADLINE,
+        &[
+            "release -> go 1048576 1099508482048 0",
+            "report 0 0 -> refused 15",
+            "end 1099511627776 -> ended 0",
+        ],
+    ),
+];
+
+fn at_caps(tally: &mut Tally) {
+    let cost = MOST_COST;
+    for (deadline, lines) in AT_CAPS {
+        let text = text(deadline, cost, cost, cost);
+        play(tally, "costs at their caps", &text, None, lines);
     }
     let lines = [
         "release -> go 0 1099511627776 0",
         "end 1099511627777 -> ended 1",
     ];
-    play(tally, "no costs", &text(most, 0, 0, 0), None, &lines);
+    let text = text(MOST_DEADLINE, 0, 0, 0);
+    play(tally, "no costs", &text, None, &lines);
+}
+
+/// Costs, switch cost and deadline one above their caps, and no deadline.
+fn beyond_caps(tally: &mut Tally) {
+    let (cost, most) = (MOST_COST, MOST_DEADLINE);
     let beyond = [
         (text(most + 1, 3, 7, 9), 3, 1),
         (text(0, 3, 7, 9), 3, 1),
@@ -121,5 +129,6 @@ fn caps(tally: &mut Tally) {
 
 pub fn compare_all(tally: &mut Tally) {
     marked(tally);
-    caps(tally);
+    at_caps(tally);
+    beyond_caps(tally);
 }

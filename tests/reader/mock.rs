@@ -71,6 +71,29 @@ fn answer(text: &[u8], capacity: usize) -> Result<plan::Plan, plan::Refusal> {
     }
 }
 
+/// Plants a difference in the row and the head of a plan with so many leaves and
+/// functions.
+fn plant(row: &mut [u64], head: &mut [u64], leaves: usize, functions: usize) {
+    if planted("else-of-empty") {
+        for record in row.chunks_mut(RECORD).take(leaves) {
+            if record[0] == 3 && record[5] == record[6] {
+                record[5] = 0;
+            }
+        }
+    }
+    if planted("height-of-own") && functions > 1 {
+        let own = head[4 + functions - 1] as usize;
+        let records = row.chunks(RECORD).take(leaves).skip(own);
+        head[21 + functions - 1] = records.map(|record| record[7]).max().unwrap_or(0);
+    }
+    if planted("record-past-last") && leaves < MOST_LEAVES {
+        row[leaves * RECORD] = 0;
+    }
+    if planted("bounds-end") && functions == 16 {
+        head[4 + functions] = 0;
+    }
+}
+
 /// # Safety
 /// Pointers and lengths must be those of live slices.
 #[no_mangle]
@@ -98,26 +121,6 @@ pub unsafe extern "C" fn rolsipay_probe_read(
     let numbers = records::row(&plan);
     row[..numbers.len()].copy_from_slice(&numbers);
     head.copy_from_slice(&table::head(&plan));
-    let leaves = numbers.len() / RECORD;
-    let functions = plan.functions.len();
-    if planted("else-of-empty") {
-        for record in row.chunks_mut(RECORD).take(leaves) {
-            if record[0] == 3 && record[5] == record[6] {
-                record[5] = 0;
-            }
-        }
-    }
-    if planted("height-of-own") && functions > 1 {
-        let own = numbers
-            .chunks(RECORD)
-            .skip(head[4 + functions - 1] as usize);
-        head[21 + functions - 1] = own.map(|record| record[7]).max().unwrap_or(0);
-    }
-    if planted("record-past-last") && leaves < MOST_LEAVES {
-        row[numbers.len()] = 0;
-    }
-    if planted("bounds-end") && functions == 16 {
-        head[4 + functions] = 0;
-    }
+    plant(row, head, numbers.len() / RECORD, plan.functions.len());
     0
 }
