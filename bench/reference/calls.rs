@@ -68,17 +68,26 @@ pub fn release(row: &[Leaf], head: &Head, state: &mut State) -> Reply {
     reply
 }
 
-pub fn report(row: &[Leaf], head: &Head, state: &mut State, point: u64, reading: u64) -> Reply {
-    let Some(row) = table(row, head) else {
-        return refused(BROKEN);
-    };
+/// The place of the run that the state has on a good table, or the number of the refusal.
+fn standing<'a>(row: &'a [Leaf], head: &'a Head, state: &'a State) -> Result<Place<'a>, u64> {
+    let row = table(row, head).ok_or(BROKEN)?;
     if state.running == 0 {
-        return refused(IDLE);
+        return Err(IDLE);
     }
     let place = Place { row, head, state };
-    if !place.holds() {
-        return refused(BROKEN);
+    if place.holds() {
+        Ok(place)
+    } else {
+        Err(BROKEN)
     }
+}
+
+pub fn report(row: &[Leaf], head: &Head, state: &mut State, point: u64, reading: u64) -> Reply {
+    let place = match standing(row, head, state) {
+        Ok(place) => place,
+        Err(number) => return refused(number),
+    };
+    let row = place.row;
     if point >= row.len() as u64 || row[point as usize].point == 0 {
         return refused(STRANGER);
     }
@@ -112,16 +121,10 @@ fn move_on(state: &mut State, next: &Next, point: u64, remaining: u64) {
 }
 
 pub fn end(row: &[Leaf], head: &Head, state: &mut State, reading: u64) -> Reply {
-    let Some(row) = table(row, head) else {
-        return refused(BROKEN);
+    let place = match standing(row, head, state) {
+        Ok(place) => place,
+        Err(number) => return refused(number),
     };
-    if state.running == 0 {
-        return refused(IDLE);
-    }
-    let place = Place { row, head, state };
-    if !place.holds() {
-        return refused(BROKEN);
-    }
     if reading < state.reading {
         return refused(BACKWARD);
     }
