@@ -10,15 +10,16 @@ use native.Mathlib.Numerals.{add-one}
 use lib.Dec.{eqb}
 use lib.ListN.{length, getD, set, replicate, length-set}
 use lib.Seq.{sets, length-sets, getD-set-same, getD-set-other}
-use borrow.Author.Tests.{eq-eqb, ne-eqb}
 use Rattle.model.specs.Plan.{M, Lines, close, leaf-line, call-line, loop-line, if-line}
 use Rattle.model.specs.Total.{tally}
 use Rattle.model.specs.Static.{line-silence}
 use Rattle.rows.specs.Rows.{Rules}
+use Rattle.model.specs.Places.{bit}
+use Rattle.model.proofs.Bits.{bit-told, bit-low}
 use Rattle.columns.specs.declared.Quiet.{Quiet}
 use Rattle.columns.specs.Sums.{limit, Under}
 use Rattle.columns.specs.Columns.{column, tail-rule, Sized}
-use Rattle.columns.specs.Quiet.{heard, head-at, Hush, flag}
+use Rattle.columns.specs.Quiet.{heard, head-at, Hush}
 use Rattle.columns.specs.Stretches.{stretch-rule, raise, raised}
 use Rattle.columns.specs.Whole.{Costed, risen, painted, tailed}
 use Rattle.columns.proofs.Sizes.{round-le}
@@ -121,19 +122,11 @@ pub driven : {w starts ms p : List ℕ} {n f : ℕ} {q : ℕ → ℕ → ℕ} {v
 driven {n = n} {f = f} h d = let e : n - f ≡ n = omega arith in rw e at (d .paints)
 
 -- Silences of functions, kept in a row of three numbers for each.
-flagged : (p : Bool) → eqb (flag p) 1 ≡ p
-flagged true = eq-eqb 1 1 refl
-flagged false = ne-eqb 0 1 (λ e. omega (arith, e))
-
-flag-le : (p : Bool) → flag p ≤ 1
-flag-le true = omega arith
-flag-le false = omega arith
-
 same-quiet : (x y : Quiet) → x .hit ≡ y .hit → x .pass ≡ y .pass → x .free ≡ y .free → x ≡ y
 same-quiet x y p q r = λ i. record { hit = p i; pass = q i; free = r i }
 
 abbrev three : Quiet → List ℕ
-three q = q .hit ∷ q .pass ∷ flag (q .free) ∷ []
+three q = q .hit ∷ q .pass ∷ bit (q .free) ∷ []
 
 kept-here : (h : List ℕ) (f : ℕ) (q : Quiet) → f * 3 + 3 ≤ length h → head-at (sets h (f * 3) (three q)) f ≡ q
 kept-here h f q le =
@@ -143,18 +136,18 @@ kept-here h f q le =
     let lb : length b ≡ length a = simp length-set in
     let e₁ : f * 3 + 1 ≡ suc (f * 3) = omega arith in
     let e₂ : f * 3 + 2 ≡ suc (suc (f * 3)) = omega arith in
-    let x₂ = getD-set-same b (suc (suc (f * 3))) (flag (q .free)) 0 (omega arith) in
-    let x₁ = getD-set-other b (suc (suc (f * 3))) (suc (f * 3)) (flag (q .free)) 0 (omega arith) ∙ getD-set-same a (suc (f * 3)) (q .pass) 0 (omega arith) in
-    let x₀ = getD-set-other b (suc (suc (f * 3))) (f * 3) (flag (q .free)) 0 (omega arith) ∙ getD-set-other a (suc (f * 3)) (f * 3) (q .pass) 0 (omega arith) ∙ getD-set-same h (f * 3) (q .hit) 0 (omega arith) in
-    let y₂ : getD (sets h (f * 3) (three q)) (f * 3 + 2) 0 ≡ flag (q .free) = rw e₂ x₂ in
-    same-quiet _ q x₀ (rw e₁ x₁) (ap (λ u. eqb u 1) y₂ ∙ flagged (q .free))
+    let x₂ = getD-set-same b (suc (suc (f * 3))) (bit (q .free)) 0 (omega arith) in
+    let x₁ = getD-set-other b (suc (suc (f * 3))) (suc (f * 3)) (bit (q .free)) 0 (omega arith) ∙ getD-set-same a (suc (f * 3)) (q .pass) 0 (omega arith) in
+    let x₀ = getD-set-other b (suc (suc (f * 3))) (f * 3) (bit (q .free)) 0 (omega arith) ∙ getD-set-other a (suc (f * 3)) (f * 3) (q .pass) 0 (omega arith) ∙ getD-set-same h (f * 3) (q .hit) 0 (omega arith) in
+    let y₂ : getD (sets h (f * 3) (three q)) (f * 3 + 2) 0 ≡ bit (q .free) = rw e₂ x₂ in
+    same-quiet _ q x₀ (rw e₁ x₁) (ap (λ u. eqb u 1) y₂ ∙ bit-told (q .free))
 
 kept-else : (h : List ℕ) (f g : ℕ) (q : Quiet) → g < f → head-at (sets h (f * 3) (three q)) g ≡ head-at h g
 kept-else h f g q l = same-quiet _ _ (read (g * 3) (omega arith)) (read (g * 3 + 1) (omega arith)) (ap (λ u. eqb u 1) (read (g * 3 + 2) (omega arith)))
   where
     read : (j : ℕ) → j < f * 3 → getD (sets h (f * 3) (three q)) j 0 ≡ getD h j 0
     read j lt =
-        getD-set-other (set (set h (f * 3) (q .hit)) (suc (f * 3)) (q .pass)) (suc (suc (f * 3))) j (flag (q .free)) 0 (omega arith) ∙
+        getD-set-other (set (set h (f * 3) (q .hit)) (suc (f * 3)) (q .pass)) (suc (suc (f * 3))) j (bit (q .free)) 0 (omega arith) ∙
         getD-set-other (set h (f * 3) (q .hit)) (suc (f * 3)) j (q .pass) 0 (omega arith) ∙ getD-set-other h (f * 3) j (q .hit) 0 (omega arith)
 
 -- The first f functions are kept.
@@ -168,7 +161,7 @@ keep-start h e u = record { wide = e; under = u; right = λ v g s lt. absurd (om
 
 pub keep-on : {w starts ms p : List ℕ} {n f : ℕ} {h h′ : List ℕ} {q : Quiet} → f < n → n ≤ 16 → Costed true w starts n ms p
     → ((z : Sized true w ms p 62 (getD starts f 0) (getD starts (f + 1) 0) 0) → Hush q (λ s. line-silence ms (z .laid .part .lines) s) (tally M ms (z .laid .part .lines)))
-    → h′ ≡ sets h (f * 3) (q .hit ∷ q .pass ∷ flag (q .free) ∷ []) → Keeping w starts ms p n f h → Keeping w starts ms p n (f + 1) h′
+    → h′ ≡ sets h (f * 3) (q .hit ∷ q .pass ∷ bit (q .free) ∷ []) → Keeping w starts ms p n f h → Keeping w starts ms p n (f + 1) h′
 keep-on {w} {starts} {ms} {p} {n} {f} {h} {h′} {q} lt few v₀ hq e k =
     let o = hq (fun-sized v₀ f 0 lt (omega (arith, v₀ .exact .small f lt))) in
     let t = v₀ .exact .total f lt in
@@ -176,7 +169,7 @@ keep-on {w} {starts} {ms} {p} {n} {f} {h} {h′} {q} lt few v₀ hq e k =
     let i = f * 3 in
     record {
       wide = ap length e ∙ length-sets h i (three q) ∙ k .wide;
-      under = rw e (under-set limit (set (set h i (q .hit)) (suc i) (q .pass)) (suc (suc i)) (flag (q .free)) (omega (arith, flag-le (q .free)))
+      under = rw e (under-set limit (set (set h i (q .hit)) (suc i) (q .pass)) (suc (suc i)) (bit (q .free)) (omega (arith, bit-low (q .free)))
           (under-set limit (set h i (q .hit)) (suc i) (q .pass) (omega (arith, o .pass)) (under-set limit h i (q .hit) (omega (arith, o .hit)) (k .under))));
       right = λ v g s lt′.
           elim (decLt g f) [

@@ -39,8 +39,3 @@ hushed ms (if-line b then else rest) s = pick (b .point) 0 (M b + max (line-sile
 -- The silence of the function f, in a row of three numbers for each.
 abbrev pub head-at : List ℕ → ℕ → Quiet
 head-at h f = record { hit = getD h (f * 3) 0; pass = getD h (f * 3 + 1) 0; free = eqb (getD h (f * 3 + 2) 0) 1 }
-
--- The truth value as a number.
-abbrev pub flag : Bool → ℕ
-flag true = 1
-flag false = 0

@@ -13,9 +13,9 @@ ghost use Rattle.rows.specs.Rows.{field, block-at};
 ghost use Rattle.columns.specs.Sums.{limit, ceiling, cap, price, lead, Under, Laid};
 ghost use Rattle.columns.specs.Columns.{column, front, turn-rule, turns, tail-rule, Sized, Ready};
 ghost use Rattle.columns.specs.Order.{Kept, Listed};
-ghost use Rattle.model.specs.Places.{pick};
+ghost use Rattle.model.specs.Places.{pick, bit};
 ghost use Rattle.model.specs.Static.{line-silence};
-ghost use Rattle.columns.specs.Quiet.{heard, Hush, Low, hushed, head-at, flag};
+ghost use Rattle.columns.specs.Quiet.{heard, Hush, Low, hushed, head-at};
 ghost use Rattle.columns.specs.Stretches.{marked, stretch-rule, raise, raised, lifted};
 ghost use Rattle.columns.specs.Whole.{Funs, Measured, Costed, Summed, painted, tailed};
 ghost use Rattle.rows.specs.Answers.{Says};
@@ -595,7 +595,7 @@ fn tail_all(
 // Keeps the silence of the function f.
 fn keep(heads: &mut [u64; 48], f: usize, q: Quiet)
     requires { ⌜ f < 16 ⌝ }
-    ensures { λ _. ⌜ now (heads .exit) ≡ sets (now (heads .entry)) (f * 3) (q .hit ∷ q .pass ∷ flag (q .free) ∷ []) ⌝ }
+    ensures { λ _. ⌜ now (heads .exit) ≡ sets (now (heads .entry)) (f * 3) (q .hit ∷ q .pass ∷ bit (q .free) ∷ []) ⌝ }
 {
     let mut free: u64 = 0;
     if q.free {

@@ -8,7 +8,8 @@ use lib.ListN.{length, getD}
 use Rattle.model.specs.Plan.{Block, Lines, close, leaf-line, call-line, loop-line, if-line, Plan}
 use Rattle.model.specs.Levels.{height}
 use Rattle.model.specs.Acceptance.{size, Numbered, Functions, Formed}
-use Rattle.reader.specs.Records.{mark, entry, records, records-all, bounds, row-of, bounds-of}
+use Rattle.model.specs.Places.{bit}
+use Rattle.reader.specs.Records.{entry, records, records-all, bounds, row-of, bounds-of}
 use Rattle.reader.proofs.Records.{records-length, bounds-length}
 
 cons-same : {x y : ℕ} {a b : List ℕ} → x ∷ a ≡ y ∷ b → (x ≡ y) × (a ≡ b)
@@ -26,11 +27,11 @@ append-same (x ∷ a) b (y ∷ c) d h e =
     let (r, s) = append-same a b c d (omega arith) q in
     (ap₂ (λ u v. u ∷ v) p r, s)
 
-mark-same : (p q : Bool) → mark p ≡ mark q → p ≡ q
-mark-same true true e = refl
-mark-same true false e = absurd (omega arith)
-mark-same false true e = absurd (omega arith)
-mark-same false false e = refl
+bit-same : (p q : Bool) → bit p ≡ bit q → p ≡ q
+bit-same true true e = refl
+bit-same true false e = absurd (omega arith)
+bit-same false true e = absurd (omega arith)
+bit-same false false e = refl
 
 block-one : (b c : Block) → b .number ≡ c .number → b .point ≡ c .point → b .isolated ≡ c .isolated → b .max-load ≡ c .max-load → b ≡ c
 block-one b c p q r s = λ j. record { number = p j; point = q j; isolated = r j; max-load = s j }
@@ -55,7 +56,7 @@ alike b c e =
     let (y, e₆) = cons-same e₅ in
     let (z, e₇) = cons-same e₆ in
     let (l, e₈) = cons-same e₇ in
-    record { kinds = k; blocks = λ n. block-one b c n (mark-same (b .point) (c .point) p) i m; bounded = x; mids = y; ends = z; behind = e₈ }
+    record { kinds = k; blocks = λ n. block-one b c n (bit-same (b .point) (c .point) p) i m; bounded = x; mids = y; ends = z; behind = e₈ }
 
 never-alike : {A : Type 0} {kind kind′ : ℕ} (b c : Block) {bound bound′ mid mid′ end end′ level level′ : ℕ} {r s : List ℕ} → (kind ≡ kind′ → ⊥) →
     entry kind b bound mid end level ++ r ≡ entry kind′ c bound′ mid′ end′ level′ ++ s → A

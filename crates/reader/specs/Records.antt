@@ -9,16 +9,12 @@ use mathlib.Core.List.{List, [], _∷_, _++_}
 use Rattle.model.specs.Plan.{Block, Lines, close, leaf-line, call-line, loop-line, if-line, Plan}
 use Rattle.model.specs.Levels.{Leveled, own-levels, heights}
 use Rattle.model.specs.Acceptance.{size}
-
--- K as a number: 1 for a point, 0 for a silent leaf.
-abbrev pub mark : Bool → ℕ
-mark true = 1
-mark false = 0
+use Rattle.model.specs.Places.{bit}
 
 -- The record of a leaf: its kind (0 leaf, 1 call, 2 loop, 3 if), K, C, M, the bound B of a loop or the target F of a call, the first leaf of an if's
 -- else part, the first leaf after the form, and the leaf's level in its own function.
 abbrev pub entry : ℕ → Block → ℕ → ℕ → ℕ → ℕ → List ℕ
-entry kind b bound mid end level = kind ∷ mark (b .point) ∷ b .isolated ∷ b .max-load ∷ bound ∷ mid ∷ end ∷ level ∷ []
+entry kind b bound mid end level = kind ∷ bit (b .point) ∷ b .isolated ∷ b .max-load ∷ bound ∷ mid ∷ end ∷ level ∷ []
 
 -- The records of forms at level L whose first leaf is number n.
 unfoldable pub records : ℕ → Lines → ℕ → List ℕ
@@ -58,7 +54,7 @@ leveled-leaves (l ∷ ls) = own-levels 1 l ++ leveled-leaves ls
 
 -- Record number i of a row has K, C and M of a leaf, and its level.
 pub record Shows (r : List ℕ) (i : ℕ) (v : Leveled) : Type 0 where
-  pub point : getD r (8 * i + 1) 0 ≡ mark (v .block .point)
+  pub point : getD r (8 * i + 1) 0 ≡ bit (v .block .point)
   pub isolated : getD r (8 * i + 2) 0 ≡ v .block .isolated
   pub max-load : getD r (8 * i + 3) 0 ≡ v .block .max-load
   pub level : getD r (8 * i + 7) 0 ≡ v .level

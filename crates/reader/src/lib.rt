@@ -7,7 +7,7 @@ ghost use lib.Seq.{sets};
 ghost use lib.Dec.{leb};
 ghost use Rattle.text.specs.Positions.{read-at, Found};
 ghost use Rattle.reader.specs.Machine.{tag-of, fault, of-leaf, unless, outcome};
-ghost use Rattle.reader.specs.Records.{mark};
+ghost use Rattle.model.specs.Places.{bit};
 ghost use Rattle.text.specs.declared.Form.the-variants.{Task, If};
 ghost use Rattle.reader.specs.Raw.{refused-raw, accepted-raw, raw-of, row-after};
 ghost use Rattle.reader.specs.Helpers.{first-of, of-bound, of-open, of-target, form-of, judged-step, step-of, sign-of, member-of, of-task, head-of, ended-raw, FormsAt, FormAt, TextAt};
@@ -340,7 +340,7 @@ fn in_task(text: &[u8], at: usize) -> Member
 
 // Gives K as a number.
 fn point_mark(k: bool) -> u64
-    ensures { λ r. ⌜ r ≡ mark k ⌝ }
+    ensures { λ r. ⌜ r ≡ bit k ⌝ }
 {
     if k { 1 } else { 0 }
 }
@@ -366,7 +366,7 @@ fn put(
     level: u64,
 )
     requires { ⌜ n < 512 ⌝ }
-    ensures { λ _. ⌜ now (row .exit) ≡ sets (now (row .entry)) (8 * n) (kind ∷ mark k ∷ c ∷ m ∷ bound ∷ mid ∷ end ∷ level ∷ []) ⌝ }
+    ensures { λ _. ⌜ now (row .exit) ≡ sets (now (row .entry)) (8 * n) (kind ∷ bit k ∷ c ∷ m ∷ bound ∷ mid ∷ end ∷ level ∷ []) ⌝ }
 {
     let at = FIELDS * n;
     row[at] = kind;

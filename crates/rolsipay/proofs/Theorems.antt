@@ -10,7 +10,7 @@ use lib.ListN.{length, getD, take, drop, length-map}
 use lib.Seq.{drop-cons, take-add, drop-drop, take-at, take-all, take-append-add}
 use Rattle.model.specs.Plan.{Plan}
 use Rattle.model.specs.Acceptance.{sizes, Accepted}
-use Rattle.model.specs.Places.{pick}
+use Rattle.model.specs.Places.{pick, bit}
 use Rattle.model.specs.Calls.{Call, Answer, refused, go, suspend, stay, resume, ended, Reply}
 use Rattle.reader.specs.Machine.{plan}
 use Rattle.reader.proofs.Theorems.{row-length}
@@ -26,7 +26,7 @@ use Rattle.rolsipay.specs.declared.Leaf.{Leaf}
 use Rattle.rolsipay.specs.declared.State.{State}
 use Rattle.rolsipay.specs.Lent.{fields, numbers, table-with, table-in, leaf-of, leaves-from}
 use Rattle.rolsipay.specs.Reading.{row-after}
-use Rattle.rolsipay.specs.Calling.{state-of, flag, lent, refusing, called}
+use Rattle.rolsipay.specs.Calling.{state-of, lent, refusing, called}
 use Rattle.rolsipay.proofs.Spreading.{length-leaves}
 use Rattle.rolsipay.proofs.Gathering.{numbers-append}
 
@@ -123,15 +123,15 @@ refused-by (resume late) e = no-truth e
 refused-by (ended late) e = no-truth e
 
 -- The state of a lent state is the controller's again.
-flagged : (b : Bool) → not (eqb (flag b) 0) ≡ b
-flagged true = refl
-flagged false = refl
+bit-back : (b : Bool) → not (eqb (bit b) 0) ≡ b
+bit-back true = refl
+bit-back false = refl
 
 lent-back : (s : control.State) → state-of (lent s) ≡ s
 lent-back s =
     λ j. record {
-      running = flagged (s .running) j;
-      suspended = flagged (s .suspended) j;
+      running = bit-back (s .running) j;
+      suspended = bit-back (s .suspended) j;
       reading = s .reading;
       level = s .level;
       leaves = s .leaves;

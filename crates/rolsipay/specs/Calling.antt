@@ -5,7 +5,7 @@ use mathlib.Core.List.{List}
 use Prim.Native.Nat.{ℕ, _+_, _*_}
 use lib.Dec.{eqb}
 use lib.ListN.{take, drop}
-use Rattle.model.specs.Places.{pick}
+use Rattle.model.specs.Places.{pick, bit}
 use Rattle.model.specs.Calls.{Call, release, report, end}
 use Rattle.table.specs.declared.Head.{Head}
 use Rattle.table.specs.Table.{Table, table-at}
@@ -33,14 +33,10 @@ state-of s = record {
 }
 
 -- The lent state of a controller's: 1 says yes.
-abbrev pub flag : Bool → ℕ
-flag true = 1
-flag false = 0
-
 abbrev pub lent : control.State → State
 lent s = record {
-  running = flag (s .running);
-  suspended = flag (s .suspended);
+  running = bit (s .running);
+  suspended = bit (s .suspended);
   reading = s .reading;
   level = s .level;
   leaves = s .leaves;

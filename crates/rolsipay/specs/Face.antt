@@ -9,7 +9,7 @@ use Rattle.control.specs.declared.Answer as control
 use Rattle.control.specs.declared.Answer.the-variants.{Refused, Go, Suspend, Stay, Resume, Ended}
 use Rattle.rolsipay.specs.declared.Ruling.{Ruling}
 use Rattle.rolsipay.specs.declared.Reply.{Reply}
-use Rattle.rolsipay.specs.Calling.{flag}
+use Rattle.model.specs.Places.{bit}
 
 -- Of a plan: number 0 where it is accepted, else the refusal's number and line.
 abbrev pub ruling-of : reader.Answer → Ruling
@@ -18,7 +18,7 @@ ruling-of (reading.Refused k j) = record { number = k; line = j }
 
 -- Of a call: the word (0 refused, 1 go, 2 suspend, 3 stay, 4 resume, 5 ended), a refusal's number, remaining, margin and late mark; 0 where a case has none.
 abbrev pub accepted : ℕ → ℕ → ℤ → Bool → Reply
-accepted word r m late = record { word = word; number = 0; remaining = r; margin = m; late = flag late }
+accepted word r m late = record { word = word; number = 0; remaining = r; margin = m; late = bit late }
 
 abbrev pub reply-from : control.Answer → Reply
 reply-from (Refused n) = record { word = 0; number = n; remaining = 0; margin = pos 0; late = 0 }

@@ -5,12 +5,13 @@ ghost use lib.ListN.{length, take};
 ghost use lib.Seq.{sets};
 ghost use Rattle.table.specs.Reading.{verdict, verdict-of};
 ghost use Rattle.rolsipay.specs.Flat.{with-leaf, leaf-in, gathered, spread-over};
+ghost use Rattle.model.specs.Places.{bit};
 ghost use Rattle.model.specs.Calls.{release, report, end};
 ghost use Rattle.table.specs.Table.{table-at};
 ghost use Rattle.control.specs.Answers.{reply-of};
 ghost use Rattle.control.specs.Calls.{call-on};
 ghost use Rattle.rolsipay.specs.Lent.{table-with};
-ghost use Rattle.rolsipay.specs.Calling.{state-of, flag, lent, refusing, moved, call-with, called, call-of, table-on};
+ghost use Rattle.rolsipay.specs.Calling.{state-of, lent, refusing, moved, call-with, called, call-of, table-on};
 ghost use Rattle.rolsipay.specs.Face.{ruling-of, accepted, reply-from};
 ghost use Rattle.rolsipay.specs.Reading.{filled, counted, Holds, row-after};
 use reader::Answer;
@@ -267,7 +268,7 @@ fn state_in(state: State) -> control::State
 
 // 1 for yes, 0 for no.
 fn number(yes: bool) -> u64
-    ensures { λ r. ⌜ r ≡ flag yes ⌝ }
+    ensures { λ r. ⌜ r ≡ bit yes ⌝ }
 {
     if yes { 1 } else { 0 }
 }

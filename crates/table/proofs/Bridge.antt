@@ -14,7 +14,8 @@ use Rattle.model.specs.Total.{total}
 use Rattle.model.specs.Levels.{height}
 use Rattle.model.specs.Acceptance.{size, sizes, Functions, Formed, Accepted}
 use Rattle.model.proofs.Limits.{short-total}
-use Rattle.reader.specs.Records.{mark, entry, records, records-all, bounds, row-of, bounds-of}
+use Rattle.model.specs.Places.{bit}
+use Rattle.reader.specs.Records.{entry, records, records-all, bounds, row-of, bounds-of}
 use Rattle.reader.specs.Raw.{padded}
 use Rattle.reader.proofs.Records.{records-length, records-all-length, bounds-length, bounds-last}
 use Rattle.reader.proofs.Tasks.{length-padded, padded-same}
@@ -47,18 +48,18 @@ eight w a h =
     (one-drop w (a + 6) (a + 7) _ (omega arith) (omega arith)
     (one-drop w (a + 7) (a + 8) _ (omega arith) (omega arith) refl)))))))
 
--- A 0 or 1 is the mark that it is read as.
-mark-back : (x : ℕ) → x ≤ 1 → mark (eqb x 1) ≡ x
-mark-back zero h = refl
-mark-back (suc zero) h = refl
-mark-back (suc (suc x)) h = absurd (omega arith)
+-- A 0 or 1 is the truth value that it is read as.
+bit-back : (x : ℕ) → x ≤ 1 → bit (eqb x 1) ≡ x
+bit-back zero h = refl
+bit-back (suc zero) h = refl
+bit-back (suc (suc x)) h = absurd (omega arith)
 
 -- The record i, and what is behind it.
 entry-drop : (w : List ℕ) (l i k : ℕ) (b : Block) (bound mid end : ℕ) → Is w l i k b → field w i 4 ≡ bound → field w i 5 ≡ mid → end-at w i ≡ end →
     (i + 1) * 8 ≤ length w → drop (i * 8) w ≡ entry k b bound mid end l ++ drop ((i + 1) * 8) w
 entry-drop w l i k b bound mid end (kind, block, low, level) x y z h =
     let e : i * 8 + 8 ≡ (i + 1) * 8 = omega arith in
-    let p : field w i 1 ≡ mark (b .point) = sym (mark-back (field w i 1) low) ∙ ap (λ (c : Block). mark (c .point)) (sym block) in
+    let p : field w i 1 ≡ bit (b .point) = sym (bit-back (field w i 1) low) ∙ ap (λ (c : Block). bit (c .point)) (sym block) in
     let c : field w i 2 ≡ b .isolated = ap (λ (c : Block). c .isolated) (sym block) in
     let m : field w i 3 ≡ b .max-load = ap (λ (c : Block). c .max-load) (sym block) in
     let v : drop (i * 8 + 8) w ≡ drop ((i + 1) * 8) w = ap (λ n. drop n w) e in

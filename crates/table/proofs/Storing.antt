@@ -9,7 +9,9 @@ use lib.ListN.{length, getD, drop, List·getD-append}
 use lib.Seq.{getD-drop, drop-drop, drop-at}
 use Rattle.model.specs.Plan.{Block, Lines, close, leaf-line, call-line, loop-line, if-line}
 use Rattle.model.specs.Acceptance.{size, Numbered}
-use Rattle.reader.specs.Records.{mark, entry, records}
+use Rattle.model.specs.Places.{bit}
+use Rattle.model.proofs.Bits.{bit-told, bit-low}
+use Rattle.reader.specs.Records.{entry, records}
 use Rattle.reader.proofs.Records.{records-length}
 use Rattle.rows.specs.Rows.{field, block-at, Rep}
 
@@ -29,14 +31,6 @@ begins-right w i k j rs us h q (v, e) =
 begins-field : (w : List ℕ) (i : ℕ) (rs : List ℕ) → Begins w i rs → (j : ℕ) → j < length rs → field w i j ≡ getD rs j 0
 begins-field w i rs (v, e) j h = sym (getD-drop (i * 8) w j 0) ∙ (ap (λ u. getD u j 0) e ∙ List·getD-append rs v 0 j h)
 
-marked : (p : Bool) → eqb (mark p) 1 ≡ p
-marked true = refl
-marked false = refl
-
-mark-low : (p : Bool) → mark p ≤ 1
-mark-low true = omega arith
-mark-low false = omega arith
-
 -- What a record says.
 pub record Said (w : List ℕ) (i kind : ℕ) (b : Block) (bound mid end level : ℕ) : Type 0 where
   pub kind-is : field w i 0 ≡ kind
@@ -47,9 +41,9 @@ pub record Said (w : List ℕ) (i kind : ℕ) (b : Block) (bound mid end level :
   pub end-is : field w i 6 ≡ end
   pub level-is : field w i 7 ≡ level
 
-same-block : (b : Block) (n x c m : ℕ) → b .number ≡ n → mark (b .point) ≡ x → b .isolated ≡ c → b .max-load ≡ m →
+same-block : (b : Block) (n x c m : ℕ) → b .number ≡ n → bit (b .point) ≡ x → b .isolated ≡ c → b .max-load ≡ m →
     b ≡ record { number = n; point = eqb x 1; isolated = c; max-load = m }
-same-block b n x c m e f g h = rw (← e, ← f, ← g, ← h, marked (b .point))
+same-block b n x c m e f g h = rw (← e, ← f, ← g, ← h, bit-told (b .point))
 
 said : (w : List ℕ) (i kind : ℕ) (b : Block) (bound mid end level : ℕ) (rs : List ℕ) → b .number ≡ i → Begins w i (entry kind b bound mid end level ++ rs) →
     Said w i kind b bound mid end level
@@ -58,7 +52,7 @@ said w i kind b bound mid end level rs q s =
     record {
       kind-is = a 0 (omega arith);
       block-is = same-block b i (field w i 1) (field w i 2) (field w i 3) q (sym (a 1 (omega arith))) (sym (a 2 (omega arith))) (sym (a 3 (omega arith)));
-      mark-is = omega (arith, a 1 (omega arith), mark-low (b .point));
+      mark-is = omega (arith, a 1 (omega arith), bit-low (b .point));
       bound-is = a 4 (omega arith);
       mid-is = a 5 (omega arith);
       end-is = a 6 (omega arith);

@@ -5,12 +5,13 @@ use mathlib.Core.List.{List}
 use native.Mathlib.Numerals.{add-one}
 use native.Mathlib.Omega.{arith}
 use lib.ListN.{length, take, replicate, length-replicate}
-use lib.Seq.{sets, length-sets, length-take-le}
+use lib.Seq.{sets}
 use Rattle.reader.specs.declared.Answer.the-variants.{Accepted, Refused}
 use Rattle.table.specs.declared.Verdict.{Verdict}
 use Rattle.print.specs.Lines.{task-line, refused-plan-line}
 use Rattle.print.specs.Written.{Written, Held}
 use Rattle.print.proofs.Laws.{held}
+use Rattle.print.proofs.Room.{long, taken}
 use Rattle.print.proofs.Theorems.{begins}
 use Rattle.tables.specs.Listing.{leaf-line, leaf-lines, answer-lines, listing}
 
@@ -24,12 +25,10 @@ Made text buffer n = (buffer ≡ sets blank 0 text) × ((n ≡ length text) × (
 
 -- The buffer has as many bytes as the line, and more.
 pub made-room : (text buffer : List ℕ) (n : ℕ) → Made text buffer n → n ≤ length buffer
-made-room text buffer n (s, (e, h)) =
-    let k : length buffer ≡ 128 = ap length s ∙ length-sets blank 0 text ∙ length-replicate {A = ℕ} 128 0 in
-    omega arith
+made-room text buffer n (s, (e, h)) = omega (arith, long text s)
 
 pub made-size : (text buffer : List ℕ) (n : ℕ) → Made text buffer n → n ≡ length (take n buffer)
-made-size text buffer n m = sym (length-take-le n buffer (made-room text buffer n m))
+made-size text buffer n (s, (e, h)) = taken buffer n (long text s) h
 
 -- Its first n bytes are the line.
 pub made-text : (text buffer : List ℕ) (n : ℕ) → Made text buffer n → take n buffer ≡ text

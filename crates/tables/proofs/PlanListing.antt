@@ -17,10 +17,10 @@ use Rattle.model.specs.Stretch.{stretch}
 use Rattle.model.specs.Tail.{tail}
 use Rattle.model.specs.Levels.{Leveled, own-levels, blocks}
 use Rattle.model.specs.Acceptance.{size, sizes, Formed}
-use Rattle.model.specs.Places.{pick}
+use Rattle.model.specs.Places.{pick, bit}
 use Rattle.model.proofs.Among.{among-left, among-right}
 use Rattle.reader.specs.Machine.{Outcome, plan, refused}
-use Rattle.reader.specs.Records.{row-of, mark, leveled-leaves, no-leaf}
+use Rattle.reader.specs.Records.{row-of, leveled-leaves, no-leaf}
 use Rattle.reader.proofs.Theorems.{row-length, row-leaf}
 use Rattle.table.specs.declared.Head.{Head}
 use Rattle.table.specs.declared.Verdict.{Verdict}
@@ -93,7 +93,7 @@ line-point p l v =
     by false f s = refl
 
 -- The mark in a record says whether its leaf is a point.
-marked : (b : Bool) (x : List ℕ) → texts.pick (eqb (mark b) 1) x [] ≡ pick b x []
+marked : (b : Bool) (x : List ℕ) → texts.pick (eqb (bit b) 1) x [] ≡ pick b x []
 marked true x = refl
 marked false x = refl
 

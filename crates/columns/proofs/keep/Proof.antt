@@ -1,5 +1,5 @@
 -- `columns::keep` meets its contract. Assumes nothing.
-use Rattle.columns.specs.Quiet.{flag}
+use Rattle.model.specs.Places.{bit}
 use Prim.Native.Nat.{_-_}
 use mathlib.Core.Path.{_≡_, sym, ap, _∙_}
 use mathlib.Core.Logic.{⊎-elim}
@@ -43,7 +43,7 @@ element-write-heads-3 c = search needs
 
 returns : tie.Need-returns
 returns c =
-    let e : c .if1 .free ≡ flag (c .before .args .q .free) = ⊎-elim (λ w. w .1 ∙ ap flag (sym (w .0 .taken))) (λ w. w .1 ∙ ap flag (sym (w .0 .left))) (c .if1 .came) in
+    let e : c .if1 .free ≡ bit (c .before .args .q .free) = ⊎-elim (λ w. w .1 ∙ ap bit (sym (w .0 .taken))) (λ w. w .1 ∙ ap bit (sym (w .0 .left))) (c .if1 .came) in
     rw e (simp towards-suc)
 
 pub keep-spec : {M : Type 1} → statement M
