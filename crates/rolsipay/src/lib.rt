@@ -84,7 +84,7 @@ const LEAVES: usize = 512;
 
 const FEW: usize = 64;
 
-// The numbers of a raw record, and where the columns begin in an array of all numbers.
+// The numbers of a raw record, and where the columns begin in an array for 512 leaves.
 const STRIDE: usize = 8;
 
 const TURNS: usize = 4096;
@@ -93,7 +93,7 @@ const TAILS: usize = 4608;
 
 const STRETCHES: usize = 5120;
 
-// The less of two.
+// The lesser of two.
 fn least(a: usize, b: usize) -> usize
     ensures { λ r. ⌜ r ≡ min a b ⌝ }
 {
@@ -420,13 +420,13 @@ fn call_on(
     requires { ⌜ (n ≤ room) × (room ≤ 512) × (length (now xs) ≡ room * 11) ⌝ }
     ensures { λ r. ⌜ r ≡ call-with (table-on room (now (xs .entry)) n head) state (call-of kind point reading) ⌝ }
 {
-    let k = room * STRIDE;
-    let l = k + room;
-    let m = l + room;
+    let first = room * STRIDE;
+    let second = first + room;
+    let third = second + room;
     let row = &xs[..n * STRIDE];
-    let turns = &xs[k..k + n];
-    let tails = &xs[l..l + n];
-    let stretches = &xs[m..m + n];
+    let turns = &xs[first..first + n];
+    let tails = &xs[second..second + n];
+    let stretches = &xs[third..third + n];
     let before = state_in(state);
     let step = step_on(
         row,
@@ -478,7 +478,8 @@ fn call_large(
     call_on(&numbers, LEAVES, n, head, state, kind, point, reading)
 }
 
-// A call on lent memory: the state is moved on where it lies. Most plans have few leaves, and zeroing the large array would take most of a call's time.
+// A call on lent memory: the state is moved on where it lies. To zero the large array takes longer than all the rest of a call on few leaves, so those have
+// a small one.
 fn call(
     row: &[Leaf],
     head: &Head,

@@ -13,14 +13,14 @@ use borrow.Author.Needs.{needs}
 use Rattle.rolsipay.proofs.call_on.Statement.{statement}
 use Rattle.rolsipay.proofs.call_on.Tie as tie
 
-mul-k : tie.Need-mul-k
-mul-k c = search needs
+mul-first : tie.Need-mul-first
+mul-first c = search needs
 
-add-l : tie.Need-add-l
-add-l c = search needs
+add-second : tie.Need-add-second
+add-second c = search needs
 
-add-m : tie.Need-add-m
-add-m c = search needs
+add-third : tie.Need-add-third
+add-third c = search needs
 
 mul-row : tie.Need-mul-row
 mul-row c = search needs
@@ -94,9 +94,9 @@ pub call-on-spec : {M : Type 1} → statement M
 call-on-spec =
     tie.close
     (tie.spec
-    mul-k
-    add-l
-    add-m
+    mul-first
+    add-second
+    add-third
     mul-row
     slice-aggregate-row
     add-turns
