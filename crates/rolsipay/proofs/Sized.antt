@@ -66,20 +66,20 @@ use Rattle.rolsipay.proofs.call_on as g
 use Rattle.rolsipay.proofs.call_on.Symbol.{name as #g}
 use Rattle.rolsipay.proofs.call_small as f
 
--- the code of both, for an array with this room and of this size, and how it writes the two numbers
+-- the code of both, for an array of this size, with the operands that give its room and its size
 abbrev array-ty : ℕ → Ty
 array-ty size = tyArray (tyInt w64) size
 
 abbrev pub code : ℕ → Operand → Operand → Fn
-code size room-is size-is = record {
+code size room-opd size-opd = record {
   lifetimes = 1;
   outlives = [];
   params = 7;
   locals = local P′.mir valueLocal ∷ local (sliceTy (tyRef (named 0) imm (pointee (F.the-row .written)))) valueLocal ∷ local (tyInt w64) valueLocal ∷ local T′.mir valueLocal ∷ local S′.mir valueLocal ∷ local (tyInt w64) valueLocal ∷ local (tyInt w64) valueLocal ∷ local (tyInt w64) valueLocal
       ∷ local (array-ty size) memorySlot ∷ local tyUnit valueLocal ∷ local (tyRef erased mut (array-ty size)) valueLocal ∷ local (sliceTy (tyRef erased mut (tyInt w64))) valueLocal ∷ local (tyRef erased imm (array-ty size)) valueLocal ∷ local (sliceTy (tyRef erased imm (tyInt w64))) valueLocal ∷ [];
-  body = seq (assign (place 8 []) (repeat (int w64 0) size)) (seq (assign (place 10 []) (addrOf (place 8 []))) (seq (assign (place 11 []) (aggregate (copy (place 10 []) ∷ size-is ∷ [])))
-      (seq (call #rr (copy (place 1 []) ∷ copy (place 11 []) ∷ room-is ∷ copy (place 2 []) ∷ []) (place 9 [])) (seq (assign (place 12 []) (addrOf (place 8 []))) (seq (assign (place 13 []) (aggregate (copy (place 12 []) ∷ size-is ∷ [])))
-      (seq (call #g (copy (place 13 []) ∷ room-is ∷ copy (place 2 []) ∷ copy (place 3 []) ∷ copy (place 4 []) ∷ copy (place 5 []) ∷ copy (place 6 []) ∷ copy (place 7 []) ∷ []) (place 0 [])) return))))));
+  body = seq (assign (place 8 []) (repeat (int w64 0) size)) (seq (assign (place 10 []) (addrOf (place 8 []))) (seq (assign (place 11 []) (aggregate (copy (place 10 []) ∷ size-opd ∷ [])))
+      (seq (call #rr (copy (place 1 []) ∷ copy (place 11 []) ∷ room-opd ∷ copy (place 2 []) ∷ []) (place 9 [])) (seq (assign (place 12 []) (addrOf (place 8 []))) (seq (assign (place 13 []) (aggregate (copy (place 12 []) ∷ size-opd ∷ [])))
+      (seq (call #g (copy (place 13 []) ∷ room-opd ∷ copy (place 2 []) ∷ copy (place 3 []) ∷ copy (place 4 []) ∷ copy (place 5 []) ∷ copy (place 6 []) ∷ copy (place 7 []) ∷ []) (place 0 [])) return))))));
 }
 
 abbrev pub stayed : Stays (f.ended .signature .params) (f.ended .kept)
