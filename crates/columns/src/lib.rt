@@ -20,6 +20,7 @@ ghost use Rattle.columns.specs.Stretches.{marked, stretch-rule, raise, r
 ghost use Rattle.columns.specs.Whole.{Funs, Measured, Costed, Summed, painted, tailed};
 ghost use Rattle.rows.specs.Answers.{Says};
 ghost use Rattle.columns.specs.Local.{Fits, Fits-first, Begins, Lent};
+use rows::after;
 use rows::get;
 use rows::index;
 use rows::larger;
@@ -151,7 +152,7 @@ fn sum_block(
     while i < to {
         let x = sum_form(row, load, i, to, left, sums, turn);
         acc = clip(acc + x);
-        i = index(row, i, END);
+        i = after(row, i);
     }
     acc
 }
@@ -168,7 +169,7 @@ fn list(row: &[u64], from: usize, to: usize, seq: &mut [usize; 512]) -> usize
     while i < to {
         seq[from + n] = i;
         n += 1;
-        i = index(row, i, END);
+        i = after(row, i);
     }
     n
 }
@@ -851,7 +852,7 @@ fn block_fits(
 {
     let mut i = from;
     while i < to {
-        let end = index(row, i, END);
+        let end = after(row, i);
         let x = start(tail, end, to, e);
         if !form_fits(row, i, to, left, sums, turn, tail, x) {
             return false;

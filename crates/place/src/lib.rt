@@ -148,7 +148,7 @@ pub fn behind(row: &[u64], from: usize, to: usize, p: usize, x: usize, left: usi
     }
     let mut i = from;
     while i < to {
-        let end = rows::index(row, i, END);
+        let end = rows::after(row, i);
         if p < end {
             let v = within(row, i, to, p, x, left);
             if v != PASS {

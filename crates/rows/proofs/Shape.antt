@@ -20,6 +20,18 @@ rep-le w l i e (loop-line b n body r) h =
 rep-le w l i e (if-line b t s r) h =
     omega (arith, rep-le w l (i + 1) (field w i 5) t (h .2), rep-le w l (field w i 5) (end-at w i) s (h .3), rep-le w l (end-at w i) e r (h .4))
 
+-- A leaf or call ends where it begins.
+pub rep-flat : (w : List ℕ) (l i e : ℕ) (ls : Lines) → Rep w l i e ls → i < e → field w i 0 < 2 → end-at w i ≡ i + 1
+unfolding Rep
+rep-flat w l i e close h lt k = absurd (omega arith)
+rep-flat w l i e (leaf-line b r) h lt k = h .3
+rep-flat w l i e (call-line b f r) h lt k = h .3
+rep-flat w l i e (loop-line b n body r) h lt k = absurd (omega (arith, h .0 .0))
+rep-flat w l i e (if-line b t s r) h lt k = absurd (omega (arith, h .0 .0))
+
+pub flat-end : {w hs : List ℕ} {left l i e : ℕ} → i < e → Part w hs left l i e → field w i 0 < 2 → end-at w i ≡ i + 1
+flat-end {w} {l = l} {i = i} {e = e} lt p k = rep-flat w l i e (p .lines) (p .rep) lt k
+
 -- The lines after the first form lie after it, and keep the rules.
 pub rep-rest : (w : List ℕ) (l i e : ℕ) (ls : Lines) → Rep w l i e ls → i < e → Rep w l (end-at w i) e (rest ls)
 unfolding Rep rest

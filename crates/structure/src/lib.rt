@@ -13,6 +13,7 @@ ghost use Rattle.structure.specs.Plans.{Bounds, Plan-of, Structured};
 ghost use Rattle.structure.specs.Points.{Text, Pointed, Flags, Loud, silent-end, Allowed};
 ghost use Rattle.structure.specs.Records.{Priced, Placed, Leaf-right, Call-right, Loop-right, If-right, Sound, Head};
 ghost use Rattle.structure.specs.Tops.{Readable, top};
+use rows::after;
 use rows::get;
 use rows::index;
 use rows::larger;
@@ -240,7 +241,7 @@ fn valid(row: &[u64], from: usize, to: usize, left: usize, l: u64, hs: &[u64]) -
         if !whole(row, i, to, left, l, hs) {
             return false;
         }
-        i = index(row, i, 6);
+        i = after(row, i);
     }
     if i == to { true } else { false }
 }

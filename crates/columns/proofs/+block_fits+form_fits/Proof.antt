@@ -4,7 +4,7 @@ use borrow.Author.Tests.{not-true, not-false}
 use native.Mathlib.Omega.{arith}
 use Prim.Native.Nat.{_+_, _-_}
 use Rattle.rows.proofs.Answers.{said-true, said-false, same-answer}
-use Rattle.rows.proofs.Shape.{ends, parts, loop-at}
+use Rattle.rows.proofs.Shape.{ends, parts, loop-at, flat-end}
 use Rattle.columns.specs.Sums.{Laid}
 use Rattle.columns.proofs.Sizes.{body-laid, then-laid, else-laid, kind-low, if-three}
 use Rattle.columns.proofs.Fitting.{Walking, begins, walk-start, walk-refuse, walk-next, walk-end, first-within, first-round, flat-first, first-flat, loop-first, first-rounds, first-body, first-start, if-first, first-then, first-else, first-either}
@@ -24,6 +24,7 @@ use Rattle.columns.proofs.start.Reads as start-reads
 use Rattle.columns.proofs.within.Reads as within-reads
 use Rattle.rows.proofs.get.Reads as get-reads
 use Rattle.rows.proofs.index.Reads as index-reads
+use Rattle.rows.proofs.after.Reads as after-reads
 use Rattle.rows.proofs.larger.Reads as larger-reads
 use Rattle.columns.proofs.+block_fits+form_fits.{statement}
 use Rattle.columns.proofs.+block_fits+form_fits.Tie.{close}
@@ -50,7 +51,7 @@ form-fits-below t =
     and 4 form-fits-kinds.ps (falls 4 form-fits-kinds.ps _<_ μ-form-fits t) form-fits.Pre
 
 abbrev block-fits-calls : ℕ → block-fits-lts.Claims
-block-fits-calls t = (index-reads.Asked, index-reads.Learnt, start-reads.Asked, start-reads.Learnt, form-fits-below t, form-fits.Post)
+block-fits-calls t = (after-reads.Asked, after-reads.Learnt, start-reads.Asked, start-reads.Learnt, form-fits-below t, form-fits.Post)
 
 abbrev block-fits-Inv-loop : block-fits-lts.InvT-loop
 block-fits-Inv-loop row from to left sums turn tail e i₀ i = (p : Laid row left from to) → Walking sums turn tail row left from i to e (p .part .lines)
@@ -66,8 +67,10 @@ block-fits-loop-holds t c =
     let u = s .args .tail .now in
     λ p. walk-start ts o u p
 
-block-fits-index-requires : (t : ℕ) → block-fits-lts.Need-index-requires (block-fits-calls t) (block-fits-at t) block-fits.Post block-fits-Inv-loop block-fits-μ-loop
-block-fits-index-requires t c κs = search needs
+block-fits-after-requires : (t : ℕ) → block-fits-lts.Need-after-requires (block-fits-calls t) (block-fits-at t) block-fits.Post block-fits-Inv-loop block-fits-μ-loop
+block-fits-after-requires t c κs =
+    let s = c .before .before .before .before .before in
+    (omega (arith, s .pre .1 .0 .0), λ k. flat-end (c .loop-test .taken) (c .before .loop .inv (s .pre .1 .1) .more .part) k)
 
 block-fits-start-requires : (t : ℕ) → block-fits-lts.Need-start-requires (block-fits-calls t) (block-fits-at t) block-fits.Post block-fits-Inv-loop block-fits-μ-loop
 block-fits-start-requires t c κs = c .before .before .before .before .before .before .pre .1 .0 .2
@@ -87,12 +90,12 @@ block-fits-returns t c =
     let a = c .before .before .before .before .before .loop in
     let lt = c .before .before .before .before .loop-test .taken in
     λ p f. let q = a .inv p in
-    walk-refuse ts o u lt (c .before .before .before .index .ensures) (c .before .before .start .ensures) q (said-false (c .before .form-fits .result) (not-true _ (c .if1 .taken)) (c .before .form-fits .ensures (q .more))) f
+    walk-refuse ts o u lt (c .before .before .before .after .ensures) (c .before .before .start .ensures) q (said-false (c .before .form-fits .result) (not-true _ (c .if1 .taken)) (c .before .form-fits .ensures (q .more))) f
 
 block-fits-loop-less : (t : ℕ) → block-fits-lts.Need-loop-less (block-fits-calls t) (block-fits-at t) block-fits.Post block-fits-Inv-loop block-fits-μ-loop
 block-fits-loop-less t c =
     let q = c .before .before .before .before .before .loop .inv (c .before .before .before .before .before .before .before .before .before .pre .1 .1) in
-    omega (arith, ends (c .before .before .before .before .loop-test .taken) (q .more .part), c .before .before .before .index .ensures)
+    omega (arith, ends (c .before .before .before .before .loop-test .taken) (q .more .part), c .before .before .before .after .ensures)
 
 block-fits-loop-again : (t : ℕ) → block-fits-lts.Need-loop-again (block-fits-calls t) (block-fits-at t) block-fits.Post block-fits-Inv-loop block-fits-μ-loop
 block-fits-loop-again t c =
@@ -103,7 +106,7 @@ block-fits-loop-again t c =
     let a = c .before .before .before .before .before .loop in
     let lt = c .before .before .before .before .loop-test .taken in
     λ p. let q = a .inv p in
-    walk-next ts o u lt (c .before .before .before .index .ensures) (c .before .before .start .ensures) q (said-true (c .before .form-fits .result) (not-false _ (c .if1 .left)) (c .before .form-fits .ensures (q .more)))
+    walk-next ts o u lt (c .before .before .before .after .ensures) (c .before .before .start .ensures) q (said-true (c .before .form-fits .result) (not-false _ (c .if1 .left)) (c .before .form-fits .ensures (q .more)))
 
 block-fits-returns-2 : (t : ℕ) → block-fits-lts.Need-returns-2 (block-fits-calls t) (block-fits-at t) block-fits.Post block-fits-Inv-loop block-fits-μ-loop
 block-fits-returns-2 t c =
@@ -458,7 +461,7 @@ pub +block-fits+form-fits-spec : {M : Type 1} → statement M
     block-fits-Inv-loop
     block-fits-μ-loop
     (block-fits-loop-holds t)
-    (block-fits-index-requires t)
+    (block-fits-after-requires t)
     (block-fits-start-requires t)
     (block-fits-form-fits-requires t)
     (block-fits-returns t)

@@ -5,7 +5,7 @@ use Rattle.columns.proofs.Sizes.{body-laid, then-laid, else-laid}
 use Rattle.columns.proofs.Capped.{price-le}
 use Rattle.columns.specs.Columns.{turn-rule, turns}
 use Rattle.columns.specs.Sums.{ceiling, price, Laid}
-use Rattle.rows.proofs.Shape.{leaf-at, call-at, loop-at, if-at, ends, parts}
+use Rattle.rows.proofs.Shape.{leaf-at, call-at, loop-at, if-at, ends, parts, flat-end}
 use Rattle.rows.specs.Rows.{block-at}
 use Rattle.model.specs.Total.{tally}
 use lib.Seq.{sets}
@@ -28,6 +28,7 @@ use Rattle.columns.proofs.cost.Reads as cost-reads
 use Rattle.columns.proofs.looped.Reads as looped-reads
 use Rattle.rows.proofs.get.Reads as get-reads
 use Rattle.rows.proofs.index.Reads as index-reads
+use Rattle.rows.proofs.after.Reads as after-reads
 use Rattle.rows.proofs.larger.Reads as larger-reads
 use Rattle.columns.proofs.+sum_block+sum_form.{statement}
 use Rattle.columns.proofs.+sum_block+sum_form.Tie.{close}
@@ -53,7 +54,7 @@ sum-form-below t =
     and 3 sum-form-kinds.ps (falls 3 sum-form-kinds.ps _<_ μ-sum-form t) sum-form.Pre
 
 abbrev sum-block-calls : ℕ → sum-block-lts.Claims
-sum-block-calls t = (sum-form-below t, sum-form.Post, clip-reads.Asked, clip-reads.Learnt, index-reads.Asked, index-reads.Learnt)
+sum-block-calls t = (sum-form-below t, sum-form.Post, clip-reads.Asked, clip-reads.Learnt, after-reads.Asked, after-reads.Learnt)
 
 abbrev sum-block-Inv-loop : sum-block-lts.InvT-loop
 sum-block-Inv-loop row load from to left sums turn₀ acc₀ i₀ turn acc i = (acc ≤ ceiling) × ((p : Laid row left from to) → Passed row (price load) sums left i to acc (tally (price load) sums (p .part .lines)) turn (sets turn₀ from (turns (price load) sums (p .part .lines))))
@@ -81,10 +82,11 @@ sum-block-add-clip t c =
 sum-block-clip-requires : (t : ℕ) → sum-block-lts.Need-clip-requires (sum-block-calls t) (sum-block-at t) sum-block.Post sum-block-Inv-loop sum-block-μ-loop
 sum-block-clip-requires t c κs = search needs
 
-sum-block-index-requires : (t : ℕ) → sum-block-lts.Need-index-requires (sum-block-calls t) (sum-block-at t) sum-block.Post sum-block-Inv-loop sum-block-μ-loop
-sum-block-index-requires t c κs =
+sum-block-after-requires : (t : ℕ) → sum-block-lts.Need-after-requires (sum-block-calls t) (sum-block-at t) sum-block.Post sum-block-Inv-loop sum-block-μ-loop
+sum-block-after-requires t c κs =
     let s = c .before .before .before .before .before .before in
-    (omega arith, omega (arith, s .pre .1 .0 .0))
+    let m = c .before .before .before .before .loop .inv .1 (s .pre .1 .1) .more in
+    (omega (arith, s .pre .1 .0 .0), λ k. flat-end (c .before .before .before .loop-test .taken) (m .part) k)
 
 sum-block-loop-less : (t : ℕ) → sum-block-lts.Need-loop-less (sum-block-calls t) (sum-block-at t) sum-block.Post sum-block-Inv-loop sum-block-μ-loop
 sum-block-loop-less t c =
@@ -93,14 +95,14 @@ sum-block-loop-less t c =
     let z = s .pre .1 .1 in
     let m = a .inv .1 z .more in
     let lt = c .before .before .before .before .loop-test .taken in
-    omega (arith, ends lt (m .part), c .index .ensures)
+    omega (arith, ends lt (m .part), c .after .ensures)
 
 sum-block-loop-again : (t : ℕ) → sum-block-lts.Need-loop-again (sum-block-calls t) (sum-block-at t) sum-block.Post sum-block-Inv-loop sum-block-μ-loop
 sum-block-loop-again t c =
     let a = c .before .before .before .before .before .loop in
     let lt = c .before .before .before .before .loop-test .taken in (
       omega (arith, c .before .clip .ensures),
-      λ p. pass lt (c .before .before .sum-form .ensures .1 .0) (c .before .clip .ensures) (c .index .ensures) (c .before .before .sum-form .ensures .1 .1) (a .inv .1 p),
+      λ p. pass lt (c .before .before .sum-form .ensures .1 .0) (c .before .clip .ensures) (c .after .ensures) (c .before .before .sum-form .ensures .1 .1) (a .inv .1 p),
     )
 
 sum-block-returns : (t : ℕ) → sum-block-lts.Need-returns (sum-block-calls t) (sum-block-at t) sum-block.Post sum-block-Inv-loop sum-block-μ-loop
@@ -369,7 +371,7 @@ pub +sum-block+sum-form-spec : {M : Type 1} → statement M
     (sum-block-sum-form-requires t)
     (sum-block-add-clip t)
     (sum-block-clip-requires t)
-    (sum-block-index-requires t)
+    (sum-block-after-requires t)
     (sum-block-loop-less t)
     (sum-block-loop-again t)
     (sum-block-returns t))

@@ -1,6 +1,6 @@
 -- `columns::list` meets its contract. Assumes nothing.
-use Rattle.columns.proofs.Listing.{Listing, list-start, list-next, listed}
-use Rattle.rows.proofs.Shape.{rep-le}
+use Rattle.columns.proofs.Listing.{Listing, list-start, list-next, listed, later-laid}
+use Rattle.rows.proofs.Shape.{rep-le, flat-end}
 use Prim.Native.Nat.{_-_}
 use native.Mathlib.Omega.{arith}
 use Rattle.columns.proofs.list.Statement.{statement}
@@ -40,24 +40,25 @@ add-n c =
     let a = c .before .loop in
     omega (arith, a .inv .past, s .pre .0 .1)
 
-index-requires : tie.Need-index-requires Inv-loop μ-loop
-index-requires c κs =
+after-requires : tie.Need-after-requires Inv-loop μ-loop
+after-requires c κs =
     let s = c .before .before .before in
-    (omega arith, omega (arith, s .pre .0 .0))
+    let q = c .before .loop .inv in
+    (omega (arith, s .pre .0 .0), λ k. flat-end (c .loop-test .taken) (later-laid _ (q .inside) (q .at) (s .pre .1 .1) .part) k)
 
 loop-less : tie.Need-loop-less Inv-loop μ-loop
 loop-less c =
     let s = c .before .before .before .before in
     let a = c .before .before .loop in
     let lt = c .before .loop-test .taken in
-    omega (arith, list-next lt (s .pre .0 .1) (s .pre .0 .2) (c .index .ensures) (s .pre .1 .1) (a .inv) .0)
+    omega (arith, list-next lt (s .pre .0 .1) (s .pre .0 .2) (c .after .ensures) (s .pre .1 .1) (a .inv) .0)
 
 loop-again : tie.Need-loop-again Inv-loop μ-loop
 loop-again c =
     let s = c .before .before .before .before in
     let a = c .before .before .loop in
     let lt = c .before .loop-test .taken in
-    list-next lt (s .pre .0 .1) (s .pre .0 .2) (c .index .ensures) (s .pre .1 .1) (a .inv) .1
+    list-next lt (s .pre .0 .1) (s .pre .0 .2) (c .after .ensures) (s .pre .1 .1) (a .inv) .1
 
 returns : tie.Need-returns Inv-loop μ-loop
 returns c = let a = c .before .loop in (listed (c .loop-test .left) (a .inv), a .inv .kept)
@@ -73,7 +74,7 @@ list-spec =
     mul-seq
     element-write-seq
     add-n
-    index-requires
+    after-requires
     loop-less
     loop-again
     returns)

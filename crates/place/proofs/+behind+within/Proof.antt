@@ -1,5 +1,5 @@
 use Rattle.place.proofs.Trailing.{Ahead, within-here, within-flat, within-then, within-else, nowhere, not-there, on, stays, leaves}
-use Rattle.rows.proofs.Shape.{ends}
+use Rattle.rows.proofs.Shape.{ends, flat-end}
 use Rattle.place.proofs.Shape.{then-plan, else-plan, piece-after}
 use Rattle.place.specs.Scan.{trail}
 use Rattle.place.specs.Pieces.{Piece}
@@ -19,6 +19,7 @@ use Rattle.place.proofs.within.Kinds as within-kinds
 use Rattle.place.proofs.+behind+within.Lts-within as within-lts
 use Rattle.rows.proofs.get.Reads as get-reads
 use Rattle.rows.proofs.index.Reads as index-reads
+use Rattle.rows.proofs.after.Reads as after-reads
 use Rattle.place.proofs.inside.Reads as inside-reads
 use Rattle.place.proofs.scan.Reads as scan-reads
 use Rattle.place.proofs.+behind+within.{statement}
@@ -43,7 +44,7 @@ abbrev within-below : ℕ → In 1 within-kinds.ps
 within-below t = and 1 within-kinds.ps (falls 1 within-kinds.ps _<_ μ-within t) within.Pre
 
 abbrev behind-calls : ℕ → behind-lts.Claims
-behind-calls t = (index-reads.Asked, index-reads.Learnt, within-below t, within.Post, scan-reads.Asked, scan-reads.Learnt)
+behind-calls t = (after-reads.Asked, after-reads.Learnt, within-below t, within.Post, scan-reads.Asked, scan-reads.Learnt)
 
 abbrev behind-Inv-loop : behind-lts.InvT-loop
 behind-Inv-loop row from to p x left i₀ i = (i ≤ p) × Piece row left i to × ((q : Piece row left from to) (G : List Forms) → Ahead row left i to G p x (trail (forms G (q .part .lines)) p x))
@@ -57,26 +58,26 @@ behind-returns t c = λ q G. nowhere (c .if1 .taken) (record { more = q; same = 
 behind-loop-holds : (t : ℕ) → behind-lts.Need-loop-holds (behind-calls t) (behind-at t) behind.Post behind-Inv-loop behind-μ-loop
 behind-loop-holds t c = (omega arith, c .before .before .pre .1 .1, λ q G. record { more = q; same = refl })
 
-behind-index-requires : (t : ℕ) → behind-lts.Need-index-requires (behind-calls t) (behind-at t) behind.Post behind-Inv-loop behind-μ-loop
-behind-index-requires t c κs = search needs
+behind-after-requires : (t : ℕ) → behind-lts.Need-after-requires (behind-calls t) (behind-at t) behind.Post behind-Inv-loop behind-μ-loop
+behind-after-requires t c κs = (search needs, λ k. flat-end (c .loop-test .taken) (c .before .loop .inv .1 .part) k)
 
 behind-within-requires : (t : ℕ) → behind-lts.Need-within-requires (behind-calls t) (behind-at t) behind.Post behind-Inv-loop behind-μ-loop
 behind-within-requires t c κs = (omega arith, ((c .before .before .loop-test .taken, c .before .before .before .loop .inv .0, omega arith), (search needs, c .before .before .before .loop .inv .1)))
 
 behind-returns-2 : (t : ℕ) → behind-lts.Need-returns-2 (behind-calls t) (behind-at t) behind.Post behind-Inv-loop behind-μ-loop
-behind-returns-2 t c = λ q G. stays (c .before .before .before .before .loop-test .taken) (c .before .before .before .before .before .loop .inv .0) (c .before .before .before .index .ensures) (c .before .before .if2 .taken) (c .before .within .ensures) (c .if3 .taken) (c .before .before .before .before .before .loop .inv .2 q G)
+behind-returns-2 t c = λ q G. stays (c .before .before .before .before .loop-test .taken) (c .before .before .before .before .before .loop .inv .0) (c .before .before .before .after .ensures) (c .before .before .if2 .taken) (c .before .within .ensures) (c .if3 .taken) (c .before .before .before .before .before .loop .inv .2 q G)
 
 behind-scan-requires : (t : ℕ) → behind-lts.Need-scan-requires (behind-calls t) (behind-at t) behind.Post behind-Inv-loop behind-μ-loop
-behind-scan-requires t c κs = (search needs, piece-after (c .before .before .before .before .loop-test .taken) (c .before .before .before .before .before .loop .inv .1) (c .before .before .before .index .ensures))
+behind-scan-requires t c κs = (search needs, piece-after (c .before .before .before .before .loop-test .taken) (c .before .before .before .before .before .loop .inv .1) (c .before .before .before .after .ensures))
 
 behind-returns-3 : (t : ℕ) → behind-lts.Need-returns-3 (behind-calls t) (behind-at t) behind.Post behind-Inv-loop behind-μ-loop
-behind-returns-3 t c = λ q G. leaves (c .before .before .before .before .before .loop-test .taken) (c .before .before .before .before .before .before .loop .inv .0) (c .before .before .before .before .index .ensures) (c .before .before .before .if2 .taken) (c .before .before .within .ensures) (c .before .if3 .left) (c .scan .ensures) (c .before .before .before .before .before .before .loop .inv .2 q G)
+behind-returns-3 t c = λ q G. leaves (c .before .before .before .before .before .loop-test .taken) (c .before .before .before .before .before .before .loop .inv .0) (c .before .before .before .before .after .ensures) (c .before .before .before .if2 .taken) (c .before .before .within .ensures) (c .before .if3 .left) (c .scan .ensures) (c .before .before .before .before .before .before .loop .inv .2 q G)
 
 behind-loop-less : (t : ℕ) → behind-lts.Need-loop-less (behind-calls t) (behind-at t) behind.Post behind-Inv-loop behind-μ-loop
 behind-loop-less t c = omega (arith, ends (c .before .before .loop-test .taken) (c .before .before .before .loop .inv .1 .part))
 
 behind-loop-again : (t : ℕ) → behind-lts.Need-loop-again (behind-calls t) (behind-at t) behind.Post behind-Inv-loop behind-μ-loop
-behind-loop-again t c = (omega arith, piece-after (c .before .before .loop-test .taken) (c .before .before .before .loop .inv .1) (c .before .index .ensures), λ q G. on (c .before .before .loop-test .taken) (c .before .index .ensures) (c .if2 .left) (c .before .before .before .loop .inv .2 q G))
+behind-loop-again t c = (omega arith, piece-after (c .before .before .loop-test .taken) (c .before .before .before .loop .inv .1) (c .before .after .ensures), λ q G. on (c .before .before .loop-test .taken) (c .before .after .ensures) (c .if2 .left) (c .before .before .before .loop .inv .2 q G))
 
 behind-returns-4 : (t : ℕ) → behind-lts.Need-returns-4 (behind-calls t) (behind-at t) behind.Post behind-Inv-loop behind-μ-loop
 behind-returns-4 t c = λ q G. not-there (c .loop-test .left) (c .before .loop .inv .0) (c .before .loop .inv .2 q G)
@@ -131,7 +132,7 @@ pub +behind+within-spec : {M : Type 1} → statement M
     behind-μ-loop
     (behind-returns t)
     (behind-loop-holds t)
-    (behind-index-requires t)
+    (behind-after-requires t)
     (behind-within-requires t)
     (behind-returns-2 t)
     (behind-scan-requires t)

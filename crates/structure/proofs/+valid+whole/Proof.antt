@@ -1,5 +1,5 @@
 use Rattle.structure.proofs.Deciding.{head-of, head-sound, head-flat, head-loop, head-if, head-body, head-then, head-else, join, nothing}
-use Rattle.rows.proofs.Shape.{rep-le, after}
+use Rattle.rows.proofs.Shape.{rep-le, after, flat-end}
 use Rattle.rows.specs.Rows.{Part}
 use Prim.Native.Nat.{_+_, _-_}
 use mathlib.Core.Path.{_∙_, sym}
@@ -17,6 +17,7 @@ use Rattle.structure.proofs.whole.Kinds as whole-kinds
 use Rattle.structure.proofs.+valid+whole.Lts-whole as whole-lts
 use Rattle.rows.proofs.get.Reads as get-reads
 use Rattle.rows.proofs.index.Reads as index-reads
+use Rattle.rows.proofs.after.Reads as after-reads
 use Rattle.rows.proofs.Answers.{said-true, said-false, same-answer}
 use Rattle.structure.proofs.sound.Reads as sound-reads
 use Rattle.structure.proofs.+valid+whole.{statement}
@@ -41,7 +42,7 @@ abbrev whole-below : ℕ → In 2 whole-kinds.ps
 whole-below t = and 2 whole-kinds.ps (falls 2 whole-kinds.ps _<_ μ-whole t) whole.Pre
 
 abbrev valid-calls : ℕ → valid-lts.Claims
-valid-calls t = (whole-below t, whole.Post, index-reads.Asked, index-reads.Learnt)
+valid-calls t = (whole-below t, whole.Post, after-reads.Asked, after-reads.Learnt)
 
 abbrev valid-Inv-loop : valid-lts.InvT-loop
 valid-Inv-loop row from to left l hs i₀ i =
@@ -59,8 +60,9 @@ valid-whole-requires t c κs = search needs
 valid-returns : (t : ℕ) → valid-lts.Need-returns (valid-calls t) (valid-at t) valid.Post valid-Inv-loop valid-μ-loop
 valid-returns t c = λ p. said-false (c .before .whole .result) (not-true _ (c .if1 .taken)) (c .before .whole .ensures) (head-of (c .before .before .loop-test .taken) (c .before .before .before .loop .inv .1 p))
 
-valid-index-requires : (t : ℕ) → valid-lts.Need-index-requires (valid-calls t) (valid-at t) valid.Post valid-Inv-loop valid-μ-loop
-valid-index-requires t c κs = search needs
+valid-after-requires : (t : ℕ) → valid-lts.Need-after-requires (valid-calls t) (valid-at t) valid.Post valid-Inv-loop valid-μ-loop
+valid-after-requires t c κs = let h = said-true (c .before .whole .result) (not-false _ (c .if1 .left)) (c .before .whole .ensures) in
+    (search needs, λ k. flat-end (h .grows) (h .part) k)
 
 valid-loop-less : (t : ℕ) → valid-lts.Need-loop-less (valid-calls t) (valid-at t) valid.Post valid-Inv-loop valid-μ-loop
 valid-loop-less t c = let h = (said-true (c .before .before .whole .result) (not-false _ (c .before .if1 .left)) (c .before .before .whole .ensures)) in
@@ -68,8 +70,8 @@ valid-loop-less t c = let h = (said-true (c .before .before .whole .result) (not
 
 valid-loop-again : (t : ℕ) → valid-lts.Need-loop-again (valid-calls t) (valid-at t) valid.Post valid-Inv-loop valid-μ-loop
 valid-loop-again t c = let h = (said-true (c .before .before .whole .result) (not-false _ (c .before .if1 .left)) (c .before .before .whole .ensures)) in (
-  λ p. c .before .before .before .before .loop .inv .0 (join (c .index .ensures) h p),
-  λ p. after (c .before .before .before .loop-test .taken) (c .before .before .before .before .loop .inv .1 p) (c .index .ensures),
+  λ p. c .before .before .before .before .loop .inv .0 (join (c .after .ensures) h p),
+  λ p. after (c .before .before .before .loop-test .taken) (c .before .before .before .before .loop .inv .1 p) (c .after .ensures),
 )
 
 valid-returns-2 : (t : ℕ) → valid-lts.Need-returns-2 (valid-calls t) (valid-at t) valid.Post valid-Inv-loop valid-μ-loop
@@ -160,7 +162,7 @@ pub +valid+whole-spec : {M : Type 1} → statement M
     (valid-loop-holds t)
     (valid-whole-requires t)
     (valid-returns t)
-    (valid-index-requires t)
+    (valid-after-requires t)
     (valid-loop-less t)
     (valid-loop-again t)
     (valid-returns-2 t)
