@@ -44,7 +44,7 @@ fn table(title: &str, counts: Option<&str>, jobs: &[Job]) -> ExitCode {
             costs,
         );
     }
-    tables::print_costs("Time of a call (median of means):", "ns", jobs, &times);
+    tables::print_costs("Time of a call (fastest repetition):", "ns", jobs, &times);
     match &instructions {
         Some(costs) => tables::print_exponents("instructions", jobs, costs),
         None => tables::print_exponents("times", jobs, &times),

@@ -11,7 +11,7 @@ use crate::sides::{Side, PROVED, REFERENCE};
 const MOST_GROUP: u128 = 16;
 const GROUP_TIME: u128 = 20_000;
 
-/// Repetitions, of which the median counts, and the nanoseconds that each takes at least: short ones, so that most are not interrupted.
+/// Repetitions, of which the fastest counts, and the nanoseconds that each takes at least: short ones, so that some are not interrupted.
 const REPETITIONS: usize = 301;
 const LEAST: u128 = 40_000;
 
@@ -44,25 +44,22 @@ fn mean(job: &Job, side: &Side, lent: &mut Lent, states: &mut [State]) -> f64 {
     spent as f64 / (groups * states.len()) as f64
 }
 
-fn median(mut values: Vec<f64>) -> f64 {
-    values.sort_by(f64::total_cmp);
-    values[values.len() / 2]
-}
-
 /// Both sides by turns.
 pub fn time(job: &Job) -> Cost {
     let mut lent = job.lent();
     let first = group(job, &REFERENCE, &mut lent, &mut [job.before]).max(1);
     let mut states = vec![job.before; (GROUP_TIME / first).clamp(1, MOST_GROUP) as usize];
-    let (mut proved, mut reference) = (Vec::new(), Vec::new());
+    let mut fastest = Cost {
+        proved: f64::INFINITY,
+        reference: f64::INFINITY,
+    };
     for _ in 0..REPETITIONS {
-        proved.push(mean(job, &PROVED, &mut lent, &mut states));
-        reference.push(mean(job, &REFERENCE, &mut lent, &mut states));
+        let proved = mean(job, &PROVED, &mut lent, &mut states);
+        let reference = mean(job, &REFERENCE, &mut lent, &mut states);
+        fastest.proved = fastest.proved.min(proved);
+        fastest.reference = fastest.reference.min(reference);
     }
-    Cost {
-        proved: median(proved),
-        reference: median(reference),
-    }
+    fastest
 }
 
 /// Callgrind writes its count down and begins anew where this is called.
