@@ -46,7 +46,7 @@ spread-is xs t (suc n) ls h f =
 -- The row afterwards.
 row-is : (o : Outcome) (h : Head) (xs : List ℕ) (ls : List Leaf) → Holds o xs → filled o h .leaves ≤ length ls → filled o h .leaves ≤ 512
     → spread-over xs (filled o h .leaves) ls ≡ row-after o ls
-row-is (plan p) h xs ls k few small = spread-is xs (table-of p) (filled (plan p) h .leaves) ls few (λ i l. k .leaf-is p refl i (omega arith))
+row-is (plan p) h xs ls k few small = spread-is xs (table-of p) (filled (plan p) h .leaves) ls few (λ i l. k .leaf-is p refl i l)
 row-is (refused j n) h xs ls k few small = refl
 
 -- Answer and head are the verdict's.

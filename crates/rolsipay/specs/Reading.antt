@@ -39,4 +39,4 @@ counted v = count-of (v .answer) (v .head)
 -- An array of all numbers holds the leaves of the plan that was read, if one was.
 pub record Holds (o : Outcome) (xs : List ℕ) : Type 0 where
   pub wide : length xs ≡ 5632
-  pub leaf-is : (p : Plan) → o ≡ plan p → (i : ℕ) → i < 512 → leaf-in xs i ≡ leaf-of (table-of p) i
+  pub leaf-is : (p : Plan) → o ≡ plan p → (i : ℕ) → i < sizes (p .functions) → leaf-in xs i ≡ leaf-of (table-of p) i

@@ -225,11 +225,13 @@ fn read_numbers(out: &mut [u64; 5632], text: &[u8], capacity: usize, head: Head)
         &mut stretches,
         head,
     );
-    store_at(&row, out, 0);
-    store_at(&turns, out, TURNS);
-    store_at(&tails, out, TAILS);
-    store_at(&stretches, out, STRETCHES);
-    count(said)
+    let told = count(said);
+    let n = told.leaves;
+    store_at(&row[..n * STRIDE], out, 0);
+    store_at(&turns[..n], out, TURNS);
+    store_at(&tails[..n], out, TAILS);
+    store_at(&stretches[..n], out, STRETCHES);
+    told
 }
 
 // Reads a plan: its leaves go to the beginning of the lent row and its head is written, and the records past its last leaf keep their values; or it is
