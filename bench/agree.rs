@@ -4,7 +4,7 @@ use crate::edges;
 use crate::jobs::{jobs, Call};
 use crate::memory::{Head, Leaf, Reply, State, FUNCTIONS, LEVELS};
 use crate::plans::Plan;
-use crate::random::{random_text, Random};
+use crate::random::{random_text, spoil, Random};
 use crate::sides::{Side, PROVED, REFERENCE};
 
 const TEXTS: usize = 3_000;
@@ -292,7 +292,7 @@ fn texts(tally: &mut Tally, random: &mut Random) {
         }
         let mut broken = text;
         for _ in 0..1 + random.index(2) {
-            random.spoil(&mut broken);
+            spoil(random, &mut broken);
         }
         tally.read(random, &broken, 600);
     }
@@ -319,7 +319,7 @@ fn measured(tally: &mut Tally, random: &mut Random, plan: &Plan) {
     for _ in 0..HISTORIES {
         history(tally, random, &plan.row, &plan.head);
         let mut broken = plan.text.clone();
-        random.spoil(&mut broken);
+        spoil(random, &mut broken);
         tally.read(random, &broken, plan.leaves);
     }
     damaged_tables(tally, random, &plan.row, &plan.head, DAMAGED_TABLES);

@@ -1,62 +1,31 @@
-//! Random numbers and random plan texts, most of them accepted.
+//! Random plan texts, most of them accepted, and spoiled ones. The random numbers are those of tests/reference.
 
-pub struct Random(u64);
+pub use trials::gen::Random;
 
-impl Random {
-    pub fn new(seed: u64) -> Random {
-        Random(seed)
+/// Changes, drops, doubles or adds a byte, or drops or doubles a line.
+pub fn spoil(random: &mut Random, text: &mut Vec<u8>) {
+    if text.is_empty() {
+        return;
     }
-
-    /// Splitmix64.
-    pub fn next(&mut self) -> u64 {
-        self.0 = self.0.wrapping_add(0x9e37_79b9_7f4a_7c15);
-        let mut z = self.0;
-        z = (z ^ (z >> 30)).wrapping_mul(0xbf58_476d_1ce4_e5b9);
-        z = (z ^ (z >> 27)).wrapping_mul(0x94d0_49bb_1331_11eb);
-        z ^ (z >> 31)
-    }
-
-    pub fn below(&mut self, count: u64) -> u64 {
-        self.next() % count
-    }
-
-    pub fn index(&mut self, count: usize) -> usize {
-        self.below(count as u64) as usize
-    }
-
-    pub fn chance(&mut self, percent: u64) -> bool {
-        self.below(100) < percent
-    }
-
-    pub fn pick<T: Copy>(&mut self, from: &[T]) -> T {
-        from[self.index(from.len())]
-    }
-
-    /// Changes, drops, doubles or adds a byte, or drops or doubles a line.
-    pub fn spoil(&mut self, text: &mut Vec<u8>) {
-        if text.is_empty() {
-            return;
-        }
-        let at = self.index(text.len());
-        let byte = self.pick(b"0123456789()psleaf \ncaiother");
-        let from = text[..at]
-            .iter()
-            .rposition(|&b| b == b'\n')
-            .map_or(0, |k| k + 1);
-        let to = text[at..]
-            .iter()
-            .position(|&b| b == b'\n')
-            .map_or(text.len(), |k| at + k + 1);
-        match self.below(6) {
-            0 => text[at] = byte,
-            1 => drop(text.remove(at)),
-            2 => text.insert(at, text[at]),
-            3 => text.insert(at, byte),
-            4 => drop(text.drain(from..to)),
-            _ => {
-                let line = text[from..to].to_vec();
-                text.splice(from..from, line);
-            }
+    let at = random.index(text.len());
+    let byte = random.pick(b"0123456789()psleaf \ncaiother");
+    let from = text[..at]
+        .iter()
+        .rposition(|&b| b == b'\n')
+        .map_or(0, |k| k + 1);
+    let to = text[at..]
+        .iter()
+        .position(|&b| b == b'\n')
+        .map_or(text.len(), |k| at + k + 1);
+    match random.below(6) {
+        0 => text[at] = byte,
+        1 => drop(text.remove(at)),
+        2 => text.insert(at, text[at]),
+        3 => text.insert(at, byte),
+        4 => drop(text.drain(from..to)),
+        _ => {
+            let line = text[from..to].to_vec();
+            text.splice(from..from, line);
         }
     }
 }

@@ -97,7 +97,7 @@ fn inside(row: &[u64], i: usize, to: usize, x: usize, left: usize) -> u64
 }
 
 // Whether the forms from `from` up to `to` come to the point x in silence (2), or else can be passed in silence (1), or neither (0).
-pub fn scan(row: &[u64], from: usize, to: usize, x: usize, left: usize) -> u64
+fn scan(row: &[u64], from: usize, to: usize, x: usize, left: usize) -> u64
     requires { ⌜ to * 8 ≤ length (now row) ⌝ }
     requires { ⌜ Piece (now row) left from to ⌝ }
     ensures { λ r. ⌜ ((p : Piece (now (row .entry)) left from to) (G : List Forms) → r ≡ look (forms G (p .part .lines)) x) ⌝ }
@@ -138,7 +138,7 @@ fn within(row: &[u64], i: usize, to: usize, p: usize, x: usize, left: usize) -> 
 }
 
 // What a scan for x answers behind the leaf p of the forms from `from` up to `to`; 3 where p is no leaf of their level.
-pub fn behind(row: &[u64], from: usize, to: usize, p: usize, x: usize, left: usize) -> u64
+fn behind(row: &[u64], from: usize, to: usize, p: usize, x: usize, left: usize) -> u64
     requires { ⌜ to * 8 ≤ length (now row) ⌝ }
     requires { ⌜ Piece (now row) left from to ⌝ }
     ensures { λ r. ⌜ ((q : Piece (now (row .entry)) left from to) (G : List Forms) → r ≡ trail (forms G (q .part .lines)) p x) ⌝ }
@@ -336,7 +336,7 @@ fn round_again(
 }
 
 // Where x comes next behind the report at level l.
-pub fn find(
+fn find(
     row: &[u64],
     starts: &[u64],
     n: usize,

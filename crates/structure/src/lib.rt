@@ -324,7 +324,7 @@ fn bounded(row: &[u64], starts: &[u64; BOUNDS], n: usize) -> bool
 }
 
 // Whether the row, with these bounds of n functions, is that of a plan that keeps rules 3 to 7. The heights of its functions stand in `hs`.
-pub fn formed(row: &[u64], starts: &[u64; BOUNDS], n: usize, hs: &mut [u64]) -> bool
+fn formed(row: &[u64], starts: &[u64; BOUNDS], n: usize, hs: &mut [u64]) -> bool
     requires { ⌜ 16 ≤ length (now hs) ⌝ }
     ensures { λ r. ⌜ Says r (Plan-of (now (row .entry)) (now (starts .entry)) n) ⌝ }
     ensures { λ r. ⌜ ((p : Plan-of (now (row .entry)) (now (starts .entry)) n) → take n (now (hs .exit)) ≡ heights [] (p .functions)) ⌝ }

@@ -442,7 +442,7 @@ fn item(table: &Classes, text: &[u8], at: usize, t: u8, f: Fields) -> Fitted
     Fitted::Misfit
 }
 
-// Says whether the sign t stands for itself, is no line feed, and stands at a place. Most signs of a pattern do: they need no fields.
+// Says yes only where the sign t stands for itself and is what stands at a place: the short way for most signs of a pattern, which need no fields.
 fn stands(table: &Classes, text: &[u8], at: usize, t: u8) -> bool
     requires { ⌜ Classed (now table) ⌝ }
     ensures { λ r. ⌜ (r ≡ true → (f : Fields) → ItemAt (now (text .entry)) at t f (Fit f (at + 1))) ⌝ }
