@@ -12,6 +12,7 @@ use Rattle.model.specs.Acceptance.{Accepted}
 use Rattle.model.specs.Places.{passes, seek, onward, can-end}
 use Rattle.model.specs.Stack.{behind, below, whole, kept, seek-at, onward-at, suffix, turned, inside-of, decode}
 use Rattle.model.specs.Calls.{Call, Answer}
+use Rattle.model.specs.Histories.{answers}
 use Rattle.model.specs.Controller.{is-point}
 use Rattle.model.specs.Worked.{plan-A, plan-B, smallest}
 use Rattle.model.proofs.Worked.{plan-A-accepted, plan-B-accepted, smallest-accepted}
@@ -21,20 +22,20 @@ use Rattle.model.specs.Plan as plans
 use Rattle.place.specs.Stack.{frames}
 use Rattle.control.specs.declared.State.{State}
 use Rattle.control.specs.State.{fresh, points?}
-use Rattle.control.specs.Calls.{on-plan, by-phase, call-on}
-use Rattle.control.specs.Cases.{answers, Case, cases, Right, AllRight}
+use Rattle.control.specs.Calls.{on-plan, by-phase, call-on, controller-of}
+use Rattle.control.specs.Cases.{Case, cases, Right, AllRight}
 
 -- The same calls on the plan itself.
 answers-on : Plan → State → List Call → List Answer
 answers-on p s [] = []
 answers-on p s (c ∷ cs) = by-phase p s c (s .running) .answer ∷ answers-on p (by-phase p s c (s .running) .state) cs
 
-on-plans : (p : Plan) → Accepted p → (s : State) (cs : List Call) → answers (table-of p) s cs ≡ answers-on p s cs
+on-plans : (p : Plan) → Accepted p → (s : State) (cs : List Call) → answers (controller-of (table-of p)) s cs ≡ answers-on p s cs
 unfolding answers answers-on call-on
 on-plans p a s [] = refl
 on-plans p a s (c ∷ cs) =
     let e : call-on (table-of p) s c ≡ by-phase p s c (s .running) = ap (λ o. on-plan s c o) (plan-of-exactly (table-of p) p .1 (a, refl)) in
-    ap (λ r. r .answer ∷ answers (table-of p) (r .state) cs) e ∙ ap (λ l. by-phase p s c (s .running) .answer ∷ l) (on-plans p a (by-phase p s c (s .running) .state) cs)
+    ap (λ r. r .answer ∷ answers (controller-of (table-of p)) (r .state) cs) e ∙ ap (λ l. by-phase p s c (s .running) .answer ∷ l) (on-plans p a (by-phase p s c (s .running) .state) cs)
 
 right : (c : Case) → Accepted (c .plan) → table-of (c .plan) .head .total ≡ c .total → table-of (c .plan) .head .loaded ≡ c .max-total → table-of (c .plan) .stretches ≡ c .stretches →
     answers-on (c .plan) fresh (c .calls) ≡ c .expected → Right c

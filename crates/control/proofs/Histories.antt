@@ -20,7 +20,7 @@ use Rattle.model.specs.Levels.{Standing, so-far, history, Frame, stack}
 use Rattle.model.specs.Acceptance.{Accepted}
 use Rattle.model.specs.Places.{pick, locate}
 use Rattle.model.specs.Stack.{Levels, whole, flat, seek-at, decode, times}
-use Rattle.model.specs.Calls.{release, report, end, Answer, go, suspend, stay, resume, ended}
+use Rattle.model.specs.Calls.{release, report, end, Accepts, Answer, go, suspend, stay, resume, ended}
 use Rattle.model.specs.Timed.{PointOf, Fit, Decision, Held}
 use Rattle.model.specs.Controller as places
 use Rattle.model.specs.Controller.{is-point, find, ending, late}
@@ -38,10 +38,10 @@ use Rattle.model.proofs.Theorems as model
 use Rattle.table.specs.Table.{table-of}
 use Rattle.control.specs.declared.State.{State}
 use Rattle.control.specs.State.{fresh, stack-of, levels-of, standing, at-release, at-report}
-use Rattle.control.specs.Calls.{refuse, word, decision, suspended-after, released, next-levels, reported, may-end, closed, running-call, call-on}
-use Rattle.control.specs.Histories.{Accepts, Since}
+use Rattle.control.specs.Calls.{refuse, word, decision, suspended-after, released, next-levels, reported, may-end, closed, running-call, call-on, controller-of}
 use Rattle.control.specs.Meaning.{Decides, DecidesRelease, HistoryState}
-use Rattle.control.specs.Histories as since
+use Rattle.model.specs.Histories as since
+use Rattle.model.specs.Histories.{Since}
 use Rattle.control.proofs.Alike.{place-of, Stands, on-idle, on-running, stands-release, stands-report, same-next, next-moves, timed-some, levels-inner, may-end-is}
 use Rattle.control.proofs.Good.{stands-times}
 
@@ -154,7 +154,7 @@ module _ (p : Plan) (a : Accepted p) where
       by true q = record { ls = []; stands = stands-release p a _; leads = refl; trail = refl }
       by false q = absurd q
 
-  pub state-of : {s : State} {h : List ℕ} {ds : List Decision} → Since (table-of p) s h ds → StateOf s h
+  pub state-of : {s : State} {h : List ℕ} {ds : List Decision} → Since (controller-of (table-of p)) s h ds → StateOf s h
   state-of (since.released q) =
       subst (λ x. StateOf (x .state) []) (sym (on-idle p a fresh release refl)) (after-release (subst (λ x. Accepts (x .answer)) (on-idle p a fresh release refl) q))
   state-of (since.reported {s = s} {h = h} w n r q) =
@@ -189,7 +189,7 @@ module _ (p : Plan) (a : Accepted p) where
         picked (is-point (all-leaves (p .functions)) n) (ltb r (s .reading)) s n r (next-levels p (k .ls) n) (point-of-is p n x) (le-ltb r (s .reading) y) ls i,
   )
 
-  pub report-exactly : {s : State} {h : List ℕ} {ds : List Decision} → Since (table-of p) s h ds → (n r : ℕ) →
+  pub report-exactly : {s : State} {h : List ℕ} {ds : List Decision} → Since (controller-of (table-of p)) s h ds → (n r : ℕ) →
       Accepts (call-on (table-of p) s (report n r) .answer) ↔ (PointOf p n × (s .reading ≤ r) × Reported (main p) (h ++ (n ∷ [])))
   report-exactly {s} {h} w n r =
       let k = state-of w in
@@ -219,7 +219,7 @@ module _ (p : Plan) (a : Accepted p) where
         λ (x, y). e .1 (le-ltb r (s .reading) x, may-end-is p a (k .ls) ∙ m .1 y),
       )
 
-  pub end-exactly : {s : State} {h : List ℕ} {ds : List Decision} → Since (table-of p) s h ds → (r : ℕ) →
+  pub end-exactly : {s : State} {h : List ℕ} {ds : List Decision} → Since (controller-of (table-of p)) s h ds → (r : ℕ) →
       Accepts (call-on (table-of p) s (end r) .answer) ↔ ((s .reading ≤ r) × Ended (main p) h)
   end-exactly {s} {h} w r =
       let k = state-of w in
@@ -247,7 +247,7 @@ module _ (p : Plan) (a : Accepted p) where
 
   -- WHAT A DECISION SAYS
 
-  pub report-decides : {s : State} {h : List ℕ} {ds : List Decision} → Since (table-of p) s h ds → (n t : ℕ) → Accepts (call-on (table-of p) s (report n t) .answer) → Decides p s h n t
+  pub report-decides : {s : State} {h : List ℕ} {ds : List Decision} → Since (controller-of (table-of p)) s h ds → (n t : ℕ) → Accepts (call-on (table-of p) s (report n t) .answer) → Decides p s h n t
   report-decides {s} {h} w n t q =
       let k = state-of w in
       let e = on-running p a s (k .ls) (k .stands) (report n t) in
@@ -288,7 +288,7 @@ module _ (p : Plan) (a : Accepted p) where
   after-is r str t true = refl
   after-is r str t false = refl
 
-  pub shares-exactly : {s : State} {h : List ℕ} {ds : List Decision} → Since (table-of p) s h ds → (s .suspended ≡ false) ↔ Held p ds
+  pub shares-exactly : {s : State} {h : List ℕ} {ds : List Decision} → Since (controller-of (table-of p)) s h ds → (s .suspended ≡ false) ↔ Held p ds
   unfolding Held
   shares-exactly (since.released q) =
       let d = release-decides fresh refl q in
@@ -331,5 +331,5 @@ module _ (p : Plan) (a : Accepted p) where
   leads-run [] m h e = absurd (let z : _≡_ {A = ℕ} 0 1 = cc in omega arith)
   leads-run (g ∷ ks) m h (n, k, e, l) = leads-reported (main p) (m ∷ h) (accepted-traceable p a) .0 (whole (g ∷ ks), l)
 
-  pub history-state : {s : State} {m : ℕ} {h : List ℕ} {ds : List Decision} → Since (table-of p) s (m ∷ h) ds → HistoryState p s (m ∷ h)
+  pub history-state : {s : State} {m : ℕ} {h : List ℕ} {ds : List Decision} → Since (controller-of (table-of p)) s (m ∷ h) ds → HistoryState p s (m ∷ h)
   history-state {s} {m} {h} w = let k = state-of w in history-found s m h (k .ls) (k .stands .stands) (k .trail) (leads-run (k .ls) m h (k .leads))

@@ -11,7 +11,7 @@ use Rattle.model.specs.Remaining.{Reported, Ended}
 use Rattle.model.specs.Condition.{Condition, margin}
 use Rattle.model.specs.Acceptance.{Accepted}
 use Rattle.model.specs.Stack.{Levels}
-use Rattle.model.specs.Calls.{Call, release, report, end, refused, go, suspend, stay}
+use Rattle.model.specs.Calls.{Call, release, report, end, refused, go, suspend, stay, Accepts}
 use Rattle.model.specs.Timed.{Decision, Held, PointOf, Fit, KeepsDeadline}
 use Rattle.model.specs.Controller as places
 use Rattle.model.specs.Controller.{late}
@@ -20,7 +20,7 @@ use Rattle.table.specs.Table.{Table, table-of}
 use Rattle.control.specs.declared.State.{State}
 use Rattle.control.specs.State.{standing}
 use Rattle.control.specs.Calls.{decision, call-on, controller-of}
-use Rattle.control.specs.Histories.{Accepts, Since}
+use Rattle.model.specs.Histories.{Since}
 use Rattle.control.specs.Meaning.{StandsSomewhere, DecidesRelease, Decides, HistoryState}
 use Rattle.control.proofs.Alike as alike
 use Rattle.control.proofs.Alike.{Tied}
@@ -45,7 +45,7 @@ calls-alike = alike.alike
 -- DEMAND 2: consider the table of an accepted plan, and any state after an accepted release and accepted reports from a fresh state (`Since`).
 
 -- The state is that of its history: some run with these reports stands at its stack, and its remaining times are that run's 33.
-pub state-is-of-history : (p : Plan) (a : Accepted p) {s : State} {m : ℕ} {h : List ℕ} {ds : List Decision} → Since (table-of p) s (m ∷ h) ds → HistoryState p s (m ∷ h)
+pub state-is-of-history : (p : Plan) (a : Accepted p) {s : State} {m : ℕ} {h : List ℕ} {ds : List Decision} → Since (controller-of (table-of p)) s (m ∷ h) ds → HistoryState p s (m ∷ h)
 state-is-of-history = histories.history-state
 
 -- A release of an idle state is accepted exactly when total + T is within D; a report exactly when the number is a point, the reading is not below the
@@ -54,11 +54,11 @@ state-is-of-history = histories.history-state
 pub release-accepted-exactly : (p : Plan) (a : Accepted p) (s : State) → s .running ≡ false → Accepts (call-on (table-of p) s release .answer) ↔ Fit p
 release-accepted-exactly = histories.release-exactly
 
-pub report-accepted-exactly : (p : Plan) (a : Accepted p) {s : State} {h : List ℕ} {ds : List Decision} → Since (table-of p) s h ds → (n r : ℕ) →
+pub report-accepted-exactly : (p : Plan) (a : Accepted p) {s : State} {h : List ℕ} {ds : List Decision} → Since (controller-of (table-of p)) s h ds → (n r : ℕ) →
     Accepts (call-on (table-of p) s (report n r) .answer) ↔ (PointOf p n × (s .reading ≤ r) × Reported (main p) (h ++ (n ∷ [])))
 report-accepted-exactly = histories.report-exactly
 
-pub end-accepted-exactly : (p : Plan) (a : Accepted p) {s : State} {h : List ℕ} {ds : List Decision} → Since (table-of p) s h ds → (r : ℕ) →
+pub end-accepted-exactly : (p : Plan) (a : Accepted p) {s : State} {h : List ℕ} {ds : List Decision} → Since (controller-of (table-of p)) s h ds → (r : ℕ) →
     Accepts (call-on (table-of p) s (end r) .answer) ↔ ((s .reading ≤ r) × Ended (main p) h)
 end-accepted-exactly = histories.end-exactly
 
@@ -67,7 +67,7 @@ end-accepted-exactly = histories.end-exactly
 pub release-answer : (p : Plan) (a : Accepted p) (s : State) → s .running ≡ false → Accepts (call-on (table-of p) s release .answer) → DecidesRelease p s
 release-answer = histories.release-decides
 
-pub report-answer : (p : Plan) (a : Accepted p) {s : State} {h : List ℕ} {ds : List Decision} → Since (table-of p) s h ds → (n t : ℕ) →
+pub report-answer : (p : Plan) (a : Accepted p) {s : State} {h : List ℕ} {ds : List Decision} → Since (controller-of (table-of p)) s h ds → (n t : ℕ) →
     Accepts (call-on (table-of p) s (report n t) .answer) → Decides p s h n t
 report-answer = histories.report-decides
 
@@ -78,7 +78,7 @@ pub decision-says : (p : Plan) (r str t : ℕ) → (decision p r str t true ≡ 
 decision-says = histories.decision-words
 
 -- The others are suspended exactly where the condition failed at the release or at a decision since: suspend comes at the first of these.
-pub others-share-exactly : (p : Plan) (a : Accepted p) {s : State} {h : List ℕ} {ds : List Decision} → Since (table-of p) s h ds → (s .suspended ≡ false) ↔ Held p ds
+pub others-share-exactly : (p : Plan) (a : Accepted p) {s : State} {h : List ℕ} {ds : List Decision} → Since (controller-of (table-of p)) s h ds → (s .suspended ≡ false) ↔ Held p ds
 others-share-exactly = histories.shares-exactly
 
 -- DEMAND 3: consider any accepted plan with total + T within D, and its table. Every list of calls on that table that timed runs of the plan make,

@@ -9,16 +9,11 @@ use lib.IntN.{pos, negsuc}
 use Rattle.model.specs.Plan.{Plan}
 use Rattle.model.specs.Acceptance.{Accepted}
 use Rattle.model.specs.Calls.{Call, release, report, end, Answer, refused, go, suspend, stay, resume, ended}
+use Rattle.model.specs.Histories.{answers}
 use Rattle.model.specs.Worked.{plan-A, plan-B, smallest}
-use Rattle.table.specs.Table.{Table, table-of}
-use Rattle.control.specs.declared.State.{State}
+use Rattle.table.specs.Table.{table-of}
 use Rattle.control.specs.State.{fresh}
-use Rattle.control.specs.Calls.{call-on}
-
--- The answers to calls, one after the other, each on the state that the last one left.
-unfoldable pub answers : Table → State → List Call → List Answer
-answers t s [] = []
-answers t s (c ∷ cs) = call-on t s c .answer ∷ answers t (call-on t s c .state) cs
+use Rattle.control.specs.Calls.{controller-of}
 
 -- A plan with its totals and the stretches of its leaves (0 where silent), calls and their answers.
 pub record Case : Type 0 where
@@ -111,7 +106,7 @@ pub record Right (c : Case) : Type 0 where
   pub total-is : table-of (c .plan) .head .total ≡ c .total
   pub max-total-is : table-of (c .plan) .head .loaded ≡ c .max-total
   pub stretches-are : table-of (c .plan) .stretches ≡ c .stretches
-  pub right : answers (table-of (c .plan)) fresh (c .calls) ≡ c .expected
+  pub right : answers (controller-of (table-of (c .plan))) fresh (c .calls) ≡ c .expected
 
 unfoldable pub AllRight : List Case → Type 0
 AllRight [] = Unit

@@ -1,4 +1,4 @@
--- Demand 2 on a table of an accepted plan: which calls are accepted behind a history, and what they answer, without a word about the state.
+-- Demand 2 on the table of an accepted plan in lent memory, with the state by value: which calls are accepted behind a history, and what they answer, without a word about the state.
 use mathlib.Core.Bool.{Bool, true, false}
 use mathlib.Core.List.{List, [], _∷_, _++_}
 use mathlib.Core.Logic.{_↔_}
@@ -15,19 +15,21 @@ use Rattle.model.specs.Stretch.{silence}
 use Rattle.model.specs.Condition.{margin, holds}
 use Rattle.model.specs.Places.{pick}
 use Rattle.model.specs.Stack.{Levels}
-use Rattle.model.specs.Calls.{Call, release, report, end, go, suspend, stay, resume, ended}
+use Rattle.model.specs.Calls.{Call, release, report, end, Answer, go, suspend, stay, resume, ended, Accepts}
 use Rattle.model.specs.Timed.{Decision, RemainingAt, StretchAt, Held, PointOf, Fit, last-reading}
 use Rattle.model.specs.Controller.{is-point, late}
 use Rattle.model.proofs.Decisions.{holds-exactly, remaining-report, stretch-report}
-use Rattle.table.specs.Table.{Table, table-of}
+use Rattle.table.specs.Table.{table-of}
 use Rattle.control.specs.declared.State.{State}
 use Rattle.control.specs.State.{fresh, standing, at-release}
-use Rattle.control.specs.Calls.{refuse, word, decision, suspended-after, released, next-levels, reported, may-end, closed, at-levels, by-phase, call-on}
-use Rattle.control.specs.Histories.{Accepts, Since}
-use Rattle.control.specs.Histories as since
+use Rattle.control.specs.Calls.{refuse, word, decision, suspended-after, released, next-levels, reported, may-end, closed, at-levels, by-phase, call-on, controller-of}
+use Rattle.model.specs.Histories.{Since}
+use Rattle.model.specs.Histories as since
 use Rattle.control.proofs.Theorems as control
 use Rattle.demands.specs.Decisions.{Worded, goes, suspends, stays, Decided, Closes, resumes, just-ends}
+use Rattle.demands.specs.Delivered.{Memory, zeros}
 use Rattle.demands.specs.Rules.{TableOf}
+use Rattle.demands.proofs.Tables.{table-held, numbers-held}
 use Rattle.demands.proofs.Calls.{on-table}
 
 -- A RELEASE IS OPEN, AND ITS LAST READING
@@ -65,12 +67,12 @@ release-reads p q = by (leb (total C (main p) + p .switch) (p .deadline)) q
     by false q = absurd q
 
 -- Behind a history a release is open, and the last reading is that of the last decision.
-pub since-reads : (p : Plan) (t : Table) → TableOf p t → {s : State} {h : List ℕ} {ds : List Decision} → Since t s h ds → Reads s (last-reading ds)
-since-reads p t o (since.released q) =
-    let e = on-table t fresh release p o in
+pub since-reads : (p : Plan) (m : Memory) → TableOf p m → {s : State} {h : List ℕ} {ds : List Decision} → Since (controller-of (table-held m)) s h ds → Reads s (last-reading ds)
+since-reads p m o (since.released q) =
+    let e = on-table m fresh release p o in
     subst (λ x. Reads (x .state) 0) (sym e) (release-reads p (subst (λ x. Accepts (x .answer)) e q))
-since-reads p t o (since.reported {s = s} w n r q) =
-    let e = on-table t s (report n r) p o in
+since-reads p m o (since.reported {s = s} w n r q) =
+    let e = on-table m s (report n r) p o in
     subst (λ x. Reads (x .state) r) (sym e) (report-reads p s n r (s .running) (subst (λ x. Accepts (x .answer)) e q))
 
 -- No release is accepted while one is open.
@@ -82,9 +84,9 @@ release-open p s q = by (standing p s) q
     by (some ls) q = q
 
 -- So behind a history no release is accepted.
-pub since-busy : (p : Plan) (t : Table) → TableOf p t → {s : State} {h : List ℕ} {ds : List Decision} → Since t s h ds → ¬ Accepts (call-on t s release .answer)
-since-busy p t o {s} w q =
-    release-open p s (subst (λ x. Accepts (x .answer)) (on-table t s release p o ∙ ap (by-phase p s release) (since-reads p t o w .0)) q)
+pub since-busy : (p : Plan) (m : Memory) → TableOf p m → {s : State} {h : List ℕ} {ds : List Decision} → Since (controller-of (table-held m)) s h ds → ¬ Accepts (call-on (table-held m) s release .answer)
+since-busy p m o {s} w q =
+    release-open p s (subst (λ x. Accepts (x .answer)) (on-table m s release p o ∙ ap (by-phase p s release) (since-reads p m o w .0)) q)
 
 -- THE WORD OF A DECISION
 
@@ -115,26 +117,26 @@ end-reply p s r true q = at-place (standing p s) q
 
 -- An end answers by whether the others are suspended.
 closed-said : (p : Plan) (ds : List Decision) (r : ℕ) (suspended : Bool) → (suspended ≡ false) ↔ Held p ds →
-    Closes p ds r (record { state = fresh; answer = pick suspended (resume (late p r)) (ended (late p r)) })
+    Closes p ds r (record { state = zeros; answer = pick suspended (resume (late p r)) (ended (late p r)) })
 closed-said p ds r true w = resumes (λ h. let e = w .1 h in let z : _≡_ {A = ℕ} 0 1 = cc in omega arith)
 closed-said p ds r false w = just-ends (w .0 refl)
 
 -- ON THE TABLE OF AN ACCEPTED PLAN
 
-module _ (p : Plan) (t : Table) (o : TableOf p t) where
+module _ (p : Plan) (m : Memory) (o : TableOf p m) where
   -- A history on this table is one on the plan's.
-  since-plan : {s : State} {h : List ℕ} {ds : List Decision} → Since t s h ds → Since (table-of p) s h ds
-  since-plan {s} {h} {ds} w = subst (λ x. Since x s h ds) (o .table-is) w
+  since-plan : {s : State} {h : List ℕ} {ds : List Decision} → Since (controller-of (table-held m)) s h ds → Since (controller-of (table-of p)) s h ds
+  since-plan {s} {h} {ds} w = subst (λ x. Since (controller-of x) s h ds) (numbers-held p m o) w
 
   -- The reply to a call on the plan's table is that on this one.
-  replied : (s : State) (c : Call) → call-on (table-of p) s c ≡ call-on t s c
-  replied s c = ap (λ x. call-on x s c) (sym (o .table-is))
+  replied : (s : State) (c : Call) → call-on (table-of p) s c ≡ call-on (table-held m) s c
+  replied s c = ap (λ x. call-on x s c) (sym (numbers-held p m o))
 
   -- The release.
-  pub release-exactly : Accepts (call-on t fresh release .answer) ↔ Fit p
+  pub release-exactly : Accepts (call-on (table-held m) fresh release .answer) ↔ Fit p
   release-exactly = subst (λ x. Accepts (x .answer) ↔ Fit p) (replied fresh release) (control.release-accepted-exactly p (o .accepted) fresh refl)
 
-  pub release-decided : Accepts (call-on t fresh release .answer) → Decided p [] (record { history = []; reading = 0 }) (call-on t fresh release .answer)
+  pub release-decided : Accepts (call-on (table-held m) fresh release .answer) → Decided p [] (record { history = []; reading = 0 }) (call-on (table-held m) fresh release .answer)
   unfolding Held
   release-decided q =
       let d = control.release-answer p (o .accepted) fresh refl (subst (λ x. Accepts (x .answer)) (sym (replied fresh release)) q) in
@@ -149,15 +151,15 @@ module _ (p : Plan) (t : Table) (o : TableOf p t) where
       })
 
   -- A report.
-  pub report-exactly : {s : State} {h : List ℕ} {ds : List Decision} → Since t s h ds → (n r : ℕ) →
-      Accepts (call-on t s (report n r) .answer) ↔ (PointOf p n × (last-reading ds ≤ r) × Reported (main p) (h ++ (n ∷ [])))
+  pub report-exactly : {s : State} {h : List ℕ} {ds : List Decision} → Since (controller-of (table-held m)) s h ds → (n r : ℕ) →
+      Accepts (call-on (table-held m) s (report n r) .answer) ↔ (PointOf p n × (last-reading ds ≤ r) × Reported (main p) (h ++ (n ∷ [])))
   report-exactly {s} {h} {ds} w n r =
       let k = control.report-accepted-exactly p (o .accepted) (since-plan w) n r in
       subst (λ x. Accepts (x .answer) ↔ (PointOf p n × (last-reading ds ≤ r) × Reported (main p) (h ++ (n ∷ [])))) (replied s (report n r))
-      (subst (λ x. Accepts (call-on (table-of p) s (report n r) .answer) ↔ (PointOf p n × (x ≤ r) × Reported (main p) (h ++ (n ∷ [])))) (since-reads p t o w .1) k)
+      (subst (λ x. Accepts (call-on (table-of p) s (report n r) .answer) ↔ (PointOf p n × (x ≤ r) × Reported (main p) (h ++ (n ∷ [])))) (since-reads p m o w .1) k)
 
-  pub report-decided : {s : State} {h : List ℕ} {ds : List Decision} → Since t s h ds → (n r : ℕ) → Accepts (call-on t s (report n r) .answer) →
-      Decided p ds (record { history = h ++ (n ∷ []); reading = r }) (call-on t s (report n r) .answer)
+  pub report-decided : {s : State} {h : List ℕ} {ds : List Decision} → Since (controller-of (table-held m)) s h ds → (n r : ℕ) → Accepts (call-on (table-held m) s (report n r) .answer) →
+      Decided p ds (record { history = h ++ (n ∷ []); reading = r }) (call-on (table-held m) s (report n r) .answer)
   report-decided {s} {h} {ds} w n r q =
       let d = control.report-answer p (o .accepted) (since-plan w) n r (subst (λ x. Accepts (x .answer)) (sym (replied s (report n r))) q) in
       let e = sym (d .answer-is) ∙ ap (λ x. x .answer) (replied s (report n r)) in
@@ -173,14 +175,20 @@ module _ (p : Plan) (t : Table) (o : TableOf p t) where
       })
 
   -- The end.
-  pub end-exactly : {s : State} {h : List ℕ} {ds : List Decision} → Since t s h ds → (r : ℕ) → Accepts (call-on t s (end r) .answer) ↔ ((last-reading ds ≤ r) × Ended (main p) h)
+  pub end-exactly : {s : State} {h : List ℕ} {ds : List Decision} → Since (controller-of (table-held m)) s h ds → (r : ℕ) → Accepts (call-on (table-held m) s (end r) .answer) ↔ ((last-reading ds ≤ r) × Ended (main p) h)
   end-exactly {s} {h} {ds} w r =
       let k = control.end-accepted-exactly p (o .accepted) (since-plan w) r in
       subst (λ x. Accepts (x .answer) ↔ ((last-reading ds ≤ r) × Ended (main p) h)) (replied s (end r))
-      (subst (λ x. Accepts (call-on (table-of p) s (end r) .answer) ↔ ((x ≤ r) × Ended (main p) h)) (since-reads p t o w .1) k)
+      (subst (λ x. Accepts (call-on (table-of p) s (end r) .answer) ↔ ((x ≤ r) × Ended (main p) h)) (since-reads p m o w .1) k)
 
-  pub end-closes : {s : State} {h : List ℕ} {ds : List Decision} → Since t s h ds → (r : ℕ) → Accepts (call-on t s (end r) .answer) → Closes p ds r (call-on t s (end r))
-  end-closes {s} {h} {ds} w r q =
-      let e = on-table t s (end r) p o in
-      let i = e ∙ end-reply p s r (s .running) (subst (λ x. Accepts (x .answer)) e q) in
-      subst (Closes p ds r) (sym i) (closed-said p ds r (s .suspended) (control.others-share-exactly p (o .accepted) (since-plan w)))
+  -- Its answer, and the state that it leaves.
+  pub end-closed : {s : State} {h : List ℕ} {ds : List Decision} → Since (controller-of (table-held m)) s h ds → (r : ℕ) →
+      Accepts (call-on (table-held m) s (end r) .answer) →
+      Closes p ds r (record { state = zeros; answer = call-on (table-held m) s (end r) .answer }) × (call-on (table-held m) s (end r) .state ≡ fresh)
+  end-closed {s} {h} {ds} w r q =
+      let e = on-table m s (end r) p o in
+      let i = e ∙ end-reply p s r (s .running) (subst (λ x. Accepts (x .answer)) e q) in (
+        subst (λ x. Closes p ds r (record { state = zeros; answer = x .answer })) (sym i)
+        (closed-said p ds r (s .suspended) (control.others-share-exactly p (o .accepted) (since-plan w))),
+        ap (λ x. x .state) i,
+      )

@@ -1,31 +1,29 @@
--- The delivered calls answer as the controller does on the table that lies in the row, and so keep the deadline.
-use mathlib.Core.List.{List}
+-- The delivered calls answer as the controller does on the table in lent memory; a refused one leaves the lent state, and the states that the others lead
+-- to stand for the controller's. So they keep the deadline.
+use mathlib.Core.List.{List, [], _∷_, _++_}
 use mathlib.Core.Path.{_≡_, refl, ap, sym, _∙_, subst}
 use Prim.Native.Nat.{ℕ}
-use lib.ListN.{length}
 use Rattle.model.specs.Plan.{Plan}
-use Rattle.model.specs.Acceptance.{Accepted}
 use Rattle.model.specs.Calls as calls
-use Rattle.model.specs.Calls.{Call, refused, go, suspend, stay, resume, ended}
-use Rattle.model.specs.Timed.{Fit, KeepsDeadline}
+use Rattle.model.specs.Calls.{Call, refused, go, suspend, stay, resume, ended, Accepts}
+use Rattle.model.specs.Timed.{Decision, Fit, KeepsDeadline}
+use Rattle.model.specs.Histories.{Since, answers}
+use Rattle.model.specs.Histories as since
 use Rattle.model.specs.Controller as places
+use Rattle.model.specs.Places.{pick}
 use Rattle.model.proofs.Theorems as model
-use Rattle.reader.specs.Machine.{plan}
-use Rattle.table.specs.declared.Head.{Head}
-use Rattle.table.specs.Table.{Table, table-of, head-of}
-use Rattle.table.specs.Reading.{verdict, verdict-of}
-use Rattle.table.proofs.Theorems as table
+use Rattle.table.specs.Table.{Table}
+use Rattle.control.specs.declared.State as control
 use Rattle.control.specs.Answers.{answer-of}
-use Rattle.control.specs.Calls.{call-on}
+use Rattle.control.specs.Calls.{call-on, controller-of}
 use Rattle.control.proofs.Alike as alike
 use Rattle.control.proofs.Alike.{Tied}
-use Rattle.rolsipay.specs.declared.Leaf.{Leaf}
 use Rattle.rolsipay.specs.declared.State.{State}
-use Rattle.rolsipay.specs.Lent.{table-in}
-use Rattle.rolsipay.specs.Reading.{row-after}
-use Rattle.rolsipay.specs.Calling.{state-of, called}
-use Rattle.rolsipay.proofs.Theorems.{read-back, call-answer, call-state}
-use Rattle.demands.specs.Delivered.{meant, zeros, delivered}
+use Rattle.rolsipay.specs.Calling.{state-of, lent, refusing, called}
+use Rattle.rolsipay.proofs.Theorems.{call-answer, call-state}
+use Rattle.demands.specs.Delivered.{Memory, meant, zeros, delivered}
+use Rattle.demands.specs.Rules.{TableOf}
+use Rattle.demands.proofs.Tables.{table-held, numbers-held}
 
 -- An answer that is returned says the answer that was meant.
 says-meant : (a : calls.Answer) → meant (answer-of a) ≡ a
@@ -36,32 +34,61 @@ says-meant (stay r m late) = refl
 says-meant (resume late) = refl
 says-meant (ended late) = refl
 
--- Answer and state of a delivered call are those of the call on the table in the row.
-pub answer-meant : (ls : List Leaf) (h : Head) (s : State) (c : Call) → meant (called ls h s c .answer) ≡ call-on (table-in ls h) (state-of s) c .answer
-answer-meant ls h s c = ap (λ a. meant a) (call-answer ls h s c) ∙ says-meant (call-on (table-in ls h) (state-of s) c .answer)
+-- An accepted call moves the lent state on.
+moves : (s x : State) (a : calls.Answer) → Accepts a → pick (refusing (answer-of a)) s x ≡ x
+moves s x (refused n) q = absurd q
+moves s x (go r m late) q = refl
+moves s x (suspend r m late) q = refl
+moves s x (stay r m late) q = refl
+moves s x (resume late) q = refl
+moves s x (ended late) q = refl
 
-pub state-left : (ls : List Leaf) (h : Head) (s : State) (c : Call) → state-of (called ls h s c .state) ≡ call-on (table-in ls h) (state-of s) c .state
-state-left = call-state
+module _ (m : Memory) where
+  -- The reply of the controller on the table in the memory, to the state that the lent one stands for.
+  abbrev reply : State → Call → calls.Reply control.State
+  reply s c = call-on (table-held m) (state-of s) c
 
--- On a row and head that hold the table of the plan, answer and state are those of the call on that table.
-module _ (ls : List Leaf) (h : Head) (p : Plan) (e : table-in ls h ≡ table-of p) where
-  answers : (s : State) (c : Call) → meant (called ls h s c .answer) ≡ call-on (table-of p) (state-of s) c .answer
-  answers s c =
-      answer-meant ls h s c ∙ ap (λ (t : Table). call-on t (state-of s) c .answer) e
+  -- Answer and state of a delivered call are those of this reply.
+  pub answer-meant : (s : State) (c : Call) → delivered m .respond s c .answer ≡ reply s c .answer
+  answer-meant s c = ap (λ a. meant a) (call-answer (m .row) (m .head) s c) ∙ says-meant (reply s c .answer)
 
-  leaves-state : (s : State) (c : Call) → state-of (called ls h s c .state) ≡ call-on (table-of p) (state-of s) c .state
-  leaves-state s c = call-state ls h s c ∙ ap (λ (t : Table). call-on t (state-of s) c .state) e
+  pub state-left : (s : State) (c : Call) → state-of (delivered m .respond s c .state) ≡ reply s c .state
+  state-left = call-state (m .row) (m .head)
 
-  keeps-deadline : Accepted p → Fit p → KeepsDeadline p (delivered ls h)
-  keeps-deadline a f =
-      model.deadline-kept-alike p (delivered ls h) (λ s x. Tied p a (state-of s) x) a f refl
-      (λ s x c t.
-      let y = alike.alike p a (state-of s) x c t in
-      (answers s c ∙ y .0, subst (λ k. Tied p a k (places.respond p x c .state)) (sym (leaves-state s c)) (y .1)))
+  -- A refused call leaves every number of the lent state.
+  pub refused-keeps : (s : State) (c : Call) (k : ℕ) → delivered m .respond s c .answer ≡ refused k → delivered m .respond s c .state ≡ s
+  unfolding called
+  refused-keeps s c k e = ap (λ a. pick (refusing (answer-of a)) s (lent (reply s c .state))) (sym (answer-meant s c) ∙ e)
 
--- So they do after a text was read into lent memory as the plan.
-pub read-keeps-deadline : (ls : List Leaf) (h : Head) (text : List ℕ) (p : Plan) → verdict (length ls) text ≡ plan p → Fit p →
-    KeepsDeadline p (delivered (row-after (verdict (length ls) text) ls) (verdict-of (verdict (length ls) text) h .head))
-read-keeps-deadline ls h text p e f =
-    let a = table.read-as-plan (length ls) text p .0 e .1 in
-    rw e (keeps-deadline (row-after (plan p) ls) (head-of p) p (read-back p a ls) a f)
+  -- An accepted one leaves the lent form of the controller's state.
+  pub accepted-leaves : (s : State) (c : Call) → Accepts (reply s c .answer) → delivered m .respond s c .state ≡ lent (reply s c .state)
+  unfolding called
+  accepted-leaves s c q = moves s (lent (reply s c .state)) (reply s c .answer) q
+
+  -- A history of the delivered calls is one of the controller's, and the answers to any calls are the same.
+  pub since-held : {s : State} {h : List ℕ} {ds : List Decision} → Since (delivered m) s h ds → Since (controller-of (table-held m)) (state-of s) h ds
+  since-held (since.released q) =
+      subst (λ x. Since (controller-of (table-held m)) x [] (record { history = []; reading = 0 } ∷ [])) (sym (state-left zeros calls.release))
+      (since.released (subst Accepts (answer-meant zeros calls.release) q))
+  since-held (since.reported {s = s} {h = h} {ds = ds} w n r q) =
+      subst (λ x. Since (controller-of (table-held m)) x (h ++ (n ∷ [])) (record { history = h ++ (n ∷ []); reading = r } ∷ ds)) (sym (state-left s (calls.report n r)))
+      (since.reported (since-held w) n r (subst Accepts (answer-meant s (calls.report n r)) q))
+
+  pub answers-held : (s : State) (cs : List Call) → answers (delivered m) s cs ≡ answers (controller-of (table-held m)) (state-of s) cs
+  unfolding answers
+  answers-held s [] = refl
+  answers-held s (c ∷ cs) =
+      ap (λ l. delivered m .respond s c .answer ∷ l) (answers-held (delivered m .respond s c .state) cs ∙ ap (λ x. answers (controller-of (table-held m)) x cs) (state-left s c)) ∙
+      ap (λ a. a ∷ answers (controller-of (table-held m)) (reply s c .state) cs) (answer-meant s c)
+
+-- On the table of an accepted plan with total + T within D they keep the deadline.
+pub keeps-deadline : (p : Plan) (m : Memory) → TableOf p m → Fit p → KeepsDeadline p (delivered m)
+keeps-deadline p m o f =
+    let a = o .accepted in
+    model.deadline-kept-alike p (delivered m) (λ s x. Tied p a (state-of s) x) a f refl
+    (λ s x c t.
+    let y = alike.alike p a (state-of s) x c t in (
+      answer-meant m s c ∙ (ap (λ (u : Table). call-on u (state-of s) c .answer) (numbers-held p m o) ∙ y .0),
+      subst (λ k. Tied p a k (places.respond p x c .state))
+      (sym (state-left m s c ∙ ap (λ (u : Table). call-on u (state-of s) c .state) (numbers-held p m o))) (y .1),
+    ))

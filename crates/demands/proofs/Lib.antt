@@ -1,9 +1,11 @@
 pub mod Tests
 pub mod Texts
+pub mod Tables
 pub mod Onward
 pub mod Calls
 pub mod Decisions
-pub mod Worst
-pub mod Reached
 pub mod Delivered
+pub mod Reached
+pub mod Cases
+pub mod Worst
 pub mod Theorems

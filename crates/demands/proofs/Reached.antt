@@ -1,99 +1,178 @@
--- Every list of calls from a fresh state leads to a fresh state or to one after an accepted release and accepted reports; and there the calls that the
--- rules refuse are those that a list of demand 3 may hold among the calls of its timed runs.
+-- Every list of delivered calls from a fresh state leads to a fresh state or to one after an accepted release and accepted reports; what the calls answer
+-- there; and that the calls which the rules refuse there are those that a list of demand 3 may hold among the calls of its timed runs.
 use mathlib.Core.Bool.{Bool, true, false}
 use mathlib.Core.List.{List, [], _∷_, _++_}
 use mathlib.Core.Logic.{_⊎_, _↔_, inl, inr}
-use mathlib.Core.Option.{some}
-use mathlib.Core.Path.{_≡_, refl, ap, sym, subst}
-use Prim.Native.Nat.{ℕ, _<_}
+use mathlib.Core.Path.{_≡_, refl, ap, sym, _∙_, subst}
+use Prim.Native.Nat.{ℕ, _≤_, _<_}
 use native.Mathlib.Omega.{arith}
 use native.Mathlib.Decide.{decLe}
 use Rattle.model.specs.Plan.{Block, Plan, all-leaves}
 use Rattle.model.specs.Forms.{main}
 use Rattle.model.specs.Remaining.{Reported, Ended}
-use Rattle.model.specs.Calls.{Call, release, report, end, refused, Reply}
+use Rattle.model.specs.Calls.{Call, release, report, end, refused, Answer, Accepts, Reply}
 use Rattle.model.specs.Timed.{Decision, PointOf, Fit, last-reading, opened, Refusable}
 use Rattle.model.specs.Timed as timed
+use Rattle.model.specs.Histories.{Reached, at-first, after, Since}
+use Rattle.model.specs.Histories as since
 use Rattle.model.specs.Controller.{is-point}
-use Rattle.table.specs.Table.{Table}
-use Rattle.control.specs.declared.State.{State}
-use Rattle.control.specs.State.{fresh}
 use Rattle.control.specs.Calls.{refuse, call-on}
-use Rattle.control.specs.Histories.{Accepts, Since}
-use Rattle.control.specs.Histories as since
-use Rattle.control.proofs.Keeping.{refused-keeps}
-use Rattle.demands.specs.Rules.{TableOf, Refuses, idle-report, idle-end}
-use Rattle.demands.specs.Decisions.{Closes, resumes, just-ends}
-use Rattle.demands.specs.Lists.{Reached, at-first, after}
-use Rattle.demands.proofs.Calls.{fate, refused-exactly, accepted-exactly, point-test}
+use Rattle.control.specs.Meaning.{StandsSomewhere}
+use Rattle.rolsipay.specs.declared.State.{State}
+use Rattle.rolsipay.specs.Calling.{state-of, lent}
+use Rattle.demands.specs.Delivered.{Memory, zeros, delivered}
+use Rattle.demands.specs.Rules.{TableOf, Refuses, no-plan, nowhere, busy, unfit, idle-report, idle-end, stranger, backward-report, backward-end, astray-report, astray-end}
+use Rattle.demands.specs.Decisions.{Decided, Closes, resumes, just-ends}
+use Rattle.demands.proofs.Tables.{table-held, one-plan}
+use Rattle.demands.proofs.Calls as calls
+use Rattle.demands.proofs.Calls.{fate, point-test}
 use Rattle.demands.proofs.Decisions as decisions
+use Rattle.demands.proofs.Delivered.{answer-meant, refused-keeps, accepted-leaves, since-held}
 
-module _ (p : Plan) (t : Table) (o : TableOf p t) where
+-- ANY MEMORY AND STATE
+
+-- A delivered call is refused by k exactly when the rules refuse it by k, and accepted exactly when they refuse it by no number.
+pub refused-exactly : (m : Memory) (s : State) (c : Call) (k : ℕ) → (delivered m .respond s c .answer ≡ refused k) ↔ Refuses m (state-of s) c k
+refused-exactly m s c k = subst (λ a. (a ≡ refused k) ↔ Refuses m (state-of s) c k) (sym (answer-meant m s c)) (calls.refused-exactly m (state-of s) c k)
+
+pub accepted-exactly : (m : Memory) (s : State) (c : Call) → Accepts (delivered m .respond s c .answer) ↔ ((k : ℕ) → ¬ Refuses m (state-of s) c k)
+accepted-exactly m s c = subst (λ a. Accepts a ↔ ((k : ℕ) → ¬ Refuses m (state-of s) c k)) (sym (answer-meant m s c)) (calls.accepted-exactly m (state-of s) c)
+
+-- On the table of an accepted plan a running state is refused by 11 exactly when no run stands where it stands.
+pub nowhere-exactly : (p : Plan) (m : Memory) → TableOf p m → (s : State) → state-of s .running ≡ true → (c : Call) →
+    (delivered m .respond s c .answer ≡ refused 11) ↔ ¬ StandsSomewhere p (state-of s)
+nowhere-exactly p m o s e c = ((λ q. by refl (refused-exactly m s c 11 .0 q)), λ f. refused-exactly m s c 11 .1 (nowhere o e f))
+  where
+    by : {c : Call} {k : ℕ} → k ≡ 11 → Refuses m (state-of s) c k → ¬ StandsSomewhere p (state-of s)
+    by i (no-plan f) = absurd (f p o)
+    by i (nowhere {p = q} u r f) = subst (λ x. ¬ StandsSomewhere x (state-of s)) (one-plan q p m u o) f
+    by i (busy u) = absurd (omega arith)
+    by i (unfit u r f) = absurd (omega arith)
+    by i (idle-report u r) = absurd (omega arith)
+    by i (idle-end u r) = absurd (omega arith)
+    by i (stranger u f) = absurd (omega arith)
+    by i (backward-report u x l) = absurd (omega arith)
+    by i (backward-end u l) = absurd (omega arith)
+    by i (astray-report u x l f) = absurd (omega arith)
+    by i (astray-end u l f) = absurd (omega arith)
+
+-- THE TABLE OF AN ACCEPTED PLAN
+
+module _ (p : Plan) (m : Memory) (o : TableOf p m) where
+  -- The answer of a delivered call.
+  abbrev answer : State → Call → Answer
+  answer s c = delivered m .respond s c .answer
+
+  -- The answer to the controller's call on the state that the lent one stands for.
+  abbrev held : State → Call → Answer
+  held s c = call-on (table-held m) (state-of s) c .answer
+
+  to-held : (s : State) (c : Call) → Accepts (answer s c) → Accepts (held s c)
+  to-held s c q = subst Accepts (answer-meant m s c) q
+
+  -- The release.
+  pub release-exactly : Accepts (answer zeros release) ↔ Fit p
+  release-exactly = subst (λ a. Accepts a ↔ Fit p) (sym (answer-meant m zeros release)) (decisions.release-exactly p m o)
+
+  pub release-decided : Accepts (answer zeros release) → Decided p [] (record { history = []; reading = 0 }) (answer zeros release)
+  release-decided q =
+      subst (Decided p [] (record { history = []; reading = 0 })) (sym (answer-meant m zeros release)) (decisions.release-decided p m o (to-held zeros release q))
+
+  module _ {s : State} {h : List ℕ} {ds : List Decision} (w : Since (delivered m) s h ds) where
+    -- A report.
+    pub report-exactly : (n r : ℕ) → Accepts (answer s (report n r)) ↔ (PointOf p n × (last-reading ds ≤ r) × Reported (main p) (h ++ (n ∷ [])))
+    report-exactly n r =
+        subst (λ a. Accepts a ↔ (PointOf p n × (last-reading ds ≤ r) × Reported (main p) (h ++ (n ∷ [])))) (sym (answer-meant m s (report n r)))
+        (decisions.report-exactly p m o (since-held m w) n r)
+
+    pub report-decided : (n r : ℕ) → Accepts (answer s (report n r)) → Decided p ds (record { history = h ++ (n ∷ []); reading = r }) (answer s (report n r))
+    report-decided n r q =
+        subst (Decided p ds (record { history = h ++ (n ∷ []); reading = r })) (sym (answer-meant m s (report n r)))
+        (decisions.report-decided p m o (since-held m w) n r (to-held s (report n r) q))
+
+    -- The end.
+    pub end-exactly : (r : ℕ) → Accepts (answer s (end r)) ↔ ((last-reading ds ≤ r) × Ended (main p) h)
+    end-exactly r =
+        subst (λ a. Accepts a ↔ ((last-reading ds ≤ r) × Ended (main p) h)) (sym (answer-meant m s (end r))) (decisions.end-exactly p m o (since-held m w) r)
+
+    pub end-closes : (r : ℕ) → Accepts (answer s (end r)) → Closes p ds r (delivered m .respond s (end r))
+    end-closes r q =
+        let (k, e) = decisions.end-closed p m o (since-held m w) r (to-held s (end r) q) in
+        let i : delivered m .respond s (end r) .state ≡ zeros = accepted-leaves m s (end r) (to-held s (end r) q) ∙ ap lent e in
+        let j : held s (end r) ≡ answer s (end r) = sym (answer-meant m s (end r)) in
+        subst (Closes p ds r) (λ x. record { state = sym i x; answer = j x }) k
+
+    -- No release is accepted while one is open.
+    none-released : ¬ Accepts (answer s release)
+    none-released q = decisions.since-busy p m o (since-held m w) (to-held s release q)
+
+  -- WHERE CALLS LEAD
+
   -- A fresh state, or one after an accepted release and accepted reports.
   abbrev pub Known : State → Type 0
-  Known s = (s ≡ fresh) ⊎ ((h : List ℕ) × (ds : List Decision) × Since t s h ds)
+  Known s = (s ≡ zeros) ⊎ ((h : List ℕ) × (ds : List Decision) × Since (delivered m) s h ds)
 
   -- The state behind a call: where an accepted one leads, or the one before it.
-  behind : (s : State) (c : Call) → (Accepts (call-on t s c .answer) → Known (call-on t s c .state)) → Known s → Known (call-on t s c .state)
-  behind s c f x = by (fate t s c)
+  behind : (s : State) (c : Call) → (Accepts (answer s c) → Known (delivered m .respond s c .state)) → Known s → Known (delivered m .respond s c .state)
+  behind s c f x = by (fate m (state-of s) c)
     where
-      by : Accepts (call-on t s c .answer) ⊎ ((k : ℕ) × Refuses t s c k × (call-on t s c ≡ refuse s k)) → Known (call-on t s c .state)
-      by (inl q) = f q
-      by (inr (k, w, e)) = subst Known (sym (ap (λ r. r .state) e)) x
+      by : Accepts (held s c) ⊎ ((k : ℕ) × Refuses m (state-of s) c k × (call-on (table-held m) (state-of s) c ≡ refuse (state-of s) k)) → Known (delivered m .respond s c .state)
+      by (inl q) = f (subst Accepts (sym (answer-meant m s c)) q)
+      by (inr (k, w, e)) = subst Known (sym (refused-keeps m s c k (refused-exactly m s c k .1 w))) x
 
   -- The end leaves a fresh state.
-  closes-fresh : {ds : List Decision} {r : ℕ} {x : Reply State} → Closes p ds r x → x .state ≡ fresh
+  closes-fresh : {ds : List Decision} {r : ℕ} {x : Reply State} → Closes p ds r x → x .state ≡ zeros
   closes-fresh (resumes q) = refl
   closes-fresh (just-ends q) = refl
 
   -- A call on a fresh state.
-  from-fresh : (c : Call) → Known (call-on t fresh c .state)
-  from-fresh release = behind fresh release (λ q. inr ([], _, since.released q)) (inl refl)
-  from-fresh (report n r) = inl (refused-keeps t fresh (report n r) 14 (refused-exactly t fresh (report n r) 14 .1 (idle-report o refl)))
-  from-fresh (end r) = inl (refused-keeps t fresh (end r) 14 (refused-exactly t fresh (end r) 14 .1 (idle-end o refl)))
+  from-fresh : (c : Call) → Known (delivered m .respond zeros c .state)
+  from-fresh release = behind zeros release (λ q. inr ([], _, since.released q)) (inl refl)
+  from-fresh (report n r) = inl (refused-keeps m zeros (report n r) 14 (refused-exactly m zeros (report n r) 14 .1 (idle-report o refl)))
+  from-fresh (end r) = inl (refused-keeps m zeros (end r) 14 (refused-exactly m zeros (end r) 14 .1 (idle-end o refl)))
 
   -- A call on a state behind a history.
-  from-known : (s : State) (h : List ℕ) (ds : List Decision) → Since t s h ds → (c : Call) → Known (call-on t s c .state)
-  from-known s h ds w release = behind s release (λ q. absurd (decisions.since-busy p t o w q)) (inr (h, ds, w))
+  from-known : (s : State) (h : List ℕ) (ds : List Decision) → Since (delivered m) s h ds → (c : Call) → Known (delivered m .respond s c .state)
+  from-known s h ds w release = behind s release (λ q. absurd (none-released w q)) (inr (h, ds, w))
   from-known s h ds w (report n r) = behind s (report n r) (λ q. inr (_, _, since.reported w n r q)) (inr (h, ds, w))
-  from-known s h ds w (end r) = behind s (end r) (λ q. inl (closes-fresh (decisions.end-closes p t o w r q))) (inr (h, ds, w))
+  from-known s h ds w (end r) = behind s (end r) (λ q. inl (closes-fresh (end-closes w r q))) (inr (h, ds, w))
 
   -- Every list of calls leads to such a state.
-  pub reached-known : {s : State} → Reached t s → Known s
+  pub reached-known : {s : State} → Reached (delivered m) s → Known s
   reached-known at-first = inl refl
   reached-known (after {s = s} z c) = by (reached-known z)
     where
-      by : Known s → Known (call-on t s c .state)
-      by (inl e) = subst (λ x. Known (call-on t x c .state)) (sym e) (from-fresh c)
+      by : Known s → Known (delivered m .respond s c .state)
+      by (inl e) = subst (λ x. Known (delivered m .respond x c .state)) (sym e) (from-fresh c)
       by (inr (h, ds, w)) = from-known s h ds w c
 
   -- THE CALLS THAT THE RULES REFUSE
 
   -- The rules refuse the call by some number.
   abbrev pub Refusal : State → Call → Type 0
-  Refusal s c = (k : ℕ) × Refuses t s c k
+  Refusal s c = (k : ℕ) × Refuses m (state-of s) c k
 
   -- A call that is not accepted is refused by some number.
-  refusal-of : (s : State) (c : Call) → ¬ Accepts (call-on t s c .answer) → Refusal s c
-  refusal-of s c f = by (fate t s c)
+  refusal-of : (s : State) (c : Call) → ¬ Accepts (answer s c) → Refusal s c
+  refusal-of s c f = by (fate m (state-of s) c)
     where
-      by : Accepts (call-on t s c .answer) ⊎ ((k : ℕ) × Refuses t s c k × (call-on t s c ≡ refuse s k)) → Refusal s c
-      by (inl q) = absurd (f q)
+      by : Accepts (held s c) ⊎ ((k : ℕ) × Refuses m (state-of s) c k × (call-on (table-held m) (state-of s) c ≡ refuse (state-of s) k)) → Refusal s c
+      by (inl q) = absurd (f (subst Accepts (sym (answer-meant m s c)) q))
       by (inr (k, w, e)) = (k, w)
 
   -- And the other way round.
-  not-accepted : (s : State) (c : Call) → Refusal s c → ¬ Accepts (call-on t s c .answer)
-  not-accepted s c (k, w) q = accepted-exactly t s c .0 q k w
+  not-accepted : (s : State) (c : Call) → Refusal s c → ¬ Accepts (answer s c)
+  not-accepted s c (k, w) q = accepted-exactly m s c .0 q k w
 
   -- From a fresh state, where total + T is within D.
-  pub refusable-fresh : Fit p → (c : Call) → Refusal fresh c ↔ Refusable p timed.closed c
+  pub refusable-fresh : Fit p → (c : Call) → Refusal zeros c ↔ Refusable p timed.closed c
   unfolding Refusable
-  refusable-fresh f release = ((λ x. not-accepted fresh release x (decisions.release-exactly p t o .1 f)), λ u. absurd u)
+  refusable-fresh f release = ((λ x. not-accepted zeros release x (release-exactly .1 f)), λ u. absurd u)
   refusable-fresh f (report n r) = ((λ x. tt), λ u. (14, idle-report o refl))
   refusable-fresh f (end r) = ((λ x. tt), λ u. (14, idle-end o refl))
 
   -- Behind a history.
-  module _ {s : State} {h : List ℕ} {ds : List Decision} (w : Since t s h ds) where
+  module _ {s : State} {h : List ℕ} {ds : List Decision} (w : Since (delivered m) s h ds) where
     -- Why a report is refused, and that it is.
     report-why : (n r : ℕ) → Refusal s (report n r) → ¬ PointOf p n ⊎ ((r < last-reading ds) ⊎ ¬ Reported (main p) (h ++ (n ∷ [])))
     report-why n r x = by (is-point (all-leaves (p .functions)) n) (point-test p n)
@@ -102,31 +181,31 @@ module _ (p : Plan) (t : Table) (o : TableOf p t) where
         by false k = inl (λ q. let e = k .1 q in let z : _≡_ {A = ℕ} 0 1 = cc in omega arith)
         by true k =
             elim (decLe (last-reading ds) r) [
-              | yes y ↦ inr (inr (λ q. not-accepted s (report n r) x (decisions.report-exactly p t o w n r .1 (k .0 refl, y, q))))
+              | yes y ↦ inr (inr (λ q. not-accepted s (report n r) x (report-exactly w n r .1 (k .0 refl, y, q))))
               | no y ↦ inr (inl (omega arith))
             ]
 
-    report-not : (n r : ℕ) → ¬ PointOf p n ⊎ ((r < last-reading ds) ⊎ ¬ Reported (main p) (h ++ (n ∷ []))) → ¬ Accepts (call-on t s (report n r) .answer)
-    report-not n r (inl f) q = f (decisions.report-exactly p t o w n r .0 q .0)
-    report-not n r (inr (inl f)) q = let y = decisions.report-exactly p t o w n r .0 q .1 in omega arith
-    report-not n r (inr (inr f)) q = f (decisions.report-exactly p t o w n r .0 q .2)
+    report-not : (n r : ℕ) → ¬ PointOf p n ⊎ ((r < last-reading ds) ⊎ ¬ Reported (main p) (h ++ (n ∷ []))) → ¬ Accepts (answer s (report n r))
+    report-not n r (inl f) q = f (report-exactly w n r .0 q .0)
+    report-not n r (inr (inl f)) q = let y = report-exactly w n r .0 q .1 in omega arith
+    report-not n r (inr (inr f)) q = f (report-exactly w n r .0 q .2)
 
     -- Why an end is refused, and that it is.
     end-why : (r : ℕ) → Refusal s (end r) → (r < last-reading ds) ⊎ ¬ Ended (main p) h
     end-why r x =
         elim (decLe (last-reading ds) r) [
-          | yes y ↦ inr (λ q. not-accepted s (end r) x (decisions.end-exactly p t o w r .1 (y, q)))
+          | yes y ↦ inr (λ q. not-accepted s (end r) x (end-exactly w r .1 (y, q)))
           | no y ↦ inl (omega arith)
         ]
 
-    end-not : (r : ℕ) → (r < last-reading ds) ⊎ ¬ Ended (main p) h → ¬ Accepts (call-on t s (end r) .answer)
-    end-not r (inl f) q = let y = decisions.end-exactly p t o w r .0 q .0 in omega arith
-    end-not r (inr f) q = f (decisions.end-exactly p t o w r .0 q .1)
+    end-not : (r : ℕ) → (r < last-reading ds) ⊎ ¬ Ended (main p) h → ¬ Accepts (answer s (end r))
+    end-not r (inl f) q = let y = end-exactly w r .0 q .0 in omega arith
+    end-not r (inr f) q = f (end-exactly w r .0 q .1)
 
     -- These are the calls that a list of demand 3 may hold while the release is open.
     pub refusable-open : (clock : ℕ) (to-come : List Block) (c : Call) →
         Refusal s c ↔ Refusable p (opened (record { clock = clock; to-come = to-come; history = h; decisions = ds })) c
     unfolding Refusable
-    refusable-open clock to-come release = ((λ x. tt), λ u. refusal-of s release (decisions.since-busy p t o w))
+    refusable-open clock to-come release = ((λ x. tt), λ u. refusal-of s release (none-released w))
     refusable-open clock to-come (report n r) = (report-why n r, λ u. refusal-of s (report n r) (report-not n r u))
     refusable-open clock to-come (end r) = (end-why r, λ u. refusal-of s (end r) (end-not r u))

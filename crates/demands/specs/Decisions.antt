@@ -7,8 +7,8 @@ use Rattle.model.specs.Condition.{margin}
 use Rattle.model.specs.Calls.{Answer, go, suspend, stay, resume, ended, Reply}
 use Rattle.model.specs.Timed.{Decision, RemainingAt, StretchAt, Holds, Held}
 use Rattle.model.specs.Controller.{late}
-use Rattle.control.specs.declared.State.{State}
-use Rattle.control.specs.State.{fresh}
+use Rattle.rolsipay.specs.declared.State.{State}
+use Rattle.demands.specs.Delivered.{zeros}
 
 -- The word of a decision d, where `before` are the decisions before it since the release: suspend exactly at the first decision where the condition
 -- fails, go at each one before that, stay at each one behind it. With it come remaining, margin and the late mark.
@@ -27,7 +27,7 @@ pub record Decided (p : Plan) (before : List Decision) (d : Decision) (a : Answe
   pub worded : Worded p before d remaining str a
 
 -- The reply of an accepted end with this reading behind these decisions: resume if the condition failed at one of them, so that the others were
--- suspended, ended if not; and the state is fresh again.
+-- suspended, ended if not; and the lent state is fresh again, every number in it 0.
 pub data Closes (p : Plan) (decisions : List Decision) (reading : ℕ) : Reply State → Type 0 where
-  resumes : ¬ Held p decisions → Closes p decisions reading (record { state = fresh; answer = resume (late p reading) })
-  just-ends : Held p decisions → Closes p decisions reading (record { state = fresh; answer = ended (late p reading) })
+  resumes : ¬ Held p decisions → Closes p decisions reading (record { state = zeros; answer = resume (late p reading) })
+  just-ends : Held p decisions → Closes p decisions reading (record { state = zeros; answer = ended (late p reading) })

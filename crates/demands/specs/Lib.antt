@@ -1,5 +1,5 @@
-pub mod Memory
+pub mod Delivered
 pub mod Rules
 pub mod Decisions
 pub mod Lists
-pub mod Delivered
+pub mod Cases

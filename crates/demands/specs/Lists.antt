@@ -1,4 +1,4 @@
--- Lists of calls on a table: the states that they lead to; and what a list of demand 3 looks like from outside, its calls, each with its answer.
+-- What a list of demand 3 looks like from outside: its calls, each with its answer; and the worst case of plan A.
 -- Assumes nothing: these are definitions.
 use mathlib.Core.Bool.{Bool, false}
 use mathlib.Core.List.{List, [], _∷_}
@@ -7,16 +7,7 @@ use lib.IntN.{pos, negsuc}
 use Rattle.text.specs.Text.{bytes}
 use Rattle.model.specs.Plan.{Plan}
 use Rattle.model.specs.Calls.{Call, release, report, end, Answer, go, suspend, stay, resume, Controller}
-use Rattle.table.specs.Table.{Table}
-use Rattle.control.specs.declared.State.{State}
-use Rattle.control.specs.State.{fresh}
-use Rattle.control.specs.Calls.{call-on}
 use Rattle.model.specs.Timed.{Phase, CallList, stops, refusable, releases, silent-visit, point-visit, ends, answer}
-
--- The states that calls on the table lead to, whatever the calls: a fresh one first, then the one that the last call returned or left.
-pub data Reached (t : Table) : State → Type 0 where
-  at-first : Reached t fresh
-  after : {s : State} → Reached t s → (c : Call) → Reached t (call-on t s c .state)
 
 -- A call and its answer.
 pub record Exchange : Type 0 where

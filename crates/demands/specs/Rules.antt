@@ -18,10 +18,10 @@ use Rattle.text.specs.Text.{lines}
 use Rattle.reader.specs.Machine.{start, Outcome, plan, refused}
 use Rattle.reader.specs.Print.{print}
 use Rattle.reader.specs.Refusal.{Stops}
-use Rattle.table.specs.Table.{Table, table-of}
 use Rattle.control.specs.declared.State.{State}
 use Rattle.control.specs.State.{stack-of}
 use Rattle.control.specs.Meaning.{StandsSomewhere}
+use Rattle.demands.specs.Delivered.{Memory, after-read}
 
 -- READING A PLAN: 1; THEN LINE BY LINE, IN A LINE 2 TO 7; THEN 8, 9, 10
 
@@ -49,14 +49,15 @@ pub data Ruled (capacity : ℕ) (text : List ℕ) : Outcome → Type 0 where
 
 -- CALLS
 
--- The table is that of the accepted plan p.
-pub record TableOf (p : Plan) (t : Table) : Type 0 where
+-- The memory holds the table of the accepted plan p: the text of p, read into it, is accepted and changes nothing.
+pub record TableOf (p : Plan) (m : Memory) : Type 0 where
   pub accepted : Accepted p
-  pub table-is : t ≡ table-of p
+  pub fits : Fits (length (m .row)) p
+  pub unchanged : after-read (print p) m ≡ m
 
 -- A release is open on the table of the accepted plan p, and the state is good: it stands at the release, or where some run of p stands.
-pub record Underway (p : Plan) (t : Table) (s : State) : Type 0 where
-  pub table : TableOf p t
+pub record Underway (p : Plan) (m : Memory) (s : State) : Type 0 where
+  pub table : TableOf p m
   pub running : s .running ≡ true
   pub stands : StandsSomewhere p s
 
@@ -70,24 +71,24 @@ pub data CanEnd (p : Plan) (s : State) : Type 0 where
   from-the-release : stack-of s ≡ [] → Ended (main p) [] → CanEnd p s
   from-a-report : (x : Standing (main p)) → stack [] (so-far x) ≡ stack-of s → Ended (main p) (history x) → CanEnd p s
 
--- The rules refuse this call on this table and state by this number. Release: 11, 12, 13. Report: 11, 14, 15, 16, 17. End: 11, 14, 16, 17.
-pub data Refuses (t : Table) (s : State) : Call → ℕ → Type 0 where
+-- The rules refuse this call, on the table in this memory and on this state, by this number. Release: 11, 12, 13. Report: 11, 14, 15, 16, 17. End: 11, 14, 16, 17.
+pub data Refuses (m : Memory) (s : State) : Call → ℕ → Type 0 where
   -- 11: the table is that of no accepted plan.
-  no-plan : {c : Call} → ((p : Plan) → ¬ TableOf p t) → Refuses t s c 11
+  no-plan : {c : Call} → ((p : Plan) → ¬ TableOf p m) → Refuses m s c 11
   -- 11: the state is running and no run on this table stands where it stands, or its remaining times aren't those of that place.
-  nowhere : {c : Call} {p : Plan} → TableOf p t → s .running ≡ true → ¬ StandsSomewhere p s → Refuses t s c 11
+  nowhere : {c : Call} {p : Plan} → TableOf p m → s .running ≡ true → ¬ StandsSomewhere p s → Refuses m s c 11
   -- 12: release before the end.
-  busy : {p : Plan} → Underway p t s → Refuses t s release 12
+  busy : {p : Plan} → Underway p m s → Refuses m s release 12
   -- 13: total + T over D.
-  unfit : {p : Plan} → TableOf p t → s .running ≡ false → ¬ Fit p → Refuses t s release 13
+  unfit : {p : Plan} → TableOf p m → s .running ≡ false → ¬ Fit p → Refuses m s release 13
   -- 14: report or end without a release.
-  idle-report : {p : Plan} {n r : ℕ} → TableOf p t → s .running ≡ false → Refuses t s (report n r) 14
-  idle-end : {p : Plan} {r : ℕ} → TableOf p t → s .running ≡ false → Refuses t s (end r) 14
+  idle-report : {p : Plan} {n r : ℕ} → TableOf p m → s .running ≡ false → Refuses m s (report n r) 14
+  idle-end : {p : Plan} {r : ℕ} → TableOf p m → s .running ≡ false → Refuses m s (end r) 14
   -- 15: the number isn't a point of the plan.
-  stranger : {p : Plan} {n r : ℕ} → Underway p t s → ¬ PointOf p n → Refuses t s (report n r) 15
+  stranger : {p : Plan} {n r : ℕ} → Underway p m s → ¬ PointOf p n → Refuses m s (report n r) 15
   -- 16: a reading below the last accepted one.
-  backward-report : {p : Plan} {n r : ℕ} → Underway p t s → PointOf p n → r < s .reading → Refuses t s (report n r) 16
-  backward-end : {p : Plan} {r : ℕ} → Underway p t s → r < s .reading → Refuses t s (end r) 16
+  backward-report : {p : Plan} {n r : ℕ} → Underway p m s → PointOf p n → r < s .reading → Refuses m s (report n r) 16
+  backward-end : {p : Plan} {r : ℕ} → Underway p m s → r < s .reading → Refuses m s (end r) 16
   -- 17: no run that stands there reports this point next; for end, none can end there.
-  astray-report : {p : Plan} {n r : ℕ} → Underway p t s → PointOf p n → s .reading ≤ r → ¬ CanReport p s n → Refuses t s (report n r) 17
-  astray-end : {p : Plan} {r : ℕ} → Underway p t s → s .reading ≤ r → ¬ CanEnd p s → Refuses t s (end r) 17
+  astray-report : {p : Plan} {n r : ℕ} → Underway p m s → PointOf p n → s .reading ≤ r → ¬ CanReport p s n → Refuses m s (report n r) 17
+  astray-end : {p : Plan} {r : ℕ} → Underway p m s → s .reading ≤ r → ¬ CanEnd p s → Refuses m s (end r) 17

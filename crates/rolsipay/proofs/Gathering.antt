@@ -118,7 +118,7 @@ pub numbers-append : (us vs : List Leaf) → numbers (us ++ vs) ≡ numbers us +
 numbers-append [] vs = refl
 numbers-append (u ∷ us) vs = ap (λ (r : List ℕ). fields u ++ r) (numbers-append us vs) ∙ sym (append-assoc (fields u) (numbers us) (numbers vs))
 
-length-numbers : (us : List Leaf) → length (numbers us) ≡ length us * 8
+pub length-numbers : (us : List Leaf) → length (numbers us) ≡ length us * 8
 length-numbers [] = refl
 length-numbers (u ∷ us) = omega (arith, length-numbers us, length-append (fields u) (numbers us))
 

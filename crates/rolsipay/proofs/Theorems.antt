@@ -6,8 +6,8 @@ use mathlib.Core.Path.{_≡_, refl, ap, sym, _∙_}
 use Prim.Native.Nat.{ℕ, zero, suc, _+_, _-_, _*_, _≤_}
 use native.Mathlib.Omega.{arith}
 use lib.Dec.{eqb}
-use lib.ListN.{length, getD, take, drop, length-map}
-use lib.Seq.{drop-cons, take-add, drop-drop, take-at, take-all, take-append-add}
+use lib.ListN.{length, getD, take, drop, length-map, length-take, take-append-drop}
+use lib.Seq.{drop-cons, take-add, drop-drop, take-at, take-all, take-take, take-append-add, length-take-le}
 use Rattle.model.specs.Plan.{Plan}
 use Rattle.model.specs.Acceptance.{sizes, Accepted}
 use Rattle.model.specs.Places.{pick, bit}
@@ -28,7 +28,7 @@ use Rattle.rolsipay.specs.Lent.{fields, numbers, table-with, table-in, l
 use Rattle.rolsipay.specs.Reading.{row-after}
 use Rattle.rolsipay.specs.Calling.{state-of, lent, refusing, called}
 use Rattle.rolsipay.proofs.Spreading.{length-leaves}
-use Rattle.rolsipay.proofs.Gathering.{numbers-append}
+use Rattle.rolsipay.proofs.Gathering.{numbers-append, length-numbers, table-of-first}
 
 -- THE TABLE READ BACK
 
@@ -110,6 +110,76 @@ read-back p a ls =
       stretches = column-back p (λ (x : Leaf). x .stretch) (table-of p .stretches) (λ i. refl) (stretches-size p) vs j;
       head = head-of p;
     })
+
+-- Leaves with the same raw row and the same columns are the same.
+same-leaves : (us vs : List Leaf) → numbers us ≡ numbers vs → map (λ (l : Leaf). l .turn) us ≡ map (λ (l : Leaf). l .turn) vs →
+    map (λ (l : Leaf). l .tail) us ≡ map (λ (l : Leaf). l .tail) vs → map (λ (l : Leaf). l .stretch) us ≡ map (λ (l : Leaf). l .stretch) vs → us ≡ vs
+same-leaves [] [] e f g h = refl
+same-leaves [] (v ∷ vs) e f g h = let z : _≡_ {A = ℕ} 0 1 = cc in absurd (omega arith)
+same-leaves (u ∷ us) [] e f g h = let z : _≡_ {A = ℕ} 0 1 = cc in absurd (omega arith)
+same-leaves (u ∷ us) (v ∷ vs) e f g h =
+    let kind : u .kind ≡ v .kind = cc in
+    let point : u .point ≡ v .point = cc in
+    let isolated : u .isolated ≡ v .isolated = cc in
+    let loaded : u .loaded ≡ v .loaded = cc in
+    let detail : u .detail ≡ v .detail = cc in
+    let other : u .other ≡ v .other = cc in
+    let after : u .after ≡ v .after = cc in
+    let level : u .level ≡ v .level = cc in
+    let turn : u .turn ≡ v .turn = cc in
+    let tail : u .tail ≡ v .tail = cc in
+    let stretch : u .stretch ≡ v .stretch = cc in
+    let rest : us ≡ vs = same-leaves us vs (cc) (cc) (cc) (cc) in
+    λ j. record {
+      kind = kind j;
+      point = point j;
+      isolated = isolated j;
+      loaded = loaded j;
+      detail = detail j;
+      other = other j;
+      after = after j;
+      level = level j;
+      turn = turn j;
+      tail = tail j;
+      stretch = stretch j;
+    } ∷ rest j
+
+-- A column of the first leaves of a row.
+take-map : (f : Leaf → ℕ) (n : ℕ) (ls : List Leaf) → take n (map f ls) ≡ map f (take n ls)
+take-map f zero ls = refl
+take-map f (suc n) [] = refl
+take-map f (suc n) (l ∷ ls) = ap (λ (r : List ℕ). f l ∷ r) (take-map f n ls)
+
+pub column-held : (f : Leaf → ℕ) (n : ℕ) (ls : List Leaf) → n ≤ 512 → take n (map f (take 512 ls)) ≡ map f (take n ls)
+column-held f n ls h = take-map f n (take 512 ls) ∙ ap (map f) (take-take n 512 ls h)
+
+-- The other way round: where row and head hold the table of a plan, the row has its leaves, and to write them again changes nothing.
+pub read-again : (p : Plan) → Accepted p → (ls : List Leaf) (h : Head) → table-in ls h ≡ table-of p →
+    (sizes (p .functions) ≤ length ls) × (row-after (plan p) ls ≡ ls) × (head-of p ≡ h)
+read-again p a ls h e =
+    let n : ℕ = sizes (p .functions) in
+    let g : h ≡ head-of p = ap (λ (t : Table). t .head) e in
+    let count : h .leaves ≡ n = ap (λ (k : Head). k .leaves) g in
+    let raw : length (take (h .leaves * 8) (numbers (take 512 ls))) ≡ 8 * n = ap (λ (t : Table). length (t .row)) e ∙ row-length p in
+    let few : n ≤ length (take 512 ls) = omega (arith, count, raw, length-take (h .leaves * 8) (numbers (take 512 ls)), length-numbers (take 512 ls)) in
+    let room : n ≤ length ls = omega (arith, few, length-take 512 ls) in
+    let us : List Leaf = take n ls in
+    let wide : length us ≡ n = length-take-le n ls room in
+    let same : table-with us h ≡ table-of p =
+    ap (λ (u : List Leaf). table-with u h) (sym (take-take n 512 ls (a .formed .few-leaves))) ∙ (table-of-first (take 512 ls) h n (omega (arith, count, few)) ∙ e) in
+    let vs : List Leaf = leaves-from (table-of p) 0 n in
+    let column : (f : Leaf → ℕ) (col : List ℕ) → ((i : ℕ) → f (leaf-of (table-of p) i) ≡ getD col i 0) → length col ≡ n → take (h .leaves) (map f (take 512 ls)) ≡ col → map f us ≡ map f vs =
+    λ f col k w z. sym (column-held f n ls (a .formed .few-leaves)) ∙ (ap (λ (i : ℕ). take i (map f (take 512 ls))) (sym count) ∙ (z ∙
+    sym (column-from (table-of p) f col k 0 n (omega arith) ∙ take-all n col (omega arith)))) in
+    let numbered : numbers us ≡ numbers vs =
+    sym (take-all (h .leaves * 8) (numbers us) (omega (arith, length-numbers us, wide, count))) ∙ (ap (λ (t : Table). t .row) same ∙
+    sym (numbers-from (table-of p) 0 n (omega (arith, row-length p)) ∙ take-all (n * 8) (table-of p .row) (omega (arith, row-length p)))) in
+    let leaves-are : us ≡ vs =
+    same-leaves us vs numbered
+    (column (λ (x : Leaf). x .turn) (table-of p .turns) (λ i. refl) (turns-size p) (ap (λ (t : Table). t .turns) e))
+    (column (λ (x : Leaf). x .tail) (table-of p .tails) (λ i. refl) (tails-size p) (ap (λ (t : Table). t .tails) e))
+    (column (λ (x : Leaf). x .stretch) (table-of p .stretches) (λ i. refl) (stretches-size p) (ap (λ (t : Table). t .stretches) e)) in
+    (room, ap (λ (u : List Leaf). u ++ drop n ls) (sym leaves-are) ∙ take-append-drop n ls, sym g)
 
 -- A CALL IS THE CONTROLLER'S
 
