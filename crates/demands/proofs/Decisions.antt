@@ -189,6 +189,6 @@ module _ (p : Plan) (m : Memory) (o : TableOf p m) where
       let e = on-table m s (end r) p o in
       let i = e ∙ end-reply p s r (s .running) (subst (λ x. Accepts (x .answer)) e q) in (
         subst (λ x. Closes p ds r (record { state = zeros; answer = x .answer })) (sym i)
-        (closed-said p ds r (s .suspended) (control.others-share-exactly p (o .accepted) (since-plan w))),
+            (closed-said p ds r (s .suspended) (control.others-share-exactly p (o .accepted) (since-plan w))),
         ap (λ x. x .state) i,
       )

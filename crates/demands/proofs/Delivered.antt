@@ -90,5 +90,5 @@ keeps-deadline p m o f =
     let y = alike.alike p a (state-of s) x c t in (
       answer-meant m s c ∙ (ap (λ (u : Table). call-on u (state-of s) c .answer) (numbers-held p m o) ∙ y .0),
       subst (λ k. Tied p a k (places.respond p x c .state))
-      (sym (state-left m s c ∙ ap (λ (u : Table). call-on u (state-of s) c .state) (numbers-held p m o))) (y .1),
+          (sym (state-left m s c ∙ ap (λ (u : Table). call-on u (state-of s) c .state) (numbers-held p m o))) (y .1),
     ))
