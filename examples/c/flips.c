@@ -26,11 +26,13 @@ static rolsipay_reply report(rolsipay_state *at, uint64_t point, uint64_t readin
     return rolsipay_report(row, LEAVES, &head, at, point, reading);
 }
 
+/* The report that suspends. */
 static rolsipay_reply third_visit(rolsipay_state *at)
 {
     return report(at, 1, 57);
 }
 
+/* The end of the run. */
 static rolsipay_reply end(rolsipay_state *at)
 {
     return rolsipay_end(row, LEAVES, &head, at, 81);
@@ -43,11 +45,13 @@ static rolsipay_reply tried(call_on *call)
     return call(&copy);
 }
 
+/* Whether two answers are one, with all their numbers. */
 static int same(rolsipay_reply a, rolsipay_reply b)
 {
     return a.word == b.word && a.number == b.number && a.remaining == b.remaining && a.margin == b.margin && a.late == b.late;
 }
 
+/* Flips each bit of this memory, makes the call on it, and prints the counts that are not 0. */
 static void flip(const char *what, void *memory, size_t bytes, call_on *call)
 {
     static const char *const words[WORDS] = {"refused", "go", "suspend", "stay", "resume", "ended"};
