@@ -20,10 +20,10 @@ use Rattle.control.specs.declared.Step.{Step}
 use Rattle.control.specs.State.{standing}
 use Rattle.control.specs.Calls.{refuse, running-call, idle-call, at-levels, by-phase, on-plan, call-on}
 use Rattle.control.specs.Answers.{reply-of}
-use Rattle.control.specs.Lent.{Whole, Stands}
+use Rattle.control.specs.Lent.{WholeTable, GoodState}
 
 -- A state that does not stand anywhere stands at no levels.
-not-standing : (p : Plan) (s : State) → (Stands p s → ⊥) → standing p s ≡ none
+not-standing : (p : Plan) (s : State) → (GoodState p s → ⊥) → standing p s ≡ none
 not-standing p s h = by (standing p s) refl
   where
     by : (o : Option Levels) → standing p s ≡ o → o ≡ none
@@ -45,7 +45,7 @@ module _ (row turns tails stretches : List ℕ) (h : Head) where
 
   -- One that it finds good: the first records, as many as the head says, are the table of an accepted plan.
   pub record Owned : Type 0 where
-    pub whole : Whole (take (h .leaves * 8) row) (take (h .leaves) turns) (take (h .leaves) tails) (take (h .leaves) stretches) h
+    pub whole : WholeTable (take (h .leaves * 8) row) (take (h .leaves) turns) (take (h .leaves) tails) (take (h .leaves) stretches) h
     pub plan-is : plan-of t ≡ some (whole .lent .rowed .head .plan)
 
   pub good-table : good t ≡ true → Owned
@@ -99,7 +99,7 @@ module _ {row turns tails stretches : List ℕ} {h : Head} (o : Owned row turns 
     pub on-idle : s .running ≡ false → r ≡ reply-of (idle-call of s c) → r ≡ reply-of (call-on (table-at row turns tails stretches h) s c)
     on-idle e z = z ∙ ap (λ x. reply-of x) (sym (on-table s c ∙ ap (by-phase of s c) e))
 
-    pub on-broken : s .running ≡ true → (Stands of s → ⊥) → r ≡ reply-of (refuse s 11) → r ≡ reply-of (call-on (table-at row turns tails stretches h) s c)
+    pub on-broken : s .running ≡ true → (GoodState of s → ⊥) → r ≡ reply-of (refuse s 11) → r ≡ reply-of (call-on (table-at row turns tails stretches h) s c)
     on-broken e b z = z ∙ ap (λ x. reply-of x) (sym (on-table s c ∙ (ap (by-phase of s c) e ∙ ap (at-levels of s c) (not-standing of s b))))
 
     pub on-running : s .running ≡ true → (ls : Levels) → standing of s ≡ some ls → r ≡ reply-of (running-call of s ls c) → r ≡ reply-of (call-on (table-at row turns tails stretches h) s c)

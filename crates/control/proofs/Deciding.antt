@@ -28,7 +28,7 @@ use Rattle.control.specs.declared.Weighing.{Weighing}
 use Rattle.control.specs.State.{at-release}
 use Rattle.control.specs.Calls.{refuse, word, decision, suspended-after, released}
 use Rattle.control.specs.Answers.{answer-of, reply-of}
-use Rattle.control.specs.Lent.{weighed, opened, Headed, Decides}
+use Rattle.control.specs.Lent.{weighed, opened, Headed, RightWeighing}
 
 -- The sign of a number, by the code's test.
 not-below : (z : ℤ) → ltZ z (pos 0) ≡ false → nonNeg z ≡ true
@@ -70,7 +70,7 @@ total-small q =
 -- Where the others are not suspended, by what the condition's test says.
 decides-by : (p : Plan) (r s x : ℕ) (g : Bool) → holds p r s x ≡ g → (w : Weighing) →
     w .answer ≡ answer-of (word false g (stay r (margin p r s x) (late p x)) (go r (margin p r s x) (late p x)) (suspend r (margin p r s x) (late p x))) →
-    w .suspended ≡ pick g false true → Decides p r s x false w
+    w .suspended ≡ pick g false true → RightWeighing p r s x false w
 decides-by p r s x g e w a b =
     record {
       answer = a ∙ ap (λ k. answer-of (word false k (stay r (margin p r s x) (late p x)) (go r (margin p r s x) (late p x)) (suspend r (margin p r s x) (late p x)))) (sym e);
@@ -89,17 +89,17 @@ module _ {h : Head} (q : Headed h) (r s x : ℕ) {m : ℤ} (f : SFits w64 m) (e 
   margin-is = toZ-ofZ w64 m f ∙ (e ∙ ap (λ k. weighed (k .deadline) (r + s + k .switch + x)) (q .is))
 
   pub stays : (suspended : Bool) → suspended ≡ true →
-      Decides (q .plan) r s x suspended (record { answer = Stay r (toZ w64 (ofZ w64 m)) (ltb (h .deadline) x); suspended = true })
+      RightWeighing (q .plan) r s x suspended (record { answer = Stay r (toZ w64 (ofZ w64 m)) (ltb (h .deadline) x); suspended = true })
   stays suspended y = rw y (record { answer = λ i. Stay r (margin-is i) (late-is i); suspended-then = refl })
 
   pub suspends : (suspended : Bool) → suspended ≡ false → ltZ (toZ w64 (ofZ w64 m)) (pos 0) ≡ true →
-      Decides (q .plan) r s x suspended (record { answer = Suspend r (toZ w64 (ofZ w64 m)) (ltb (h .deadline) x); suspended = true })
+      RightWeighing (q .plan) r s x suspended (record { answer = Suspend r (toZ w64 (ofZ w64 m)) (ltb (h .deadline) x); suspended = true })
   suspends suspended y t =
       let g = condition-fails (q .plan) r s x (ap nonNeg (sym margin-is) ∙ below (toZ w64 (ofZ w64 m)) t) in
       rw y (decides-by (q .plan) r s x false g _ (λ i. Suspend r (margin-is i) (late-is i)) refl)
 
   pub goes : (suspended : Bool) → suspended ≡ false → ltZ (toZ w64 (ofZ w64 m)) (pos 0) ≡ false →
-      Decides (q .plan) r s x suspended (record { answer = Go r (toZ w64 (ofZ w64 m)) (ltb (h .deadline) x); suspended = false })
+      RightWeighing (q .plan) r s x suspended (record { answer = Go r (toZ w64 (ofZ w64 m)) (ltb (h .deadline) x); suspended = false })
   goes suspended y t =
       let g = condition-holds (q .plan) r s x (ap nonNeg (sym margin-is) ∙ not-below (toZ w64 (ofZ w64 m)) t) in
       rw y (decides-by (q .plan) r s x true g _ (λ i. Go r (margin-is i) (late-is i)) refl)
@@ -126,7 +126,7 @@ module _ {h : Head} (q : Headed h) (s : State) where
   unfolding kept
   opened-is {suspended} = ap (λ k. opened (k .total) suspended) (q .is)
 
-  pub release-fit : h .total + h .switch ≤ h .deadline → {w : Weighing} {after : State} → Decides (q .plan) (h .total) (h .stretch) 0 false w →
+  pub release-fit : h .total + h .switch ≤ h .deadline → {w : Weighing} {after : State} → RightWeighing (q .plan) (h .total) (h .stretch) 0 false w →
       after ≡ opened (h .total) (w .suspended) → _≡_ {A = Step} (record { answer = w .answer; state = after }) (reply-of (released (q .plan) s))
   release-fit le {w} {after} d e =
       let t = ap (λ k. k .total) (q .is) in

@@ -39,7 +39,7 @@ use Rattle.table.specs.Table.{table-of}
 use Rattle.control.specs.declared.State.{State}
 use Rattle.control.specs.State.{fresh, stack-of, levels-of, standing, at-release, at-report}
 use Rattle.control.specs.Calls.{refuse, word, decision, suspended-after, released, next-levels, reported, may-end, closed, running-call, call-on, controller-of}
-use Rattle.control.specs.Meaning.{Decides, DecidesRelease, HistoryState}
+use Rattle.control.specs.Meaning.{DecidesReport, DecidesRelease, HistoryState}
 use Rattle.model.specs.Histories as since
 use Rattle.model.specs.Histories.{Since}
 use Rattle.control.proofs.Alike.{place-of, Stands, on-idle, on-running, stands-release, stands-report, same-next, next-moves, timed-some, levels-inner, may-end-is}
@@ -247,7 +247,7 @@ module _ (p : Plan) (a : Accepted p) where
 
   -- WHAT A DECISION SAYS
 
-  pub report-decides : {s : State} {h : List ℕ} {ds : List Decision} → Since (controller-of (table-of p)) s h ds → (n t : ℕ) → Accepts (call-on (table-of p) s (report n t) .answer) → Decides p s h n t
+  pub report-decides : {s : State} {h : List ℕ} {ds : List Decision} → Since (controller-of (table-of p)) s h ds → (n t : ℕ) → Accepts (call-on (table-of p) s (report n t) .answer) → DecidesReport p s h n t
   report-decides {s} {h} w n t q =
       let k = state-of w in
       let e = on-running p a s (k .ls) (k .stands) (report n t) in

@@ -27,7 +27,7 @@ use Rattle.place.proofs.Entries.{all-times, times-above}
 use Rattle.place.proofs.Meaning.{by-table, marks, points, costed, times-ok-is}
 use Rattle.control.specs.declared.State.{State}
 use Rattle.control.specs.State.{stack-of, levels-of, timed, standing}
-use Rattle.control.specs.Lent.{Stands}
+use Rattle.control.specs.Lent.{GoodState}
 use Rattle.control.proofs.Arrays.{length-frames}
 use Rattle.control.proofs.Places.{points-all, all-points}
 use Rattle.control.proofs.Alike.{timed-some, timed-same, levels-inner, levels-some}
@@ -68,15 +68,15 @@ module _ (p : Plan) (a : Accepted p) (s : State) where
 
   -- AT THE RELEASE
 
-  pub release-wrong : (getD (s .times) 0 0 ≡ total C (main p) → ⊥) → Stands p s → ⊥
+  pub release-wrong : (getD (s .times) 0 0 ≡ total C (main p) → ⊥) → GoodState p s → ⊥
   release-wrong h (ls, e) = h (ap (λ ts. getD ts 0 0) (stands-times p a s ls e))
 
-  pub release-right : s .level ≡ 0 → length (s .times) ≡ 33 → getD (s .times) 0 0 ≡ total C (main p) → ((k : ℕ) → 0 < k → getD (s .times) k 0 ≡ 0) → Stands p s
+  pub release-right : s .level ≡ 0 → length (s .times) ≡ 33 → getD (s .times) 0 0 ≡ total C (main p) → ((k : ℕ) → 0 < k → getD (s .times) k 0 ≡ 0) → GoodState p s
   unfolding Times
   release-right z n t h = ([], release-stands p a s z (all-times (main p) (s .times) [] n (omega arith) t h))
 
   -- Numbers above the level.
-  pub above-wrong : {l : ℕ} → l ≡ s .level → (((k : ℕ) → l < k → getD (s .times) k 0 ≡ 0) → ⊥) → Stands p s → ⊥
+  pub above-wrong : {l : ℕ} → l ≡ s .level → (((k : ℕ) → l < k → getD (s .times) k 0 ≡ 0) → ⊥) → GoodState p s → ⊥
   above-wrong z h (ls, e) =
       h (λ k lt. ap (λ ts. getD ts k 0) (stands-times p a s ls e) ∙ times-above (main p) ls k (omega (arith, stands-depth ls e)))
 
@@ -109,7 +109,7 @@ module _ {w starts : List ℕ} (p : Plan) (a : Accepted p) (d : Laid w starts p)
         stands-at = levels-some p a (stack-of s) (q .levels) (all-points p (stack-of s) u) h;
       }
 
-  pub place-wrong : 1 ≤ s .level → Judges false → Stands p s → ⊥
+  pub place-wrong : 1 ≤ s .level → Judges false → GoodState p s → ⊥
   place-wrong one e (ls, z) =
       let (h, u) = stands-decode p a s ls one z in
       e (table-of p a d) (record {
@@ -127,10 +127,10 @@ module _ {w starts : List ℕ} (p : Plan) (a : Accepted p) (d : Laid w starts p)
     -- Its times, where those above its level are 0.
     pub times-judged : length (s .times) ≡ 33 → ((j : ℕ) → s .level < j → getD (s .times) j 0 ≡ 0) → (r : Bool) →
         ((q : Costed w tails turns totals (s .leaves) (s .earlier) (length (p .functions)) (s .level)) →
-        Says r (Times (getD (q .decoded .table .funs) (length (p .functions) - 1) done) (s .times) (q .decoded .levels))) → Says r (Stands p s)
+        Says r (Times (getD (q .decoded .table .funs) (length (p .functions) - 1) done) (s .times) (q .decoded .levels))) → Says r (GoodState p s)
     times-judged n above r e = by r (times-ok-is p a d (s .leaves) (s .earlier) (s .level) (k .levels) (k .least) (k .decodes) (k .leaves-are) c (k .most) (s .times) n above r e)
       where
-        by : (r : Bool) → Says r (s .times ≡ times (main p) (k .levels)) → Says r (Stands p s)
+        by : (r : Bool) → Says r (s .times ≡ times (main p) (k .levels)) → Says r (GoodState p s)
         by true t = (k .levels, ap (timed p s) (k .stands-at) ∙ timed-same p a s (k .levels) t)
         by false t = λ (ls, z).
             let y : some ls ≡ some (k .levels) = sym (at-levels p a s ls z) ∙ k .stands-at in

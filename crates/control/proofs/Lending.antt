@@ -20,7 +20,7 @@ use Rattle.place.specs.declared.Place.{Place}
 use Rattle.place.proofs.Tables.{table-of}
 use Rattle.table.specs.declared.Head.{Head}
 use Rattle.control.specs.declared.State.{State}
-use Rattle.control.specs.Lent.{Rowed, Lent, spot, Stands}
+use Rattle.control.specs.Lent.{Rowed, Lent, spot, GoodState}
 use Rattle.control.proofs.Tabled.{laid, filled}
 use Rattle.control.proofs.Judging.{Located, release-wrong, release-right, above-wrong, place-right, place-wrong, costed-at, times-judged}
 
@@ -50,10 +50,10 @@ module _ {row : List ℕ} {h : Head} (q : Rowed row h) where
 
   module _ (s : State) where
     -- At the release.
-    pub total-wrong : (getD (s .times) 0 0 ≡ h .total → ⊥) → Stands p s → ⊥
+    pub total-wrong : (getD (s .times) 0 0 ≡ h .total → ⊥) → GoodState p s → ⊥
     total-wrong e = release-wrong p a s (λ z. e (z ∙ sym total-here))
 
-    pub release-judged : s .level ≡ 0 → length (s .times) ≡ 33 → getD (s .times) 0 0 ≡ h .total → (r : Bool) → Says r ((k : ℕ) → 0 < k → getD (s .times) k 0 ≡ 0) → Says r (Stands p s)
+    pub release-judged : s .level ≡ 0 → length (s .times) ≡ 33 → getD (s .times) 0 0 ≡ h .total → (r : Bool) → Says r ((k : ℕ) → 0 < k → getD (s .times) k 0 ≡ 0) → Says r (GoodState p s)
     release-judged z n t true e = release-right p a s z n (t ∙ total-here) e
     release-judged z n t false e = above-wrong p a s (sym z) e
 
@@ -64,10 +64,10 @@ module _ {row : List ℕ} {h : Head} (q : Rowed row h) where
     pub spot-right : {x : Place} → x ≡ spot s → (r : Bool) → r ≡ true → Judged x r → Located p s
     spot-right z r y e = place-right p a laid-here s (rw (y, z, count-here) at e)
 
-    pub spot-wrong : {x : Place} → x ≡ spot s → 1 ≤ s .level → (r : Bool) → r ≡ false → Judged x r → Stands p s → ⊥
+    pub spot-wrong : {x : Place} → x ≡ spot s → 1 ≤ s .level → (r : Bool) → r ≡ false → Judged x r → GoodState p s → ⊥
     spot-wrong z one r y e = place-wrong p a laid-here s one (rw (y, z, count-here) at e)
 
-    pub spot-above : {x : Place} → x ≡ spot s → (r : Bool) → r ≡ false → Says r ((k : ℕ) → x .level < k → getD (s .times) k 0 ≡ 0) → Stands p s → ⊥
+    pub spot-above : {x : Place} → x ≡ spot s → (r : Bool) → r ≡ false → Says r ((k : ℕ) → x .level < k → getD (s .times) k 0 ≡ 0) → GoodState p s → ⊥
     spot-above z r y e = above-wrong p a s (ap (λ x. x .level) z) (rw y at e)
 
     pub spot-levels : {x : Place} → x ≡ spot s → Located p s → (1 ≤ x .level) × (x .level ≤ 32)
@@ -84,6 +84,6 @@ module _ {row turns tails : List ℕ} {h : Head} (q : Lent row turns tails h) wh
 
     pub spot-times : length (s .times) ≡ 33 → (y : Bool) → y ≡ true → Says y ((j : ℕ) → x .level < j → getD (s .times) j 0 ≡ 0) → (r : Bool) →
         ((c : Costed row tails turns (h .totals) (x .leaves) (x .earlier) (h .functions) (x .level)) →
-        Says r (Times (getD (c .decoded .table .funs) (h .functions - 1) done) (s .times) (c .decoded .levels))) → Says r (Stands (q .rowed .head .plan) s)
+        Says r (Times (getD (c .decoded .table .funs) (h .functions - 1) done) (s .times) (c .decoded .levels))) → Says r (GoodState (q .rowed .head .plan) s)
     spot-times n u y above r e =
         times-judged (q .rowed .head .plan) (q .rowed .head .accepted) (laid-here (q .rowed)) s filled-here k n (rw (y, z) at above) r (rw (z, count-here (q .rowed)) at e)

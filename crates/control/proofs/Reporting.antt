@@ -38,7 +38,7 @@ use Rattle.control.specs.declared.Weighing.{Weighing}
 use Rattle.control.specs.State.{stack-of, standing, put, at-report}
 use Rattle.control.specs.Calls.{refuse, next-levels, reported, running-call}
 use Rattle.control.specs.Answers.{reply-of}
-use Rattle.control.specs.Lent.{Decides, Rowed, Whole, spot, Arriving}
+use Rattle.control.specs.Lent.{RightWeighing, Rowed, WholeTable, spot, Arriving}
 use Rattle.control.proofs.Tabled.{marked-point, point-marked, stretch-at}
 use Rattle.control.proofs.Arrays.{put-at, put-is}
 use Rattle.control.proofs.Places.{Moved}
@@ -124,8 +124,8 @@ top-time f (g ∷ ks) h =
     rw z at (times-are f (times f (g ∷ ks)) (g ∷ ks) refl .0)
 
 -- A decision about the same numbers is the same.
-decides-same : {p : Plan} {r r′ z z′ t : ℕ} {b : Bool} {w : Weighing} → r ≡ r′ → z ≡ z′ → Decides p r z t b w → Decides p r′ z′ t b w
-decides-same x y d = rw (x, y) at d
+weighing-same : {p : Plan} {r r′ z z′ t : ℕ} {b : Bool} {w : Weighing} → r ≡ r′ → z ≡ z′ → RightWeighing p r z t b w → RightWeighing p r′ z′ t b w
+weighing-same x y d = rw (x, y) at d
 
 -- Where the old times are those of a good state, those below the new place's level stay right.
 rest-times : (p : Plan) (n : ℕ) (ls new : Levels) (old : List ℕ) → next-levels p ls n ≡ some new → old ≡ times (main p) ls → Times (main p) old (rest-of new)
@@ -203,7 +203,7 @@ module _ {row turns tails : List ℕ} {h : Head} {s : State} {x : Place} {str : 
         record { running = true; suspended = suspended; reading = reading; level = sym new-depth i; leaves = leaves-are i; earlier = earlier-are i; times = e i }
 
     -- And the decision there is the document's.
-    pub arrived : (new : List ℕ) (reading : ℕ) → new ≡ times (main here) (k .new .levels) → (w : Weighing) → Decides here (getD new (x .level) 0) str reading (s .suspended) w →
+    pub arrived : (new : List ℕ) (reading : ℕ) → new ≡ times (main here) (k .new .levels) → (w : Weighing) → RightWeighing here (getD new (x .level) 0) str reading (s .suspended) w →
         _≡_ {A = Step}
         (record {
           answer = w .answer;
@@ -213,13 +213,13 @@ module _ {row turns tails : List ℕ} {h : Head} {s : State} {x : Place} {str : 
     arrived new reading e w dec =
         let r = total C (whole (k .new .levels)) in
         let z = stretch (k .point) (main here) 0 in
-        let y : Decides here r z reading (s .suspended) w = decides-same (new-time e) (k .stretch-is) dec in
+        let y : RightWeighing here r z reading (s .suspended) w = weighing-same (new-time e) (k .stretch-is) dec in
         let m = moved-on new reading (w .suspended) e ∙ ap (λ b. at-report here s (k .point) (k .new .levels) reading b) (y .suspended-then) in
         λ i. record { answer = y .answer i; state = m i }
 
 -- THE REPORT
 
-module _ {row turns tails stretches : List ℕ} {h : Head} (q : Whole row turns tails stretches h) (s : State) (n : ℕ) where
+module _ {row turns tails stretches : List ℕ} {h : Head} (q : WholeTable row turns tails stretches h) (s : State) (n : ℕ) where
   abbrev of : Plan
   of = q .lent .rowed .head .plan
 

@@ -21,7 +21,7 @@ use Rattle.control.specs.declared.State.{State}
 use Rattle.control.specs.State.{standing}
 use Rattle.control.specs.Calls.{decision, call-on, controller-of}
 use Rattle.model.specs.Histories.{Since}
-use Rattle.control.specs.Meaning.{StandsSomewhere, DecidesRelease, Decides, HistoryState}
+use Rattle.control.specs.Meaning.{StandsSomewhere, DecidesRelease, DecidesReport, HistoryState}
 use Rattle.control.proofs.Alike as alike
 use Rattle.control.proofs.Alike.{Tied}
 use Rattle.control.proofs.Histories as histories
@@ -68,7 +68,7 @@ pub release-answer : (p : Plan) (a : Accepted p) (s : State) → s .running ≡ 
 release-answer = histories.release-decides
 
 pub report-answer : (p : Plan) (a : Accepted p) {s : State} {h : List ℕ} {ds : List Decision} → Since (controller-of (table-of p)) s h ds → (n t : ℕ) →
-    Accepts (call-on (table-of p) s (report n t) .answer) → Decides p s h n t
+    Accepts (call-on (table-of p) s (report n t) .answer) → DecidesReport p s h n t
 report-answer = histories.report-decides
 
 -- A decision says stay where the others are suspended already; else go where the condition holds, and suspend where it does not.

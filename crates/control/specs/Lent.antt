@@ -48,7 +48,7 @@ pub record Headed (h : Head) : Type 0 where
   pub is : h ≡ head-of plan
 
 -- A decision of this plan: its answer, and whether the others are suspended then.
-pub record Decides (p : Plan) (remaining str reading : ℕ) (suspended : Bool) (w : Weighing) : Type 0 where
+pub record RightWeighing (p : Plan) (remaining str reading : ℕ) (suspended : Bool) (w : Weighing) : Type 0 where
   pub answer : w .answer ≡ answer-of (decision p remaining str reading suspended)
   pub suspended-then : w .suspended ≡ suspended-after p remaining str reading suspended
 
@@ -64,7 +64,7 @@ pub record Lent (row turns tails : List ℕ) (h : Head) : Type 0 where
   pub tails-are : tails ≡ table-of (rowed .head .plan) .tails
 
 -- And so is the column of stretches.
-pub record Whole (row turns tails stretches : List ℕ) (h : Head) : Type 0 where
+pub record WholeTable (row turns tails stretches : List ℕ) (h : Head) : Type 0 where
   pub lent : Lent row turns tails h
   pub stretches-are : stretches ≡ table-of (lent .rowed .head .plan) .stretches
 
@@ -73,18 +73,18 @@ abbrev pub spot : State → Place
 spot s = record { level = s .level; leaves = s .leaves; earlier = s .earlier }
 
 -- The running state is good: it stands at some levels of the plan (01, refusal 11).
-abbrev pub Stands : Plan → State → Type 0
-Stands p s = (ls : Levels) × (standing p s ≡ some ls)
+abbrev pub GoodState : Plan → State → Type 0
+GoodState p s = (ls : Levels) × (standing p s ≡ some ls)
 
 -- A running state that is good, on a row.
-pub record Open (row : List ℕ) (h : Head) (s : State) : Type 0 where
+pub record GoodOnRow (row : List ℕ) (h : Head) (s : State) : Type 0 where
   pub rowed : Rowed row h
-  pub stands : Stands (rowed .head .plan) s
+  pub stands : GoodState (rowed .head .plan) s
 
 -- The same on a whole table.
-pub record Running (row turns tails stretches : List ℕ) (h : Head) (s : State) : Type 0 where
-  pub whole : Whole row turns tails stretches h
-  pub stands : Stands (whole .lent .rowed .head .plan) s
+pub record GoodOnTable (row turns tails stretches : List ℕ) (h : Head) (s : State) : Type 0 where
+  pub whole : WholeTable row turns tails stretches h
+  pub stands : GoodState (whole .lent .rowed .head .plan) s
 
 -- A good state that comes to the point next: x is its place then, and str the point's stretch.
 pub record Arriving (row turns tails : List ℕ) (h : Head) (s : State) (x : Place) (str : ℕ) : Type 0 where

@@ -39,7 +39,7 @@ pub record DecidesRelease (p : Plan) (s : State) : Type 0 where
   pub suspended-is : call-on (table-of p) s release .state .suspended ≡ suspended-after p remaining str 0 false
 
 -- An accepted report answers with the remaining of the history and the stretch of the point.
-pub record Decides (p : Plan) (s : State) (h : List ℕ) (n t : ℕ) : Type 0 where
+pub record DecidesReport (p : Plan) (s : State) (h : List ℕ) (n t : ℕ) : Type 0 where
   pub remaining : ℕ
   pub str : ℕ
   pub is-remaining : Remaining (main p) (h ++ (n ∷ [])) remaining

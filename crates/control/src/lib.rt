@@ -13,7 +13,7 @@ ghost use Rattle.rows.specs.Answers.{Says};
 ghost use Rattle.place.specs.Stack.{Next};
 ghost use Rattle.table.specs.Table.{table-at};
 ghost use Rattle.control.specs.State.{fresh, standing};
-ghost use Rattle.control.specs.Lent.{weighed, opened, Headed, Decides, Rowed, Lent, Whole, spot, Stands, Open, Running, Arriving};
+ghost use Rattle.control.specs.Lent.{weighed, opened, Headed, RightWeighing, Rowed, Lent, WholeTable, spot, GoodState, GoodOnRow, GoodOnTable, Arriving};
 use place::Place;
 use place::can_end;
 use place::first_end;
@@ -136,7 +136,7 @@ fn refusal(state: State, number: u64) -> Step
 // A decision: stay where the others are suspended already; else suspend where the margin is below 0, and go where it is not.
 fn weigh(head: Head, remaining: u64, stretch: u64, reading: u64, suspended: bool) -> Weighing
     requires { ⌜ Headed head ⌝ }
-    ensures { λ r. ⌜ ((q : Headed head) → Decides (q .plan) remaining stretch reading suspended r) ⌝ }
+    ensures { λ r. ⌜ ((q : Headed head) → RightWeighing (q .plan) remaining stretch reading suspended r) ⌝ }
 {
     let deadline = head.deadline;
     let margin = margin_of(deadline, head.switch, remaining, stretch, reading);
@@ -210,7 +210,7 @@ fn place_of(state: State) -> Place
 // Whether a running state is good: some run stands at its place, and its remaining times are those of that place.
 fn stands(row: &[u64], turns: &[u64], tails: &[u64], head: Head, state: State) -> bool
     requires { ⌜ Lent (now row) (now turns) (now tails) head ⌝ }
-    ensures { λ r. ⌜ ((q : Lent (now (row .entry)) (now (turns .entry)) (now (tails .entry)) head) → Says r (Stands (q .rowed .head .plan) state)) ⌝ }
+    ensures { λ r. ⌜ ((q : Lent (now (row .entry)) (now (turns .entry)) (now (tails .entry)) head) → Says r (GoodState (q .rowed .head .plan) state)) ⌝ }
 {
     let times = state.times;
     if state.level == 0 {
@@ -247,10 +247,10 @@ fn is_point(row: &[u64], number: u64) -> bool
     }
 }
 
-// The place of a good state when the point x is reported next; level 0 where x cannot come next.
+// The place of a good state when the point x is reported next; where x cannot come next, level 0 and zeros in both arrays.
 fn next(row: &[u64], head: Head, state: State, x: usize) -> Place
     requires { ⌜ field (now row) x 1 ≡ 1 ⌝ }
-    requires { ⌜ Open (now row) head state ⌝ }
+    requires { ⌜ GoodOnRow (now row) head state ⌝ }
     ensures { λ r. ⌜ ((q : Rowed (now (row .entry)) head) (ls : Levels) → standing (q .head .plan) state ≡ some ls
         → Next (now (row .entry)) (main (q .head .plan)) (next-levels (q .head .plan) ls x) (state .leaves) (state .earlier) x (r .leaves) (r .earlier) (r .level)) ⌝ }
 {
@@ -315,8 +315,8 @@ fn reported_at(
     point: u64,
     reading: u64,
 ) -> Step
-    requires { ⌜ Running (now row) (now turns) (now tails) (now stretches) head state ⌝ }
-    ensures { λ r. ⌜ ((q : Whole (now (row .entry)) (now (turns .entry)) (now (tails .entry)) (now (stretches .entry)) head) (ls : Levels)
+    requires { ⌜ GoodOnTable (now row) (now turns) (now tails) (now stretches) head state ⌝ }
+    ensures { λ r. ⌜ ((q : WholeTable (now (row .entry)) (now (turns .entry)) (now (tails .entry)) (now (stretches .entry)) head) (ls : Levels)
         → standing (q .lent .rowed .head .plan) state ≡ some ls → r ≡ reply-of (running-call (q .lent .rowed .head .plan) state ls (report point reading))) ⌝ }
 {
     if !is_point(row, point) {
@@ -396,7 +396,7 @@ pub fn report(
 
 // Whether the run of a good state can end here.
 fn may_close(row: &[u64], head: Head, state: State) -> bool
-    requires { ⌜ Open (now row) head state ⌝ }
+    requires { ⌜ GoodOnRow (now row) head state ⌝ }
     ensures { λ r. ⌜ ((q : Rowed (now (row .entry)) head) (ls : Levels) → standing (q .head .plan) state ≡ some ls → r ≡ may-end (q .head .plan) ls) ⌝ }
 {
     let bounds = head.bounds;
@@ -410,7 +410,7 @@ fn may_close(row: &[u64], head: Head, state: State) -> bool
 
 // The end of a good state: 16, 17, or resume or ended.
 fn closed_at(row: &[u64], head: Head, state: State, reading: u64) -> Step
-    requires { ⌜ Open (now row) head state ⌝ }
+    requires { ⌜ GoodOnRow (now row) head state ⌝ }
     ensures { λ r. ⌜ ((q : Rowed (now (row .entry)) head) (ls : Levels) → standing (q .head .plan) state ≡ some ls
         → r ≡ reply-of (running-call (q .head .plan) state ls (end reading))) ⌝ }
 {

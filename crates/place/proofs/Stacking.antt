@@ -6,7 +6,7 @@ use mathlib.Core.Option.{Option}
 use Prim.Native.Nat.{ℕ, _+_, _-_, _≤_, _<_}
 use native.Mathlib.Omega.{arith}
 use native.Mathlib.Decide.{decLe}
-use lib.ListN.{length, getD}
+use lib.ListN.{length, getD, replicate}
 use Rattle.model.specs.Forms.{Forms, done}
 use Rattle.model.specs.Stack.{Levels}
 use Rattle.rows.specs.Rows.{field}
@@ -37,8 +37,8 @@ placed {n = n} {leaves = leaves} {counts = counts} {l = l} h q =
     record { table = q .table; levels = q .levels; depth = d; stands = st; marked = q .marked }
 
 module _ (w : List ℕ) (l : ℕ) {main : Forms} {leaves counts : List ℕ} {o : Option Levels} {x r v : ℕ} (z : Finds l main leaves counts o x r v) where
-  pub next-none : r ≡ 0 → (new more : List ℕ) → Next w main o leaves counts x new more 0
-  next-none e new more = elim z [ inl y ↦ inl (refl, y .1) | inr y ↦ absurd (omega (arith, y .0)) ]
+  pub next-none : r ≡ 0 → Next w main o leaves counts x (replicate 33 0) (replicate 33 0) 0
+  next-none e = elim z [ inl y ↦ inl (refl, y .1, refl, refl) | inr y ↦ absurd (omega (arith, y .0)) ]
 
   pub next-some : ((k : ℕ) → 1 ≤ k → k ≤ l → field w (getD leaves k 0) 1 ≡ 1) → (r ≡ 0 → ⊥) → field w x 1 ≡ 1 →
       {new more : List ℕ} → Put leaves new r x → Put counts more r v → Next w main o leaves counts x new more r

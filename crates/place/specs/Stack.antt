@@ -5,7 +5,7 @@ use mathlib.Core.Bool.{Bool, true, false, _&&_}
 use mathlib.Core.List.{List, [], _∷_}
 use mathlib.Core.Logic.{_⊎_}
 use mathlib.Core.Option.{Option, none, some}
-use lib.ListN.{length, getD}
+use lib.ListN.{length, getD, replicate}
 use lib.Dec.{eqb}
 use Rattle.model.specs.Forms.{Forms, done, leaf, call, loop, cond}
 use Rattle.model.specs.Places.{pick, passes, Traceable}
@@ -171,9 +171,10 @@ pub record Stacked (w : List ℕ) (main : Forms) (o : Option Levels) (old olds :
   pub count : ℕ
   pub visited : Put olds counts l count
 
--- The same, or level 0 where there is no such place.
+-- The same; or, where there is no such place, level 0 and 0 in every entry.
 abbrev pub Next : List ℕ → Forms → Option Levels → List ℕ → List ℕ → ℕ → List ℕ → List ℕ → ℕ → Type 0
-Next w main o old olds x leaves counts l = ((l ≡ 0) × (o ≡ none)) ⊎ Stacked w main o old olds x leaves counts l
+Next w main o old olds x leaves counts l =
+    ((l ≡ 0) × (o ≡ none) × (leaves ≡ replicate 33 0) × (counts ≡ replicate 33 0)) ⊎ Stacked w main o old olds x leaves counts l
 
 -- The leaf h is open after `count` earlier visits: a call, or a loop that may turn again.
 abbrev pub Enters : List ℕ → ℕ → ℕ → Type 0

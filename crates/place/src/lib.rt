@@ -412,7 +412,7 @@ pub struct Place {
     pub earlier: ByLevel,
 }
 
-// The place when the point x is reported next; level 0 where x cannot come next.
+// The place when the point x is reported next; where x cannot come next, level 0 and zeros in both arrays.
 pub fn next_place(row: &[u64], starts: &[u64], n: usize, place: Place, x: usize) -> Place
     requires { ⌜ (1 ≤ place .level) × (place .level ≤ 32) ⌝ }
     requires { ⌜ field (now row) x 1 ≡ 1 ⌝ }
@@ -442,7 +442,7 @@ pub fn next_place(row: &[u64], starts: &[u64], n: usize, place: Place, x: usize)
     }
 }
 
-// The place when the point x is reported first; level 0 where x cannot come first.
+// The place when the point x is reported first; where x cannot come first, level 0 and zeros in both arrays.
 pub fn first_place(
     row: &[u64],
     starts: &[u64],

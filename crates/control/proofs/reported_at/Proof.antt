@@ -10,19 +10,19 @@ use Rattle.model.specs.Stack.{Levels}
 use Rattle.model.specs.Controller.{is-point}
 use Rattle.rows.proofs.Answers.{said-true}
 use Rattle.control.specs.State.{standing}
-use Rattle.control.specs.Lent.{Whole, Arriving}
+use Rattle.control.specs.Lent.{WholeTable, Arriving}
 use Rattle.control.proofs.Reporting.{point-right, point-wrong, stretch-there, stranger, backward, onwards, none-next, arriving}
 use borrow.Author.Needs.{needs}
 use Rattle.control.proofs.reported_at.Statement.{statement}
 use Rattle.control.proofs.reported_at.Tie as tie
 
 -- Behind the first test the number is a point.
-is-a-point : (c : tie.Else1) → let a = c .before .before .before .before .before .before .args in (q : Whole (a .row .now) (a .turns .now) (a .tails .now) (a .stretches .now) (a .head)) →
+is-a-point : (c : tie.Else1) → let a = c .before .before .before .before .before .before .args in (q : WholeTable (a .row .now) (a .turns .now) (a .tails .now) (a .stretches .now) (a .head)) →
     is-point (all-leaves (q .lent .rowed .head .plan .functions)) (a .point) ≡ true
 is-a-point c q = let o = c .before .is-point in point-right (q .lent .rowed) (c .before .before .before .before .before .before .args .point) (o .result) (not-false _ (c .if1 .left)) (o .ensures)
 
 -- Behind the last one the state comes to the point.
-abbrev arriving-at : (c : tie.After-shared-slice-known5) → let a = c .before .before .before .before .before .before .before .before .before .before .before .before .args in (q : Whole (a .row .now) (a .turns .now) (a .tails .now) (a .stretches .now) (a .head)) →
+abbrev arriving-at : (c : tie.After-shared-slice-known5) → let a = c .before .before .before .before .before .before .before .before .before .before .before .before .args in (q : WholeTable (a .row .now) (a .turns .now) (a .tails .now) (a .stretches .now) (a .head)) →
     (ls : Levels) → standing (q .lent .rowed .head .plan) (a .state) ≡ some ls →
     Arriving (a .row .now) (a .turns .now) (a .tails .now) (a .head) (a .state) (c .before .before .before .next .result) (getD (a .stretches .now) (a .point) 0)
 arriving-at c q ls k =

@@ -10,7 +10,7 @@ find-requires : tie.Need-find-requires
 find-requires c κs = let s = c .before .before .before .before .before .before in ((s .pre .0 .0, s .pre .0 .1), placed (s .pre .0 .0) (s .pre .1 .1))
 
 returns : tie.Need-returns
-returns c = let s = c .before .before .before .before .before .before .before .before in λ q. let z = c .before .find .ensures (placed (s .pre .0 .0) q) in next-none (s .args .row .now) (s .args .place .level) z (c .if1 .taken) _ _
+returns c = let s = c .before .before .before .before .before .before .before .before in λ q. let z = c .before .find .ensures (placed (s .pre .0 .0) q) in next-none (s .args .row .now) (s .args .place .level) z (c .if1 .taken)
 
 put-requires : tie.Need-put-requires
 put-requires c κs = let s = c .before .before .before .before .before .before .before .before in found-small (s .args .row .now) (s .args .place .level) (c .before .find .ensures (placed (s .pre .0 .0) (s .pre .1 .1)))
