@@ -7,7 +7,8 @@ ghost use lib.IntN.{natAbs};
 ghost use lib.Seq.{sets};
 ghost use Rattle.text.specs.Spelling.{decimal};
 ghost use Rattle.print.specs.Written.{Written, Held};
-ghost use Rattle.print.specs.Lines.{field, signed-field, mark, word-text, ending-text, four, task-line, point-line, refused-plan-line, refused, decided, closed, answer-line};
+ghost use Rattle.print.specs.Lines.{field, signed-field, mark, word-text, ending-text, four};
+ghost use Rattle.print.specs.Lines.{task-line, point-line, refused-plan-line, refused, decided, closed, answer-line};
 
 // The word of a decision: the others go on, are suspended now, or stay suspended.
 pub enum Word {

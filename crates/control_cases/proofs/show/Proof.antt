@@ -11,11 +11,15 @@ answer-line-requires : tie.Need-answer-line-requires
 answer-line-requires c κs = search needs
 
 array-share-prefix-out : tie.Need-array-share-prefix-out
-array-share-prefix-out c = omega (arith, long (answer-line (said (c .before .before .args .answer))) (c .answer-line .ensures .0), c .answer-line .ensures .1 .1)
+array-share-prefix-out c =
+    let all = long (answer-line (said (c .before .before .args .answer))) (c .answer-line .ensures .0) in
+    omega (arith, all, c .answer-line .ensures .1 .1)
 
 slice-aggregate-write-all : tie.Need-slice-aggregate-write-all
 slice-aggregate-write-all c =
-    taken (c .before .answer-line .last .0) (c .before .answer-line .result) (long (answer-line (said (c .before .before .before .args .answer))) (c .before .answer-line .ensures .0)) (c .before .answer-line .ensures .1 .1)
+    let b = c .before in
+    let all = long (answer-line (said (b .before .before .args .answer))) (b .answer-line .ensures .0) in
+    taken (b .answer-line .last .0) (b .answer-line .result) all (b .answer-line .ensures .1 .1)
 
 write-all-requires : tie.Need-write-all-requires
 write-all-requires c κs = search needs
