@@ -1,5 +1,6 @@
 // Plays the marked cases m1 to m12 of document 01 and prints each answer as the document has it. What must be printed is worked out by hand beside each
 // list of calls, and stands in the file stdout.
+use answers::answer_line;
 use control::Answer;
 use control::State;
 use control::Step;
@@ -8,11 +9,6 @@ use control::fresh;
 use control::release;
 use control::report;
 use libc::STDOUT_FILENO;
-use print::Ending;
-use print::Word;
-use print::decision_line;
-use print::end_line;
-use print::refused_call_line;
 use table::Head;
 use table::no_head;
 use table::read;
@@ -28,37 +24,11 @@ const REPORT: u64 = 1;
 // The most calls of a list.
 const CALLS: usize = 7;
 
-// Prints the answer of a decision.
-fn show_decision(word: Word, remaining: u64, margin: i64, late: bool) {
-    let mut out = [0; 128];
-    let size = decision_line(&mut out, word, remaining, margin, late);
-    io::write_all(STDOUT_FILENO, &out[..size]);
-}
-
-// Prints the answer of an end.
-fn show_end(ending: Ending, late: bool) {
-    let mut out = [0; 128];
-    let size = end_line(&mut out, ending, late);
-    io::write_all(STDOUT_FILENO, &out[..size]);
-}
-
-// Prints a refusal.
-fn show_refusal(number: u64) {
-    let mut out = [0; 128];
-    let size = refused_call_line(&mut out, number);
-    io::write_all(STDOUT_FILENO, &out[..size]);
-}
-
 // Prints an answer.
 fn show(answer: Answer) {
-    match answer {
-        Answer::Refused(number) => show_refusal(number),
-        Answer::Go(r, m, late) => show_decision(Word::Go, r, m, late),
-        Answer::Suspend(r, m, late) => show_decision(Word::Suspend, r, m, late),
-        Answer::Stay(r, m, late) => show_decision(Word::Stay, r, m, late),
-        Answer::Resume(late) => show_end(Ending::Resume, late),
-        Answer::Ended(late) => show_end(Ending::Ended, late),
-    }
+    let mut out = [0; 128];
+    let size = answer_line(&mut out, answer);
+    io::write_all(STDOUT_FILENO, &out[..size]);
 }
 
 // One call on a table.

@@ -1,13 +1,9 @@
--- Lines worked through: plan A's listing and answers of 01, and the ends of the ranges. Each is a computation. Assumes nothing.
+-- Lines worked through: plan A's listing of 01, a refused plan, and the end of the range. Each is a computation. Assumes nothing.
 use Prim.Native.Nat.{_-_, _^_}
 use mathlib.Core.Path.{_≡_, refl}
-use mathlib.Core.Bool.{true, false}
-use lib.IntN.{pos, negsuc}
 use Rattle.text.specs.Text.{bytes}
 use Rattle.text.specs.Spelling.{decimal, numerals}
-use Rattle.print.specs.declared.Word.the-variants.{Go, Suspend, Stay}
-use Rattle.print.specs.declared.Ending.the-variants.{Resume, Ended}
-use Rattle.print.specs.Lines.{field, signed-field, mark, word-text, ending-text, four, task-line, point-line, refused-plan-line, refused-call-line, decision-line, end-line}
+use Rattle.print.specs.Lines.{field, four, task-line, point-line, refused-plan-line}
 
 -- The listing of plan A.
 task-a : task-line 49 93 100 4 ≡ bytes "task 49 93 100 4\n"
@@ -22,37 +18,10 @@ point-b : point-line 1 1 44 24 ≡ bytes "point 1 1 44 24\n"
 unfolding point-line four field decimal numerals
 point-b = refl
 
--- Plan A's release, and the third visit of its loop at reading 57 (m3).
-release-a : decision-line Go 49 (pos 47) false ≡ bytes "go 49 47 0\n"
-unfolding decision-line word-text field signed-field mark decimal numerals
-release-a = refl
-
-visit-a : decision-line Suspend 20 (negsuc 4) false ≡ bytes "suspend 20 -5 0\n"
-unfolding decision-line word-text field signed-field mark decimal numerals
-visit-a = refl
-
--- The least margin, with the late mark.
-late-stay : decision-line Stay 0 (negsuc (2 ^ 62 - 1)) true ≡ bytes "stay 0 -4611686018427387904 1\n"
-unfolding decision-line word-text field signed-field mark decimal numerals
-late-stay = refl
-
--- The two ends.
-resumed : end-line Resume false ≡ bytes "resume 0\n"
-unfolding end-line ending-text mark
-resumed = refl
-
-late-end : end-line Ended true ≡ bytes "ended 1\n"
-unfolding end-line ending-text mark
-late-end = refl
-
--- A bound of 0 in the fourth line, and a fifth visit of plan A's loop (m4).
+-- A bound of 0 in the fourth line.
 refused-plan : refused-plan-line 3 4 ≡ bytes "refused 3 4\n"
 unfolding refused-plan-line field decimal numerals
 refused-plan = refl
-
-refused-call : refused-call-line 17 ≡ bytes "refused 17\n"
-unfolding refused-call-line field decimal numerals
-refused-call = refl
 
 -- The largest number of 64 bits.
 largest : field (2 ^ 64 - 1) ≡ bytes " 18446744073709551615"

@@ -52,14 +52,15 @@ point-line number level tail stretch = bytes "point" ++ four number level tail s
 unfoldable pub refused-plan-line : ℕ → ℕ → List ℕ
 refused-plan-line number line = bytes "refused" ++ (field number ++ (field line ++ bytes "\n"))
 
--- The line of a refused call: the refusal's number.
-unfoldable pub refused-call-line : ℕ → List ℕ
-refused-call-line number = bytes "refused" ++ (field number ++ bytes "\n")
+-- What the answer of a call says: a refusal's number; of a release or a report the word, the remaining time, the margin and the late mark; of an end the
+-- word and the late mark.
+pub data Said : Type 0 where
+  refused : ℕ → Said
+  decided : Word → ℕ → ℤ → Bool → Said
+  closed : Ending → Bool → Said
 
--- The answer of a release or a report: the word, the remaining time, the margin and the late mark.
-unfoldable pub decision-line : Word → ℕ → ℤ → Bool → List ℕ
-decision-line w remaining margin late = word-text w ++ (field remaining ++ (signed-field margin ++ mark late))
-
--- The answer of an end: the word and the late mark.
-unfoldable pub end-line : Ending → Bool → List ℕ
-end-line w late = ending-text w ++ mark late
+-- The line of an answer.
+unfoldable pub answer-line : Said → List ℕ
+answer-line (refused number) = bytes "refused" ++ (field number ++ bytes "\n")
+answer-line (decided w remaining margin late) = word-text w ++ (field remaining ++ (signed-field margin ++ mark late))
+answer-line (closed w late) = ending-text w ++ mark late

@@ -7,7 +7,8 @@ ghost use lib.IntN.{natAbs};
 ghost use lib.Seq.{sets};
 ghost use Rattle.text.specs.Spelling.{decimal};
 ghost use Rattle.print.specs.Written.{Written, Held};
-ghost use Rattle.print.specs.Lines.{field, signed-field, mark, word-text, ending-text, four, task-line, point-line, refused-plan-line, refused-call-line, decision-line, end-line};
+ghost use Rattle.print.specs.Lines.{field, signed-field, mark, word-text, ending-text, four};
+ghost use Rattle.print.specs.Lines.{task-line, point-line, refused-plan-line, refused, decided, closed, answer-line};
 
 // The word of a decision: the others go on, are suspended now, or stay suspended.
 pub enum Word {
@@ -186,8 +187,8 @@ pub fn refused_plan_line(out: &mut [u8; SIZE], number: u64, line: u64) -> usize
 
 // Writes the line of a refused call, and gives its length.
 pub fn refused_call_line(out: &mut [u8; SIZE], number: u64) -> usize
-    ensures line { λ r. ⌜ now (out .exit) ≡ sets (now (out .entry)) 0 (refused-call-line number) ⌝ }
-    ensures size { λ r. ⌜ r ≡ length (refused-call-line number) ⌝ }
+    ensures line { λ r. ⌜ now (out .exit) ≡ sets (now (out .entry)) 0 (answer-line (refused number)) ⌝ }
+    ensures size { λ r. ⌜ r ≡ length (answer-line (refused number)) ⌝ }
     ensures fits { λ r. ⌜ r ≤ 128 ⌝ }
 {
     let first = put_bytes(out, 0, b"refused");
@@ -203,8 +204,8 @@ pub fn decision_line(
     margin: i64,
     late: bool,
 ) -> usize
-    ensures line { λ r. ⌜ now (out .exit) ≡ sets (now (out .entry)) 0 (decision-line word remaining margin late) ⌝ }
-    ensures size { λ r. ⌜ r ≡ length (decision-line word remaining margin late) ⌝ }
+    ensures line { λ r. ⌜ now (out .exit) ≡ sets (now (out .entry)) 0 (answer-line (decided word remaining margin late)) ⌝ }
+    ensures size { λ r. ⌜ r ≡ length (answer-line (decided word remaining margin late)) ⌝ }
     ensures fits { λ r. ⌜ r ≤ 128 ⌝ }
 {
     let first = put_word(out, word);
@@ -215,8 +216,8 @@ pub fn decision_line(
 
 // Writes the answer of an end, and gives its length.
 pub fn end_line(out: &mut [u8; SIZE], ending: Ending, late: bool) -> usize
-    ensures line { λ r. ⌜ now (out .exit) ≡ sets (now (out .entry)) 0 (end-line ending late) ⌝ }
-    ensures size { λ r. ⌜ r ≡ length (end-line ending late) ⌝ }
+    ensures line { λ r. ⌜ now (out .exit) ≡ sets (now (out .entry)) 0 (answer-line (closed ending late)) ⌝ }
+    ensures size { λ r. ⌜ r ≡ length (answer-line (closed ending late)) ⌝ }
     ensures fits { λ r. ⌜ r ≤ 128 ⌝ }
 {
     let first = put_ending(out, ending);

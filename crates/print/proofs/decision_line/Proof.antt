@@ -1,7 +1,7 @@
 -- `print::decision_line` meets its contract: the word, two fields and the late mark, one behind the other. Assumes nothing.
 use native.Mathlib.Omega.{arith}
 use borrow.Author.Needs.{needs}
-use Rattle.print.specs.Lines.{decision-line}
+use Rattle.print.specs.Lines.{answer-line}
 use Rattle.print.proofs.Signed.{field-read}
 use Rattle.print.proofs.Laws.{held, line}
 use Rattle.print.proofs.decision_line.Statement.{statement}
@@ -20,7 +20,7 @@ put-mark-requires : tie.Need-put-mark-requires
 put-mark-requires c κs = search needs
 
 returns : tie.Need-returns
-unfolding decision-line
+unfolding answer-line
 returns c =
     let d = c .before .before in
     let e = d .before .before in

@@ -1,7 +1,7 @@
 -- `print::end_line` meets its contract: the word and the late mark behind it. Assumes nothing.
 use native.Mathlib.Omega.{arith}
 use borrow.Author.Needs.{needs}
-use Rattle.print.specs.Lines.{end-line}
+use Rattle.print.specs.Lines.{answer-line}
 use Rattle.print.proofs.Laws.{held, line}
 use Rattle.print.proofs.end_line.Statement.{statement}
 use Rattle.print.proofs.end_line.Tie as tie
@@ -13,7 +13,7 @@ put-mark-requires : tie.Need-put-mark-requires
 put-mark-requires c κs = search needs
 
 returns : tie.Need-returns
-unfolding end-line
+unfolding answer-line
 returns c = line (omega arith) (held (c .before .before .put-ending .ensures) (c .put-mark .ensures))
 
 pub end-line-spec : {M : Type 1} → statement M

@@ -1,7 +1,7 @@
 -- `print::refused_call_line` meets its contract: the word, a field and a line feed, one behind the other. Assumes nothing.
 use native.Mathlib.Omega.{arith}
 use borrow.Author.Needs.{needs}
-use Rattle.print.specs.Lines.{refused-call-line}
+use Rattle.print.specs.Lines.{answer-line}
 use Rattle.print.proofs.Laws.{held, whole, line}
 use Rattle.print.proofs.refused_call_line.Statement.{statement}
 use Rattle.print.proofs.refused_call_line.Tie as tie
@@ -19,7 +19,7 @@ put-byte-requires : tie.Need-put-byte-requires
 put-byte-requires c κs = search needs
 
 returns : tie.Need-returns
-unfolding refused-call-line
+unfolding answer-line
 returns c =
     let d = c .before .before in
     let e = d .before .before in
