@@ -26,11 +26,8 @@
 extern "C" {
 #endif
 
-/* The version of this header and of the library beside it, 1.0.0: ten thousands, hundreds and ones of one number, to be compared by #if. */
-#define ROLSIPAY_VERSION_MAJOR 1
-#define ROLSIPAY_VERSION_MINOR 0
-#define ROLSIPAY_VERSION_PATCH 0
-#define ROLSIPAY_VERSION (ROLSIPAY_VERSION_MAJOR * 10000 + ROLSIPAY_VERSION_MINOR * 100 + ROLSIPAY_VERSION_PATCH)
+/* The version of this header and of the library beside it, to be compared by #if: 10000 * major + 100 * minor + patch. */
+#define ROLSIPAY_VERSION 10000            /* 1.0.0 */
 
 /* The most stack that a call takes, in bytes, whatever it is given; docs/MEMORY.md tells how it was measured. */
 #define ROLSIPAY_STACK_READ 198656        /* rolsipay_read */
@@ -59,13 +56,13 @@ extern "C" {
 #define ROLSIPAY_FORM 2                   /* line or nesting not of the grammar, or text ends early or goes on */
 #define ROLSIPAY_RANGE 3                  /* a number outside its range, of any number of digits */
 #define ROLSIPAY_COUNT 4                  /* a 513th leaf, a leaf more than the lent row holds, or a 17th function */
-#define ROLSIPAY_LOAD 5                   /* cost under load below cost alone */
-#define ROLSIPAY_TARGET 6                 /* call of a function that does not stand before its own */
+#define ROLSIPAY_LOAD 5                   /* M, the cost under load, below C, the cost alone */
+#define ROLSIPAY_TARGET 6                 /* F, the called function, not below the number of its own function */
 #define ROLSIPAY_DEPTH 7                  /* a 65th open bracket, or level over 32, called forms included */
 #define ROLSIPAY_UNSEEN 8                 /* a silent loop or call with a point inside it or in what it calls */
 #define ROLSIPAY_UNCALLED 9               /* a function but the last that no call names */
-#define ROLSIPAY_LONG 10                  /* total alone or under load over 2^40 */
-#define ROLSIPAY_BROKEN 11                /* row and head are those of no accepted plan, or no run stands where the running state says */
+#define ROLSIPAY_LONG 10                  /* total or max-load total over 2^40 */
+#define ROLSIPAY_BROKEN 11                /* table of no accepted plan; or a running state where no run stands, or with other remaining times than there */
 #define ROLSIPAY_BUSY 12                  /* release before the end */
 #define ROLSIPAY_UNFIT 13                 /* total and switch cost together over the deadline */
 #define ROLSIPAY_IDLE 14                  /* report or end without a release */
