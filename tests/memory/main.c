@@ -9,6 +9,7 @@ static int passed, failed;
 /* Calls that were not answered as they must be. */
 static int astray;
 
+/* Counts a check, and says what failed. */
 static void check(int yes, const char *what)
 {
     passed += yes;
@@ -17,6 +18,7 @@ static void check(int yes, const char *what)
         printf("failed: %s\n", what);
 }
 
+/* Measures a call, which must be refused by this number, or accepted where it is 0. */
 static void expect(uint64_t number, enum call call, uint64_t point, const char *what)
 {
     uint64_t got = measured(call, point);

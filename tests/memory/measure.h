@@ -15,6 +15,7 @@
 /* Far more than any call takes: one that took more would end the test by a signal. */
 #define STACK (1 << 19)
 
+/* The delivered calls. */
 enum call { READ, RELEASE, REPORT, END, CALLS };
 
 /* What the calls are given. */
@@ -34,6 +35,7 @@ struct job {
     uintptr_t top;
 };
 
+/* Makes the call, and gives the refusal's number, or 0. */
 static uint64_t answered(enum call call, uint64_t point)
 {
     if (call == READ)
@@ -45,6 +47,7 @@ static uint64_t answered(enum call call, uint64_t point)
     return rolsipay_end(row, ROLSIPAY_LEAVES, &head, &state, 0).number;
 }
 
+/* Makes a job's call in a thread. */
 static void *run(void *given)
 {
     struct job *job = given;
@@ -75,7 +78,7 @@ static size_t painted(struct job *job, int paint)
     return job->top - (uintptr_t)(stack + kept);
 }
 
-/* Makes the call, notes how deep it went, and gives the refusal's number, or 0. The state is moved on once. */
+/* Makes the call on either paint, notes how deep it went, and gives the refusal's number, or 0. The state is moved on once. */
 static uint64_t measured(enum call call, uint64_t point)
 {
     static const int paints[] = {0xA5, 0x5A};

@@ -44,6 +44,7 @@ static char *opened(char *at, const struct nesting *nesting, int i)
     return at + sprintf(at, "(if %c 1 1\n(then\n%s", nesting->kind, nesting->otherwise ? ")\n(else\n" : "");
 }
 
+/* Writes the closing lines of the form i. */
 static char *closed(char *at, const struct nesting *nesting, int i)
 {
     if (!is_if(nesting, i))
@@ -63,6 +64,7 @@ static char *write_forms(char *at, const struct nesting *nesting)
     return at;
 }
 
+/* Makes the text that of a nesting. */
 static void write_nesting(const struct nesting *nesting)
 {
     char *at = text + sprintf(text, "(task 1099511627776 0\n%s(fun\n", nesting->before);
