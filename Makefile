@@ -1,4 +1,4 @@
-# What integrators link. `make lib` puts the static library of the delivered calls and its header into dist/.
+# What integrators link. `make lib` puts the static library of the delivered calls, its header and its Ada binding into dist/.
 # `make examples` proves and builds the table program, builds the programs of examples/c and examples/ada with the library, runs them and compares what they
 # print, and holds the table program to the listings of the examples.
 .PHONY: lib tables examples
@@ -6,7 +6,7 @@
 lib:
 	tools/library rolsipay
 	mkdir -p dist
-	cp target/staticlib/librolsipay.a include/rolsipay.h dist/
+	cp target/staticlib/librolsipay.a include/rolsipay.h examples/ada/rolsipay.ads dist/
 
 tables:
 	rt check tables

@@ -1,12 +1,20 @@
 /* Rolsipay: the run-time controller of one critical task, from C (C99).
  *
  * A plan's text is read once into a row of leaf records and a head, both lent by the caller. Then come calls: release, report of a point with a
- * reading, and end with a reading. The running state lies in the caller's memory and is moved on there. No call keeps a pointer, allocates memory or fails by a signal.
+ * reading, and end with a reading. The running state lies in the caller's memory and is moved on there. No call keeps a pointer, allocates memory or
+ * fails by a signal.
  *
  * What a caller must ensure: each pointer is valid for its whole struct, or for as many records or bytes as the count beside it says (a pointer
  * beside the count 0 must still not be null), is aligned for it, and nobody else writes that memory during the call. What a call writes (row and
  * head of rolsipay_read, state of the others) must not overlap with what else it is given. Nothing is asked of the contents: any bytes in text, row,
- * head and state are answered, by a refusal where they are no plan, no plan's table or no state of it.
+ * head and state are answered, by a refusal where they are no plan, no plan's table or no state of it. The stack has room for the call (below).
+ *
+ * Platform: librolsipay.a is x86-64 code, ELF objects with the calling convention of System V; the calls use the vector registers of SSE2, which every
+ * such processor has, and nothing newer. They need memcpy and memset from the C library, nothing else: no system call, no thread-local memory.
+ *
+ * Threads and interrupts: the library has no variable of its own, so calls may run at the same time in any threads, as long as no call writes memory that
+ * another one is given. A call may be interrupted and another made meanwhile on the same terms; an interrupt handler that does so saves the vector
+ * registers, as for any C function, and leaves the 128 bytes below the interrupted stack pointer alone, as that calling convention asks.
  */
 #ifndef ROLSIPAY_H
 #define ROLSIPAY_H
@@ -17,6 +25,13 @@
 #ifdef __cplusplus
 extern "C" {
 #endif
+
+/* The version of this header and of the library beside it, to be compared by #if: 10000 * major + 100 * minor + patch. */
+#define ROLSIPAY_VERSION 10000            /* 1.0.0 */
+
+/* The most stack that a call takes, in bytes, whatever it is given; docs/MEMORY.md tells how it was measured. */
+#define ROLSIPAY_STACK_READ 198656        /* rolsipay_read */
+#define ROLSIPAY_STACK_CALL 79872         /* rolsipay_release, rolsipay_report and rolsipay_end, each */
 
 /* The limits. Of a longer row only the first ROLSIPAY_LEAVES records are used. */
 #define ROLSIPAY_TEXT 65536               /* bytes of a plan's text */
@@ -36,24 +51,24 @@ extern "C" {
 #define ROLSIPAY_RESUME 4
 #define ROLSIPAY_ENDED 5
 
-/* The numbers of refusals. */
-#define ROLSIPAY_OVERSIZE 1
-#define ROLSIPAY_FORM 2
-#define ROLSIPAY_RANGE 3
-#define ROLSIPAY_COUNT 4
-#define ROLSIPAY_LOAD 5
-#define ROLSIPAY_TARGET 6
-#define ROLSIPAY_DEPTH 7
-#define ROLSIPAY_UNSEEN 8
-#define ROLSIPAY_UNCALLED 9
-#define ROLSIPAY_LONG 10
-#define ROLSIPAY_BROKEN 11
-#define ROLSIPAY_BUSY 12
-#define ROLSIPAY_UNFIT 13
-#define ROLSIPAY_IDLE 14
-#define ROLSIPAY_STRANGER 15
-#define ROLSIPAY_BACKWARD 16
-#define ROLSIPAY_ASTRAY 17
+/* The numbers of refusals. A plan is asked for 1; then line by line, in a line for 2 to 7; then for 8, 9, 10. The calls say below what they ask for. */
+#define ROLSIPAY_OVERSIZE 1               /* text over 65,536 bytes */
+#define ROLSIPAY_FORM 2                   /* line or nesting not of the grammar, or text ends early or goes on */
+#define ROLSIPAY_RANGE 3                  /* a number outside its range, of any number of digits */
+#define ROLSIPAY_COUNT 4                  /* a 513th leaf, a leaf more than the lent row holds, or a 17th function */
+#define ROLSIPAY_LOAD 5                   /* M, the cost under load, below C, the cost alone */
+#define ROLSIPAY_TARGET 6                 /* F, the called function, not below the number of its own function */
+#define ROLSIPAY_DEPTH 7                  /* a 65th open bracket, or level over 32, called forms included */
+#define ROLSIPAY_UNSEEN 8                 /* a silent loop or call with a point inside it or in what it calls */
+#define ROLSIPAY_UNCALLED 9               /* a function but the last that no call names */
+#define ROLSIPAY_LONG 10                  /* total or max-load total over 2^40 */
+#define ROLSIPAY_BROKEN 11                /* table of no accepted plan; or a running state where no run stands, or with other remaining times than there */
+#define ROLSIPAY_BUSY 12                  /* release before the end */
+#define ROLSIPAY_UNFIT 13                 /* total and switch cost together over the deadline */
+#define ROLSIPAY_IDLE 14                  /* report or end without a release */
+#define ROLSIPAY_STRANGER 15              /* the number is not that of a point of the plan */
+#define ROLSIPAY_BACKWARD 16              /* reading below the last accepted one */
+#define ROLSIPAY_ASTRAY 17                /* no run has these reports in this order; for end, no run can end here */
 
 /* A leaf's record: 88 bytes. */
 typedef struct {
@@ -109,6 +124,22 @@ typedef struct {
     int64_t margin;
     uint64_t late;
 } rolsipay_reply;
+
+/* The layout that the library was compiled for. Where the compiler lays a struct out otherwise, one of these arrays has a negative size, and its name says
+ * what should hold. */
+typedef char rolsipay_leaf_has_88_bytes[sizeof(rolsipay_leaf) == 88 ? 1 : -1];
+typedef char rolsipay_leaf_after_is_at_48[offsetof(rolsipay_leaf, after) == 48 ? 1 : -1];
+typedef char rolsipay_leaf_stretch_is_at_80[offsetof(rolsipay_leaf, stretch) == 80 ? 1 : -1];
+typedef char rolsipay_head_has_320_bytes[sizeof(rolsipay_head) == 320 ? 1 : -1];
+typedef char rolsipay_head_leaves_is_at_40[offsetof(rolsipay_head, leaves) == 40 ? 1 : -1];
+typedef char rolsipay_head_bounds_is_at_56[offsetof(rolsipay_head, bounds) == 56 ? 1 : -1];
+typedef char rolsipay_head_totals_is_at_192[offsetof(rolsipay_head, totals) == 192 ? 1 : -1];
+typedef char rolsipay_state_has_824_bytes[sizeof(rolsipay_state) == 824 ? 1 : -1];
+typedef char rolsipay_state_leaves_is_at_32[offsetof(rolsipay_state, leaves) == 32 ? 1 : -1];
+typedef char rolsipay_state_times_is_at_560[offsetof(rolsipay_state, times) == 560 ? 1 : -1];
+typedef char rolsipay_ruling_has_16_bytes[sizeof(rolsipay_ruling) == 16 ? 1 : -1];
+typedef char rolsipay_reply_has_40_bytes[sizeof(rolsipay_reply) == 40 ? 1 : -1];
+typedef char rolsipay_reply_margin_is_at_24[offsetof(rolsipay_reply, margin) == 24 ? 1 : -1];
 
 /* Reads a plan: its leaves go to the beginning of the row, records past its last leaf keep their values, and the head is written. A refused plan
  * leaves row and head as they were. */

@@ -1,6 +1,7 @@
 --  Reads the plan in the file that it is given and plays the marked cases m1 to m5 of plan A, each from a fresh state. One line an answer: the word,
 --  remaining and margin, then 1 if late, else 0; for the end the word and the late mark; or `refused` and the number.
 with Ada.Command_Line;
+with Ada.IO_Exceptions;
 with Ada.Streams; use Ada.Streams;
 with Ada.Streams.Stream_IO;
 with Ada.Strings;
@@ -15,7 +16,8 @@ procedure Play is
    --  Points and readings of reports, in turn.
    type Reports is array (Positive range <>) of Unsigned_64;
 
-   Text : Stream_Element_Array (1 .. Max_Text);
+   --  Room for one byte more than a plan may have, so that a longer one is seen to be.
+   Text : Stream_Element_Array (1 .. Max_Text + 1);
    Last : Stream_Element_Offset;
    Row  : Leaves (0 .. Max_Leaves - 1);
    Head : aliased Head_Record;
@@ -53,12 +55,36 @@ procedure Play is
       end if;
    end Run;
 
-   File : Ada.Streams.Stream_IO.File_Type;
+   --  Says it on standard error; the program ends with a failure.
+   procedure Fail (Message : String) is
+   begin
+      Ada.Text_IO.Put_Line (Ada.Text_IO.Standard_Error, Message);
+      Ada.Command_Line.Set_Exit_Status (Ada.Command_Line.Failure);
+   end Fail;
+
+   --  Reads the file into Text, as far as there is room; whether that could be done.
+   function Fetched (Name : String) return Boolean is
+      File : Ada.Streams.Stream_IO.File_Type;
+   begin
+      Ada.Streams.Stream_IO.Open (File, Ada.Streams.Stream_IO.In_File, Name);
+      Ada.Streams.Stream_IO.Read (File, Text, Last);
+      Ada.Streams.Stream_IO.Close (File);
+      return True;
+   exception
+      when Ada.IO_Exceptions.Name_Error | Ada.IO_Exceptions.Use_Error | Ada.IO_Exceptions.Device_Error =>
+         Fail (Name & ": cannot be opened or read");
+         return False;
+   end Fetched;
+
    Said : Ruling;
 begin
-   Ada.Streams.Stream_IO.Open (File, Ada.Streams.Stream_IO.In_File, Ada.Command_Line.Argument (1));
-   Ada.Streams.Stream_IO.Read (File, Text, Last);
-   Ada.Streams.Stream_IO.Close (File);
+   if Ada.Command_Line.Argument_Count /= 1 then
+      Fail ("use: " & Ada.Command_Line.Command_Name & " PLAN");
+      return;
+   end if;
+   if not Fetched (Ada.Command_Line.Argument (1)) then
+      return;
+   end if;
    Said := Read (Text'Address, size_t (Last), Row'Address, Row'Length, Head'Access);
    if Said.Number /= 0 then
       Ada.Text_IO.Put_Line ("refused " & Shown (Said.Number) & " " & Shown (Said.Line));

@@ -6,6 +6,7 @@
 
 #include <inttypes.h>
 #include <stdio.h>
+#include <stdlib.h>
 
 static rolsipay_leaf row[ROLSIPAY_LEAVES];
 static rolsipay_head head;
@@ -22,19 +23,25 @@ static void print(rolsipay_reply reply)
         printf("%s %" PRIu64 " %" PRId64 " %" PRIu64 "\n", words[reply.word], reply.remaining, reply.margin, reply.late);
 }
 
+/* Ends the program with a failure, once standard error has the file's name and what is wrong with it. */
+static void fail(const char *name)
+{
+    perror(name);
+    exit(EXIT_FAILURE);
+}
+
 /* Reads the plan in a file into the first records of the row, and the head. The text has room for one byte more than a plan may have, so that a
  * longer one is seen to be. */
 static rolsipay_ruling read_plan(const char *name, size_t records)
 {
     static uint8_t text[ROLSIPAY_TEXT + 1];
-    size_t bytes = 0;
     FILE *file = fopen(name, "rb");
     if (file == NULL)
-        perror(name);
-    else {
-        bytes = fread(text, 1, sizeof text, file);
-        fclose(file);
-    }
+        fail(name);
+    size_t bytes = fread(text, 1, sizeof text, file);
+    if (ferror(file))
+        fail(name);
+    fclose(file);
     return rolsipay_read(text, bytes, row, records, &head);
 }
 

@@ -1,98 +1,279 @@
-/* Measures how much stack each delivered call takes, and prints the sizes of what the caller lends. The plan is 512 leaves in a row of 31 nested loops, so that
- * the calls go as deep and as far as they can. It fails where a call is not answered as it must be. */
-#include "rolsipay.h"
+/* Measures how much stack each delivered call takes, over families of plans, texts, tables and states that go as deep as they can, and holds it to the
+ * figures of docs/MEMORY.md, which it is given, and to the header's; so it does with the sizes of what the caller lends. It fails where a figure is too
+ * small, where another case goes deeper than the plan that docs/MEMORY.md names, or where a call is not answered as it must be. Its last line is
+ * 'N passed, M failed'. */
+#include "plans.h"
 
-#include <pthread.h>
-#include <stdio.h>
-#include <stdlib.h>
-#include <string.h>
+static int passed, failed;
 
-#define STACK (1 << 20)
-#define PAINT 0xA5
+/* Calls that were not answered as they must be. */
+static int astray;
 
-static char text[ROLSIPAY_TEXT];
-static size_t bytes;
-static rolsipay_leaf row[ROLSIPAY_LEAVES];
-static rolsipay_head head;
-static rolsipay_state state;
-static int failed;
-
-/* A plan of 31 nested loops of one round around 481 leaves. */
-static void write_plan(void)
+/* Counts a check, and says what failed. */
+static void check(int yes, const char *what)
 {
-    char *at = text;
-    at += sprintf(at, "(task 1099511627776 0\n(fun\n");
-    for (int i = 0; i < 31; i++)
-        at += sprintf(at, "(loop p 1 1 1\n");
-    for (int i = 0; i < 481; i++)
-        at += sprintf(at, "(leaf p 1 1)\n");
-    for (int i = 0; i < 33; i++)
-        at += sprintf(at, ")\n");
-    bytes = (size_t)(at - text);
-}
-
-static void expect(int yes)
-{
+    passed += yes;
     failed += !yes;
+    if (!yes)
+        printf("failed: %s\n", what);
 }
 
-static void *nothing(void *none)
+/* Measures a call, which must be refused by this number, or accepted where it is 0. */
+static void expect(uint64_t number, enum call call, uint64_t point, const char *what)
 {
-    return none;
+    uint64_t got = measured(call, point);
+    if (got != number)
+        printf("%s, call %d: %d, not %d\n", what, call, (int)got, (int)number);
+    astray += got != number;
 }
 
-static void *read_plan(void *none)
+/* Reads the text, which must be accepted, and makes the state fresh. */
+static void read_accepted(const char *what)
 {
-    expect(rolsipay_read((const uint8_t *)text, bytes, row, ROLSIPAY_LEAVES, &head).number == 0);
-    return none;
+    expect(0, READ, 0, what);
+    memset(&state, 0, sizeof state);
 }
 
-static void *release(void *none)
+/* The calls on a nesting: release, a report of each point from outside in, of which the last is measured, the release once more, and the end, which no run
+ * can reach from inside a loop whose condition must be visited again. */
+static void play(const struct nesting *nesting, const char *what)
 {
-    expect(rolsipay_release(row, ROLSIPAY_LEAVES, &head, &state).word == ROLSIPAY_GO);
-    return none;
+    int last = nesting->ifs + nesting->loops - 1, level = 1;
+    write_nesting(nesting);
+    read_accepted(what);
+    expect(0, RELEASE, 0, what);
+    if (nesting->kind == 's') {
+        expect(ROLSIPAY_STRANGER, REPORT, 0, what);
+        expect(0, END, 0, what);
+        return;
+    }
+    for (int i = 0; i < last; i++) {
+        astray += answered(REPORT, (uint64_t)i) != 0;
+        level += !is_if(nesting, i);
+    }
+    expect(0, REPORT, (uint64_t)last, what);
+    expect(ROLSIPAY_BUSY, RELEASE, 0, what);
+    expect(level == 1 ? 0 : ROLSIPAY_ASTRAY, END, 0, what);
 }
 
-static void *report(void *none)
+/* Every mix of ifs and loops that the brackets and levels allow and no further loop fits into: all orders, then and else parts, points and silent leaves, with
+ * an empty innermost body or, where level 32 leaves room, a leaf in it. */
+static void mixes(void)
 {
-    for (uint64_t point = 0; point < ROLSIPAY_LEAVES; point++)
-        expect(rolsipay_report(row, ROLSIPAY_LEAVES, &head, &state, point, 0).word == ROLSIPAY_GO);
-    return none;
+    for (int ifs = 0; ifs <= 31; ifs++) {
+        int most = ROLSIPAY_BRACKETS - 2 - 2 * ifs;
+        int loops = most < ROLSIPAY_LEVELS ? most : ROLSIPAY_LEVELS;
+        for (int variant = 0; variant < ORDERS * 8; variant++) {
+            struct nesting nesting = DEEPEST;
+            nesting.ifs = ifs;
+            nesting.loops = loops;
+            nesting.order = (enum order)(variant / 8);
+            nesting.otherwise = variant / 4 % 2;
+            nesting.kind = variant / 2 % 2 ? 's' : 'p';
+            nesting.inside = variant % 2 && loops < ROLSIPAY_LEVELS ? "(leaf s 1 1)\n" : "";
+            play(&nesting, "mix");
+        }
+    }
 }
 
-static void *end(void *none)
+/* A line in the innermost body of the deepest nesting, where a form would have level 33, and what refuses the text. */
+struct refused {
+    const char *line;
+    uint64_t number;
+};
+
+/* Texts that are refused at their deepest line, the last of them. */
+static void refused_lines(void)
 {
-    expect(rolsipay_end(row, ROLSIPAY_LEAVES, &head, &state, 0).number == ROLSIPAY_ASTRAY);
-    return none;
+    static char digits[60000];
+    static const struct refused lines[] = {
+        {"(leaf p 1 1)\n", ROLSIPAY_DEPTH},
+        {"(loop p 1 1 1\n", ROLSIPAY_DEPTH},
+        {"(if p 1 1\n", ROLSIPAY_DEPTH},
+        {"(call p 0 1 1)\n", ROLSIPAY_TARGET},
+        {"(leaf p 2 1)\n", ROLSIPAY_LOAD},
+        {"(leaf p 1048577 1048577)\n", ROLSIPAY_RANGE},
+        {digits, ROLSIPAY_RANGE},
+        {"(then\n", ROLSIPAY_FORM},
+        {"(loop p 01 1 1\n", ROLSIPAY_FORM},
+        {"(leaf p 1 1", ROLSIPAY_FORM},
+        {"", ROLSIPAY_FORM},
+    };
+    struct nesting nesting = DEEPEST;
+    memset(digits, '9', sizeof digits);
+    memcpy(digits, "(leaf p ", 8);
+    memcpy(digits + sizeof digits - 5, " 1)\n", 5);
+    nesting.broken_off = 1;
+    for (size_t i = 0; i < sizeof lines / sizeof *lines; i++) {
+        nesting.inside = lines[i].line;
+        write_nesting(&nesting);
+        expect(lines[i].number, READ, 0, lines[i].line);
+    }
 }
 
-/* Runs it on a painted stack, and gives how many bytes of the paint are gone. */
-static size_t used(void *(*call)(void *))
+/* Reads the text of a nesting, which must be refused. */
+static void refuse(struct nesting nesting, uint64_t number, const char *what)
 {
-    unsigned char *stack = aligned_alloc(4096, STACK);
-    pthread_attr_t attributes;
-    pthread_t thread;
-    size_t untouched = 0;
-    memset(stack, PAINT, STACK);
-    pthread_attr_init(&attributes);
-    pthread_attr_setstack(&attributes, stack, STACK);
-    pthread_create(&thread, &attributes, call, NULL);
-    pthread_join(thread, NULL);
-    while (untouched < STACK && stack[untouched] == PAINT)
-        untouched++;
-    free(stack);
-    return STACK - untouched;
+    write_nesting(&nesting);
+    expect(number, READ, 0, what);
 }
 
-int main(void)
+/* Texts that are refused for more than their deepest line. */
+static void refused_texts(void)
 {
-    write_plan();
-    size_t idle = used(nothing);
-    printf("leaf %zu bytes, row of %d leaves %zu, head %zu, state %zu\n", sizeof(rolsipay_leaf), ROLSIPAY_LEAVES, sizeof row, sizeof head, sizeof state);
-    printf("stack of rolsipay_read %zu bytes\n", used(read_plan) - idle);
-    printf("stack of rolsipay_release %zu bytes\n", used(release) - idle);
-    printf("stack of rolsipay_report %zu bytes\n", used(report) - idle);
-    printf("stack of rolsipay_end %zu bytes\n", used(end) - idle);
-    printf("%d passed, %d failed\n", failed == 0, failed);
+    refuse((struct nesting){15, 32, AROUND, 0, 'p', 1, "", ROLSIPAY_LEAVES, "", 0}, ROLSIPAY_COUNT, "count");
+    refuse((struct nesting){15, 31, AROUND, 0, 's', 1, "(leaf p 1 1)\n", 0, "", 0}, ROLSIPAY_UNSEEN, "unseen");
+    refuse((struct nesting){15, 32, AROUND, 0, 'p', 1, "", 0, "(fun\n)\n", 0}, ROLSIPAY_UNCALLED, "uncalled");
+    refuse((struct nesting){15, 32, AROUND, 0, 'p', ROLSIPAY_ROUNDS, "", 0, "", 0}, ROLSIPAY_LONG, "long");
+    memset(text, ' ', sizeof text);
+    bytes = sizeof text;
+    expect(ROLSIPAY_FORM, READ, 0, "spaces");
+}
+
+/* Every call on the table as it is, which must be that of no plan, with an idle state and with a running one. */
+static void broken(const char *what)
+{
+    for (uint64_t running = 0; running < 2; running++) {
+        state.running = running;
+        for (enum call call = RELEASE; call < CALLS; call++)
+            expect(ROLSIPAY_BROKEN, call, 0, what);
+    }
+}
+
+/* A row of 512 records, each with all the later ones inside it: the first so many are ifs, the others loops, with the levels that they have by their
+ * nesting. */
+static void nested_row(uint64_t ifs, int otherwise)
+{
+    memset(&head, 0, sizeof head);
+    head.deadline = 1;
+    head.leaves = ROLSIPAY_LEAVES;
+    head.functions = 1;
+    head.bounds[1] = ROLSIPAY_LEAVES;
+    for (uint64_t i = 0; i < ROLSIPAY_LEAVES; i++) {
+        rolsipay_leaf loop = {2, 1, 1, 1, 1, 0, ROLSIPAY_LEAVES, i < ifs ? 1 : i - ifs + 1, 0, 0, 0};
+        row[i] = loop;
+        if (i < ifs) {
+            row[i].kind = 3;
+            row[i].detail = 0;
+            row[i].other = otherwise ? i + 1 : ROLSIPAY_LEAVES;
+        }
+    }
+}
+
+/* Tables of no plan: the deepest plan's with one number changed, with a record too deep, and rows whose records nest 512 deep. */
+static void broken_tables(void)
+{
+    write_nesting(&DEEPEST);
+    uint64_t *const changed[] = {&head.stretch, &head.loaded, &head.total, &row[0].stretch, &row[46].stretch, &row[46].tail, &row[46].turn, &row[46].level};
+    for (size_t i = 0; i < sizeof changed / sizeof *changed; i++) {
+        read_accepted("deepest");
+        *changed[i] += 1;
+        broken("a number changed");
+    }
+    read_accepted("deepest");
+    for (int i = 0; i < 47; i++)
+        row[i].after = 48;
+    row[47] = (rolsipay_leaf){0, 1, 1, 1, 0, 0, 48, 33, 0, 0, 0};
+    head.leaves = 48;
+    head.bounds[1] = 48;
+    broken("a leaf at level 33");
+    for (uint64_t ifs = 0; ifs <= ROLSIPAY_LEAVES; ifs++) {
+        nested_row(ifs, ifs % 2 == 0);
+        broken("512 nested records");
+    }
+}
+
+/* Every call on a running state that no run leads to. */
+static void lost(const char *what)
+{
+    for (enum call call = RELEASE; call < CALLS; call++)
+        expect(ROLSIPAY_BROKEN, call, 0, what);
+}
+
+/* The state of the deepest place, first as it is, then changed so that no run stands there. */
+static void places(void)
+{
+    write_called();
+    read_accepted("called");
+    expect(0, RELEASE, 0, "called");
+    for (uint64_t point = 31; point <= 62; point++)
+        astray += answered(REPORT, point) != 0;
+    for (uint64_t point = 0; point < 31; point++)
+        expect(0, REPORT, point, "called");
+    expect(ROLSIPAY_BUSY, RELEASE, 0, "called");
+    expect(ROLSIPAY_ASTRAY, REPORT, 31, "called");
+    expect(ROLSIPAY_ASTRAY, END, 0, "called");
+    const rolsipay_state good = state;
+    uint64_t *const changed[] = {&state.level, &state.times[0], &state.times[32], &state.earlier[1], &state.leaves[1], &state.leaves[32], &state.earlier[32]};
+    for (size_t i = 0; i < sizeof changed / sizeof *changed; i++) {
+        state = good;
+        *changed[i] += 2;
+        lost("a number of the state changed");
+        *changed[i] = UINT64_MAX;
+        lost("a number of the state over all bounds");
+    }
+}
+
+/* The run through 16 functions, which comes back through all of them at its end. */
+static void chain(void)
+{
+    write_chain();
+    read_accepted("chain");
+    expect(0, RELEASE, 0, "chain");
+    for (uint64_t f = ROLSIPAY_FUNCTIONS; 0 < f; f--)
+        for (uint64_t point = 32 * (f - 1); point < 32 * f; point++)
+            astray += answered(REPORT, point) != 0;
+    expect(ROLSIPAY_ASTRAY, REPORT, 480, "chain");
+    expect(0, END, 0, "chain");
+}
+
+/* What each call takes on the plan that docs/MEMORY.md names: the deepest nesting, with so many leaves behind it. */
+static void named_plan(int behind, size_t taken[CALLS])
+{
+    struct nesting nesting = DEEPEST;
+    nesting.behind = behind;
+    memset(deepest, 0, sizeof deepest);
+    play(&nesting, "deepest");
+    memcpy(taken, deepest, sizeof deepest);
+}
+
+/* Holds the stack of each call to the documented figures, and prints it. */
+static void stacks(const size_t documented[CALLS])
+{
+    static const char *const names[CALLS] = {"rolsipay_read", "rolsipay_release", "rolsipay_report", "rolsipay_end"};
+    size_t small[CALLS], large[CALLS];
+    named_plan(0, small);
+    named_plan(ROLSIPAY_LEAVES - 47, large);
+    mixes();
+    refused_lines();
+    refused_texts();
+    broken_tables();
+    places();
+    chain();
+    for (int i = 0; i < CALLS; i++) {
+        printf("stack of %s: %zu bytes, documented %zu\n", names[i], deepest[i], documented[i]);
+        check(deepest[i] <= documented[i], "more stack than docs/MEMORY.md says");
+        check(deepest[i] == large[i], "another case goes deeper than the plan that docs/MEMORY.md names");
+        check(small[i] == large[i], "the plan of 47 leaves does not take as much as the one of 512");
+        check(documented[i] == (i == READ ? ROLSIPAY_STACK_READ : ROLSIPAY_STACK_CALL), "the header says another stack than docs/MEMORY.md");
+    }
+    check(astray == 0, "calls were not answered as they must be");
+}
+
+int main(int count, char **figures)
+{
+    static const size_t sizes[] = {sizeof(rolsipay_leaf), sizeof row, sizeof head, sizeof state};
+    size_t documented[CALLS];
+    if (count != 9) {
+        fprintf(stderr, "use: %s LEAF ROW HEAD STATE READ RELEASE REPORT END\n", figures[0]);
+        return 2;
+    }
+    for (int i = 0; i < 4; i++) {
+        printf("%s: %zu bytes, documented %s\n", (const char *[]){"leaf", "row", "head", "state"}[i], sizes[i], figures[i + 1]);
+        check(strtoull(figures[i + 1], NULL, 10) == sizes[i], "another size than docs/MEMORY.md says");
+        documented[i] = strtoull(figures[i + 5], NULL, 10);
+    }
+    stacks(documented);
+    printf("%d passed, %d failed\n", passed, failed);
     return failed != 0;
 }
