@@ -10,7 +10,7 @@ use Rattle.model.specs.Calls.{Call, refused, go, suspend, stay, resume, ended}
 use Rattle.model.specs.Timed.{Fit, KeepsDeadline}
 use Rattle.model.specs.Controller as places
 use Rattle.model.proofs.Theorems as model
-use Rattle.reader.specs.Machine.{plan}
+use Rattle.reader.specs.Outcome.{plan}
 use Rattle.table.specs.declared.Head.{Head}
 use Rattle.table.specs.Table.{Table, table-of, head-of}
 use Rattle.table.specs.Reading.{verdict, verdict-of}

@@ -18,8 +18,8 @@ use Rattle.model.specs.Calls.{Call, release, report, end, refused}
 use Rattle.model.specs.Timed.{Decision, PointOf, Fit, last-reading, Refusable, CallList, closed, opened, KeepsDeadline, Plays}
 use Rattle.model.specs.Worked.{plan-A}
 use Rattle.model.proofs.Theorems as model
-use Rattle.reader.specs.Machine as reader
-use Rattle.reader.specs.Machine.{Outcome, plan}
+use Rattle.reader.specs.Outcome as reader
+use Rattle.reader.specs.Outcome.{Outcome, plan}
 use Rattle.reader.specs.Print.{print}
 use Rattle.table.specs.Table.{Table, table-of, good}
 use Rattle.table.specs.declared.Head.{Head}
