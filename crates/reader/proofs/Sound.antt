@@ -9,7 +9,6 @@ use lib.ListN.{length, length-append}
 use lib.Dec.{leb}
 use Rattle.text.specs.Text.{pick, lines}
 use Rattle.text.specs.declared.Form.{Form}
-use Rattle.text.specs.declared.Form.the-variants.{Task, Fun, Then, Else, Close, Leaf, Call, Loop, If}
 use Rattle.text.specs.Grammar.{Line, no-form, form, line-form}
 use Rattle.model.specs.Plan.{Block, Lines, close, leaf-line, call-line, loop-line, if-line, Plan}
 use Rattle.model.specs.Levels.{height, heights}
@@ -118,7 +117,8 @@ module _ (room : ℕ) where
   kept opens-else (o, g, a, c, t, e) d = ((o, g, a, d, t), tt, omega arith)
   kept (closes-if {p = p} {K = K} {x = x} {ts = ts} {es = es} {fs = fs}) (o, g, (q, a), d, t, s, e) u =
       let l = if-line x ts es close in
-      (o, good-append (heights [] (p .functions)) fs l (brackets-in K) (level-in K) (base p K) (x .number) q g (refl, a, d, t, s, tt), omega (arith, size-⊕ fs l))
+      let w = good-append (heights [] (p .functions)) fs l (brackets-in K) (level-in K) (base p K) (x .number) q g (refl, a, d, t, s, tt) in
+      (o, w, omega (arith, size-⊕ fs l))
 
 -- THE RUN
 never-plan : {A : Type 0} {p : Plan} {k i : ℕ} → refused k i ≡ plan p → A

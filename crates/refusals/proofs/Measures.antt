@@ -12,12 +12,12 @@ use borrow.Author.Tests.{eqb-true, eqb-false, eq-eqb}
 use Rattle.text.specs.Text.{pick}
 use Rattle.text.specs.declared.Form.{Form}
 use Rattle.text.specs.declared.Form.the-variants.{Task, Fun, Then, Else, Close, Leaf, Call, Loop, If}
-use Rattle.model.specs.Plan.{Lines, close, leaf-line, call-line, loop-line, if-line, Plan}
+use Rattle.model.specs.Plan.{Lines, close, leaf-line, call-line, loop-line, if-line}
 use Rattle.model.specs.Levels.{height, heights}
 use Rattle.reader.specs.Machine.{_⊕_, Around, in-fun, in-loop, in-then, in-else, State, start, task, body, await-then, await-else, await-close, done, brackets-in, brackets, level-in, functions-of, to, block, next, counted}
 use Rattle.reader.proofs.Appended.{height-⊕, heights-snoc, heights-length}
 use Rattle.reader.proofs.Steps.{before, Step, opens-task, opens-fun, closes-task, leaf, call, loop, cond, closes-fun, closes-loop, closes-then, closes-else, opens-then, opens-else, closes-if, stepped, before-step}
-use Rattle.refusals.specs.Refusal.{Costs, of-leaf, of-call, of-loop, of-if, leaves-among, functions-among, own-function, innermost, opened, open-brackets, FormAt, own-level, called-level, earlier-line}
+use Rattle.refusals.specs.Refusal.{of-leaf, of-call, of-loop, of-if, leaves-among, functions-among, own-function, innermost, brackets-behind, open-brackets, FormAt, own-level, called-level, earlier-line}
 use Rattle.refusals.proofs.Nesting.{Held, held-step, nests, leaves-after, nests-append}
 
 -- OPEN BRACKETS AND LEVELS
@@ -46,7 +46,7 @@ innermost-in (in-loop b n hs K) = refl
 innermost-in (in-then b hs K) = refl
 innermost-in (in-else b ts hs K) = refl
 
-brackets-step : {S S′ : State} {n : ℕ} {f : Form} → Step S n f S′ → opened f (levels-at S) ≡ levels-at S′
+brackets-step : {S S′ : State} {n : ℕ} {f : Form} → Step S n f S′ → brackets-behind f (levels-at S) ≡ levels-at S′
 unfolding levels-at levels-in level-in
 brackets-step opens-task = refl
 brackets-step opens-fun = refl
@@ -314,7 +314,11 @@ talls-step (leaf {p = p} {K = K} {fs = fs} {n = n} {k = k} {c = c} {m = m}) h F 
 talls-step (call {p = p} {K = K} {fs = fs} {n = n} {k = k} {g = g} {c = c} {m = m}) h F =
     raise (heights [] (p .functions)) _ _ _ _ F (omega (arith, heights-length [] (p .functions)))
     (peak-⊕ (heights [] (p .functions)) K fs (call-line (block n k c m) g close) ∙
-    omega (arith, innermost-under K, getD-front (heights [] (p .functions)) (peak (heights [] (p .functions)) K fs) g (omega (arith, heights-length [] (p .functions)))))
+    omega (
+      arith,
+      innermost-under K,
+      getD-front (heights [] (p .functions)) (peak (heights [] (p .functions)) K fs) g (omega (arith, heights-length [] (p .functions))),
+    ))
 talls-step (loop {p = p} {K = K}) h F =
     raise (heights [] (p .functions)) _ _ _ _ F (omega (arith, heights-length [] (p .functions))) (omega (arith, innermost-under K))
 talls-step (cond {p = p} {K = K}) h F =
@@ -322,13 +326,15 @@ talls-step (cond {p = p} {K = K}) h F =
 talls-step (closes-fun {p = p} {fs = fs}) h F =
     ap (λ hs. getD hs F 0) (heights-snoc [] (p .functions) fs) ∙ keep (heights [] (p .functions)) _ _ F (eqb F (length (p .functions) + 1 - 1)) refl
 talls-step (closes-loop {p = p} {x = x} {b = b} {hs = hs} {K = K} {fs = fs}) h F =
-    keep (heights [] (p .functions)) _ _ F (eqb F (length (p .functions) + 1 - 1)) (peak-⊕ (heights [] (p .functions)) K hs (loop-line x b fs close) ∙ omega arith)
+    keep (heights [] (p .functions)) _ _ F (eqb F (length (p .functions) + 1 - 1))
+    (peak-⊕ (heights [] (p .functions)) K hs (loop-line x b fs close) ∙ omega arith)
 talls-step (closes-then {p = p}) h F = keep (heights [] (p .functions)) _ _ F (eqb F (length (p .functions) + 1 - 1)) refl
 talls-step (closes-else {p = p}) h F = keep (heights [] (p .functions)) _ _ F (eqb F (length (p .functions) + 1 - 1)) refl
 talls-step (opens-then {p = p}) h F = keep (heights [] (p .functions)) _ _ F (eqb F (length (p .functions) + 1 - 1)) (omega arith)
 talls-step (opens-else {p = p}) h F = keep (heights [] (p .functions)) _ _ F (eqb F (length (p .functions) + 1 - 1)) (omega arith)
 talls-step (closes-if {p = p} {K = K} {x = x} {ts = ts} {es = es} {fs = fs}) h F =
-    keep (heights [] (p .functions)) _ _ F (eqb F (length (p .functions) + 1 - 1)) (peak-⊕ (heights [] (p .functions)) K fs (if-line x ts es close) ∙ omega arith)
+    keep (heights [] (p .functions)) _ _ F (eqb F (length (p .functions) + 1 - 1))
+    (peak-⊕ (heights [] (p .functions)) K fs (if-line x ts es close) ∙ omega arith)
 
 highest-same : (L : ℕ) (g h : ℕ → ℕ) → ((F : ℕ) → g F ≡ h F) → (f : Form) → highest L g f ≡ highest L h f
 highest-same L g h e (Task d t) = refl
@@ -366,7 +372,7 @@ agrees-step {S} {S′} {n} {es} {f} a e h =
       held = held-step s;
       leaves = ap (λ x. counted x f) (a .leaves) ∙ sym (leaves-step f es);
       leaves-read = ap (leaves-after 0) (reverse-cons f es) ∙ (leaves-snoc (reverse es) 0 f ∙ ap (λ x. counted x f) (a .leaves-read));
-      brackets-are = ap (opened f) (a .brackets-are) ∙ brackets-step s;
+      brackets-are = ap (brackets-behind f) (a .brackets-are) ∙ brackets-step s;
       functions = functions-step s es (a .functions);
       tall = λ F. here F ∙ sym (talls-step s h F);
     }

@@ -5,8 +5,8 @@ use mathlib.Core.List.{List, [], _∷_, _++_, append-assoc, append-nil}
 use native.Mathlib.Omega.{arith}
 use lib.ListN.{length, length-append}
 use Rattle.text.specs.declared.Form.{Form}
-use Rattle.text.specs.declared.Form.the-variants.{Task, Fun, Then, Else, Close, Leaf, Call, Loop, If}
-use Rattle.model.specs.Plan.{Block, Lines, close, leaf-line, call-line, loop-line, if-line, Plan}
+use Rattle.text.specs.declared.Form.the-variants.{Task, Fun, Then, Else, Close}
+use Rattle.model.specs.Plan.{Lines, close, leaf-line, call-line, loop-line, if-line, Plan}
 use Rattle.reader.specs.Machine.{_⊕_, Around, in-fun, in-loop, in-then, in-else, State, start, task, body, await-then, await-else, await-close, done, Next, stuck, to, with-function, block, next, counted}
 use Rattle.reader.specs.Print.{loop-form, if-form, forms, forms-all, forms-of}
 use Rattle.reader.proofs.Complete as completeness
@@ -147,7 +147,11 @@ passes (loop-line b m inner rest) p K fs n gs =
     let c = block n (b .point) (b .isolated) (b .max-load) in
     let i = passes inner p (in-loop c m fs K) close (n + 1) (Close ∷ (forms rest ++ gs)) in
     let r = passes rest p K (fs ⊕ loop-line c m (i .forms-read) close) (i .leaves-read) gs in
-    record { forms-read = r .forms-read; leaves-read = r .leaves-read; passed = ap (λ x. nests (body p K fs) n (loop-form b m ∷ x)) (append-assoc (forms inner) (Close ∷ forms rest) gs) ∙ (i .passed ∙ r .passed) }
+    record {
+      forms-read = r .forms-read;
+      leaves-read = r .leaves-read;
+      passed = ap (λ x. nests (body p K fs) n (loop-form b m ∷ x)) (append-assoc (forms inner) (Close ∷ forms rest) gs) ∙ (i .passed ∙ r .passed);
+    }
 passes (if-line b then else rest) p K fs n gs =
     let c = block n (b .point) (b .isolated) (b .max-load) in
     let tail = Close ∷ Close ∷ (forms rest ++ gs) in
@@ -157,8 +161,10 @@ passes (if-line b then else rest) p K fs n gs =
     record {
       forms-read = r .forms-read;
       leaves-read = r .leaves-read;
-      passed = ap (λ x. nests (body p K fs) n (if-form b ∷ Then ∷ x)) (append-assoc (forms then) (Close ∷ Else ∷ (forms else ++ (Close ∷ Close ∷ forms rest))) gs
-          ∙ ap (λ x. forms then ++ (Close ∷ Else ∷ x)) (append-assoc (forms else) (Close ∷ Close ∷ forms rest) gs)) ∙ (t .passed ∙ (e .passed ∙ r .passed));
+      passed = ap (λ x. nests (body p K fs) n (if-form b ∷ Then ∷ x))
+          (append-assoc (forms then) (Close ∷ Else ∷ (forms else ++ (Close ∷ Close ∷ forms rest))) gs ∙
+          ap (λ x. forms then ++ (Close ∷ Else ∷ x)) (append-assoc (forms else) (Close ∷ Close ∷ forms rest) gs)) ∙
+          (t .passed ∙ (e .passed ∙ r .passed));
     }
 
 record PassesAll (S : State) (n : ℕ) (fs : List Form) (gs : List Form) (many : ℕ) : Type 0 where

@@ -5,7 +5,7 @@ use mathlib.Core.List.{List, [], _∷_, _++_, map, append-nil, append-assoc, rev
 use mathlib.Core.Logic.{_⊎_, _↔_, inl, inr}
 use native.Mathlib.Omega.{arith}
 use native.Mathlib.Decide.{decLe}
-use lib.ListN.{length, getD}
+use lib.ListN.{length}
 use borrow.Author.Tests.{le-leb}
 use Rattle.text.specs.Text.{lines}
 use Rattle.text.specs.declared.Form.{Form}
@@ -18,7 +18,7 @@ use Rattle.reader.specs.Machine.{Around, State, start, task, body, await-then, 
 use Rattle.reader.proofs.Allowed.{Allowed, allowed}
 use Rattle.reader.proofs.Appended.{heights-length}
 use Rattle.reader.proofs.Steps.{before, Step, opens-fun, leaf, call, loop, cond, stepped, before-step}
-use Rattle.refusals.specs.Refusal.{PlanLines, Costs, of-leaf, of-call, of-loop, of-if, innermost, Breaks, no-line, nesting, NoneBroken, RefusedAt, at-line, at-end}
+use Rattle.refusals.specs.Refusal.{PlanLines, LeafLine, of-leaf, of-call, of-loop, of-if, innermost, Breaks, no-line, nesting, NoneBroken, RefusedAt, at-line, at-end}
 use Rattle.refusals.proofs.Nesting.{held-step, begins, stuck-begins, whole-done}
 use Rattle.refusals.proofs.Measures.{levels-at, innermost-in, brackets-at, functions-in, peak, talls, getD-front, NamesClosed, Agrees, agrees-start, agrees-step}
 use Rattle.refusals.proofs.Rulings.{AtLeaf, Values, breaks-rule, Ruling, ruling}
@@ -33,7 +33,7 @@ at-body p K fs a = record {
   heights-are = λ F h. a .tall F ∙ getD-front (heights [] (p .functions)) (peak (heights [] (p .functions)) K fs) F h;
 }
 
-at-leaf : {S S′ : State} {n c m : ℕ} {f : Form} {es : List Form} → Costs f c m → Step S n f S′ → Agrees S n es →
+at-leaf : {S S′ : State} {n c m : ℕ} {f : Form} {es : List Form} → LeafLine f c m → Step S n f S′ → Agrees S n es →
     AtLeaf es (level S) (heights [] (functions-of S))
 at-leaf of-leaf (leaf {p = p} {K = K} {fs = fs}) a = at-body p K fs a
 at-leaf of-call (call {p = p} {K = K} {fs = fs}) a = at-body p K fs a
@@ -86,15 +86,18 @@ judge capacity {S} {n} {es} a h (form f) = here (next S n f) refl (fault (min 51
         begun : (more : List Form) × PlanLines (reverse es ++ (f ∷ more))
         begun =
             let (more, p) = begins S′ (held-step s) in
-            (more, subst (λ x. PlanLines x) (ap (λ x. x ++ more) (before-step s ∙ ap (λ x. x ++ (f ∷ [])) (a .order)) ∙ append-assoc (reverse es) (f ∷ []) more) p)
+            let z : before S′ ++ more ≡ reverse es ++ (f ∷ more) =
+            ap (λ x. x ++ more) (before-step s ∙ ap (λ x. x ++ (f ∷ [])) (a .order)) ∙ append-assoc (reverse es) (f ∷ []) more in
+            (more, subst (λ x. PlanLines x) z p)
 
         ruled : Ruling capacity es f (fault (min 512 capacity) (brackets S) (level S) n (heights [] (functions-of S)) f)
         ruled = ruling capacity es f (brackets S) (level S) n (heights [] (functions-of S)) begun h (values a s)
 
-        by : (k : ℕ) → fault (min 512 capacity) (brackets S) (level S) n (heights [] (functions-of S)) f ≡ k → Judged capacity es (form f) (judged (to S′) k (counted n f))
+        by : (k : ℕ) → fault (min 512 capacity) (brackets S) (level S) n (heights [] (functions-of S)) f ≡ k →
+            Judged capacity es (form f) (judged (to S′) k (counted n f))
         by zero r =
-            goes (subst (λ k. Ruling capacity es f k) r ruled)
-            (agrees-step a q (names (min 512 capacity) (brackets S) (level S) n S f (allowed (min 512 capacity) (brackets S) (level S) n (heights [] (functions-of S)) f r)))
+            let c : Allowed (min 512 capacity) (brackets S) (level S) n (heights [] (functions-of S)) f = allowed _ _ _ _ _ f r in
+            goes (subst (λ k. Ruling capacity es f k) r ruled) (agrees-step a q (names (min 512 capacity) (brackets S) (level S) n S f c))
         by (suc k) r = let (b, c) = subst (λ k. Ruling capacity es f k) r ruled in stops b c
 
 -- ALL LINES, as what the grammar makes of them
@@ -181,7 +184,8 @@ through-go : (room : ℕ) (S : State) (n i : ℕ) (x : Line) (xs : List Line) (S
 unfolding through
 through-go room S n i x xs S′ n′ e = rw e
 
-leads-on : (capacity : ℕ) (es : List Form) (f : Form) → Led capacity es → NoneBroken capacity es → ((i : ℕ) → ¬ Breaks capacity es (form f) i) → Led capacity (f ∷ es)
+leads-on : (capacity : ℕ) (es : List Form) (f : Form) → Led capacity es → NoneBroken capacity es → ((i : ℕ) → ¬ Breaks capacity es (form f) i) →
+    Led capacity (f ∷ es)
 leads-on capacity es f r h c = by (turn (min 512 capacity) (r .state) (r .leaves) (form f)) refl (judge capacity (r .agrees) h (form f))
   where
     by : (t : Turn) → turn (min 512 capacity) (r .state) (r .leaves) (form f) ≡ t → Judged capacity es (form f) t → Led capacity (f ∷ es)

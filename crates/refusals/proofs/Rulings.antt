@@ -7,7 +7,7 @@ use mathlib.Core.Logic.{_⊎_, inl, inr}
 use mathlib.Core.Bool.{Bool, true, false, _&&_}
 use native.Mathlib.Omega.{arith}
 use native.Mathlib.Decide.{decLe}
-use lib.ListN.{length, getD, drop, length-drop}
+use lib.ListN.{length, getD, length-drop}
 use lib.Dec.{leb, ltb, eqb}
 use borrow.Author.Tests.{lt-leb, le-ltb, leb-false, ltb-false, ltb-true}
 use Rattle.text.specs.Text.{pick}
@@ -15,7 +15,7 @@ use Rattle.text.specs.declared.Form.{Form}
 use Rattle.text.specs.declared.Form.the-variants.{Task, Fun, Then, Else, Close, Leaf, Call, Loop, If}
 use Rattle.text.specs.Grammar.{Line, form}
 use Rattle.reader.specs.Machine.{unless, fault}
-use Rattle.refusals.specs.Refusal.{PlanLines, Costs, of-leaf, of-call, of-loop, of-if, leaves-among, functions-among, own-function, innermost, open-brackets, FormAt, own-level, called-level, Breaks, no-line, nesting, deadline-range, switch-range, cost-range, target-range, bound-range, leaf-count, row-count, function-count, load, target, bracket-depth, level-depth, NoneBroken}
+use Rattle.refusals.specs.Refusal.{PlanLines, LeafLine, of-leaf, of-call, of-loop, of-if, leaves-among, functions-among, own-function, innermost, open-brackets, FormAt, own-level, called-level, Breaks, no-line, nesting, deadline-range, switch-range, cost-range, target-range, bound-range, leaf-count, row-count, function-count, load, target, bracket-depth, level-depth, NoneBroken}
 use Rattle.refusals.proofs.Measures.{highest, height-of, height-bounds, height-met}
 
 -- No test both holds and fails.
@@ -119,7 +119,9 @@ in-front : (a b e g h x : Bool) → unless a 3 (chain b e g h x) ≡ chain (a &&
 in-front true b e g h x = refl
 in-front false b e g h x = refl
 
-fault-chain : (room d L n : ℕ) (hs : List ℕ) (f : Form) → fault room d L n hs f ≡ chain (test-3 f) (test-4 room n hs f) (test-5 f) (test-6 hs f) (test-7 d L hs f)
+-- The machine's refusal at a line is by the first of these tests that fails.
+fault-chain : (room d L n : ℕ) (hs : List ℕ) (f : Form) →
+    fault room d L n hs f ≡ chain (test-3 f) (test-4 room n hs f) (test-5 f) (test-6 hs f) (test-7 d L hs f)
 unfolding fault
 fault-chain room d L n hs (Task D t) = three (leb 1 D) (leb D (2 ^ 40)) (leb t (2 ^ 20)) (ltb d 64)
 fault-chain room d L n hs Fun = refl
@@ -165,7 +167,7 @@ pub record Values (es : List Form) (f : Form) (d L n : ℕ) (hs : List ℕ) : Ty
   pub brackets-are : d ≡ length (open-brackets es)
   pub leaves-are : n ≡ leaves-among es
   pub functions-are : f ≡ Fun → length hs ≡ functions-among es
-  pub at-leaf : {c m : ℕ} → Costs f c m → AtLeaf es L hs
+  pub at-leaf : {c m : ℕ} → LeafLine f c m → AtLeaf es L hs
 
 -- Lines that break no rule are within the limits.
 record Within (capacity : ℕ) (es : List Form) : Type 0 where
@@ -190,7 +192,7 @@ within capacity (f ∷ es) (h, c) = record {
 module _ (capacity : ℕ) (es : List Form) where
   -- WHERE A TEST FAILS, THE RULE IS BROKEN
 
-  costs-broken : {f : Form} {c m : ℕ} → Costs f c m → costs c m ≡ false → Breaks capacity es (form f) 3
+  costs-broken : {f : Form} {c m : ℕ} → LeafLine f c m → costs c m ≡ false → Breaks capacity es (form f) 3
   costs-broken {f} {c} {m} x e = by (and-false (leb c (2 ^ 20)) (leb m (2 ^ 20)) e)
     where
       by : (leb c (2 ^ 20) ≡ false) ⊎ (leb m (2 ^ 20) ≡ false) → Breaks capacity es (form f) 3
@@ -240,7 +242,8 @@ module _ (capacity : ℕ) (es : List Form) where
   broken-5 (If k c m) e = load of-if (leb-false c m e)
 
   module _ (d L n : ℕ) (hs : List ℕ) where
-    leaves-broken : (f : Form) → leaves-among (f ∷ es) ≡ leaves-among es + 1 → n ≡ leaves-among es → ltb n (min 512 capacity) ≡ false → Breaks capacity es (form f) 4
+    leaves-broken : (f : Form) → leaves-among (f ∷ es) ≡ leaves-among es + 1 → n ≡ leaves-among es → ltb n (min 512 capacity) ≡ false →
+        Breaks capacity es (form f) 4
     leaves-broken f z v e =
         let h : min 512 capacity ≤ n = ltb-false n (min 512 capacity) e in
         elim (decLe 512 n) [ yes q ↦ leaf-count {f = f} (omega arith) | no q ↦ row-count {f = f} (omega arith) ]
@@ -272,10 +275,10 @@ module _ (capacity : ℕ) (es : List Form) where
         Breaks capacity es (form f) 7
     brackets-broken f z v e = bracket-depth {f = f} (omega (arith, ltb-false d 64 e))
 
-    level-broken : {f : Form} {c m : ℕ} → Costs f c m → AtLeaf es L hs → leb L 32 ≡ false → Breaks capacity es (form f) 7
+    level-broken : {f : Form} {c m : ℕ} → LeafLine f c m → AtLeaf es L hs → leb L 32 ≡ false → Breaks capacity es (form f) 7
     level-broken x a e = level-depth (own-level x) (omega (arith, leb-false L 32 e, a .level-is))
 
-    depth-broken : {f : Form} {c m : ℕ} → Costs f c m → length (open-brackets (f ∷ es)) ≡ length (open-brackets es) + 1 → Values es f d L n hs →
+    depth-broken : {f : Form} {c m : ℕ} → LeafLine f c m → length (open-brackets (f ∷ es)) ≡ length (open-brackets es) + 1 → Values es f d L n hs →
         (leb L 32 && ltb d 64) ≡ false → Breaks capacity es (form f) 7
     depth-broken {f} x z v e = by (and-false (leb L 32) (ltb d 64) e)
       where
@@ -309,7 +312,7 @@ module _ (capacity : ℕ) (es : List Form) where
     costs-fail {c} {m} (inl h) = and-left (leb c (2 ^ 20)) (leb m (2 ^ 20)) (lt-leb c (2 ^ 20) h)
     costs-fail {c} {m} (inr h) = and-right (leb c (2 ^ 20)) (leb m (2 ^ 20)) (lt-leb m (2 ^ 20) h)
 
-    cost-fails : {f : Form} {c m : ℕ} → Costs f c m → (2 ^ 20 < c) ⊎ (2 ^ 20 < m) → test-3 f ≡ false
+    cost-fails : {f : Form} {c m : ℕ} → LeafLine f c m → (2 ^ 20 < c) ⊎ (2 ^ 20 < m) → test-3 f ≡ false
     cost-fails of-leaf h = costs-fail h
     cost-fails (of-call {f = f} {c = c} {m = m}) h = and-right (leb f 15) (costs c m) (costs-fail h)
     cost-fails (of-loop {b = b} {c = c} {m = m}) h = and-right (leb 1 b) (leb b 65535 && costs c m) (and-right (leb b 65535) (costs c m) (costs-fail h))
@@ -350,7 +353,7 @@ module _ (capacity : ℕ) (es : List Form) where
     functions-fail (Loop k b c m) v w h = absurd (omega (arith, w .few-functions))
     functions-fail (If k c m) v w h = absurd (omega (arith, w .few-functions))
 
-    load-fails : {f : Form} {c m : ℕ} → Costs f c m → m < c → test-5 f ≡ false
+    load-fails : {f : Form} {c m : ℕ} → LeafLine f c m → m < c → test-5 f ≡ false
     load-fails (of-leaf {c = c} {m = m}) h = lt-leb c m h
     load-fails (of-call {c = c} {m = m}) h = lt-leb c m h
     load-fails (of-loop {c = c} {m = m}) h = lt-leb c m h
@@ -386,7 +389,8 @@ module _ (capacity : ℕ) (es : List Form) where
     unfolding height-of
     level-fails {f} {F} {l} v w g x h = highest-fails f v g (by (eqb F (own-function es)) (omega (arith, height-bounds x, w .low F)))
       where
-        by : (t : Bool) → 32 < pick t (highest (innermost (open-brackets es)) (λ G. height-of G es) f) 0 → 32 < highest (innermost (open-brackets es)) (λ G. height-of G es) f
+        by : (t : Bool) → 32 < pick t (highest (innermost (open-brackets es)) (λ G. height-of G es) f) 0 →
+            32 < highest (innermost (open-brackets es)) (λ G. height-of G es) f
         by true q = q
         by false q = absurd (omega arith)
 
@@ -427,6 +431,7 @@ breaks-rule (target h) = omega arith
 breaks-rule (bracket-depth h) = omega arith
 breaks-rule (level-depth x h) = omega arith
 
+-- What the machine's refusal at a line says: 0, it breaks no rule; else this one and none before it.
 abbrev pub Ruling : ℕ → List Form → Form → ℕ → Type 0
 Ruling capacity es f zero = (i : ℕ) → ¬ Breaks capacity es (form f) i
 Ruling capacity es f (suc k) = Breaks capacity es (form f) (suc k) × ((i : ℕ) → i < suc k → ¬ Breaks capacity es (form f) i)
@@ -440,13 +445,15 @@ ruling capacity es f d L n hs p h v =
         (7 < k → test-7 d L hs f ≡ true) → (i : ℕ) → i < k → Breaks capacity es (form f) i → ⊥
     spare = spared capacity es d L n hs p v (within capacity es h)
 
-    late : {A : Type 0} {k : ℕ} → k < k → A
-    late h = absurd (omega arith)
+    late : {A : Type 0} (i k : ℕ) → k ≤ i → i < k → A
+    late i k h g = absurd (omega arith)
 
     by : {k : ℕ} → First (test-3 f) (test-4 (min 512 capacity) n hs f) (test-5 f) (test-6 hs f) (test-7 d L hs f) k → Ruling capacity es f k
     by (none x3 x4 x5 x6 x7) = λ i b. spare 8 (λ h. x3) (λ h. x4) (λ h. x5) (λ h. x6) (λ h. x7) i (omega (arith, breaks-rule b)) b
-    by (at-3 x3) = (broken-3 capacity es f x3, spare 3 late (λ h. absurd (omega arith)) (λ h. absurd (omega arith)) (λ h. absurd (omega arith)) (λ h. absurd (omega arith)))
-    by (at-4 x3 x4) = (broken-4 capacity es d L n hs f v x4, spare 4 (λ h. x3) late (λ h. absurd (omega arith)) (λ h. absurd (omega arith)) (λ h. absurd (omega arith)))
-    by (at-5 x3 x4 x5) = (broken-5 capacity es f x5, spare 5 (λ h. x3) (λ h. x4) late (λ h. absurd (omega arith)) (λ h. absurd (omega arith)))
-    by (at-6 x3 x4 x5 x6) = (broken-6 capacity es d L n hs f v x6, spare 6 (λ h. x3) (λ h. x4) (λ h. x5) late (λ h. absurd (omega arith)))
-    by (at-7 x3 x4 x5 x6 x7) = (broken-7 capacity es d L n hs f v x6 x7, spare 7 (λ h. x3) (λ h. x4) (λ h. x5) (λ h. x6) late)
+    by (at-3 x3) =
+        (broken-3 capacity es f x3, spare 3 (late 3 3 (omega arith)) (late 4 3 (omega arith)) (late 5 3 (omega arith)) (late 6 3 (omega arith)) (late 7 3 (omega arith)))
+    by (at-4 x3 x4) =
+        (broken-4 capacity es d L n hs f v x4, spare 4 (λ h. x3) (late 4 4 (omega arith)) (late 5 4 (omega arith)) (late 6 4 (omega arith)) (late 7 4 (omega arith)))
+    by (at-5 x3 x4 x5) = (broken-5 capacity es f x5, spare 5 (λ h. x3) (λ h. x4) (late 5 5 (omega arith)) (late 6 5 (omega arith)) (late 7 5 (omega arith)))
+    by (at-6 x3 x4 x5 x6) = (broken-6 capacity es d L n hs f v x6, spare 6 (λ h. x3) (λ h. x4) (λ h. x5) (late 6 6 (omega arith)) (late 7 6 (omega arith)))
+    by (at-7 x3 x4 x5 x6 x7) = (broken-7 capacity es d L n hs f v x6 x7, spare 7 (λ h. x3) (λ h. x4) (λ h. x5) (λ h. x6) (late 7 7 (omega arith)))

@@ -1,6 +1,6 @@
 -- Refusals 2 to 7, said of the lines of a text with no reader in it (01, 'A plan, one form a line', 'Runs, levels' and the table of refusals with
 -- the order below it): which rules a line breaks behind the lines before it, and which line of a text is refused by which rule.
--- Lines that stand before others are given by their forms, the latest first; `reverse` puts them in text order.
+-- The lines before a line are given by their forms, the latest first; `reverse` puts them in text order.
 -- Assumes nothing: these are definitions.
 use Prim.Native.Nat.{ℕ, _+_, _-_, _^_, _≤_, _<_}
 use mathlib.Core.Path.{_≡_}
@@ -17,8 +17,8 @@ use Rattle.reader.specs.Print.{forms-of}
 
 -- NESTING
 
--- These are the lines of a plan (01), with any numbers: a plan is a tree, so each `)` closes the last open form and an if has its two parts in order; a
--- task holds a function at least.
+-- These are all the lines of a plan (01), with any numbers: a plan is a tree, so each `)` closes the last open form and an if has its two parts in
+-- order; and a task holds a function at least.
 pub record PlanLines (fs : List Form) : Type 0 where
   pub tree : Plan
   pub some-function : 1 ≤ length (tree .functions)
@@ -27,11 +27,11 @@ pub record PlanLines (fs : List Form) : Type 0 where
 -- COUNTING
 
 -- leaf, call, loop and if lines are leaves (01), with their costs C and M.
-pub data Costs : Form → ℕ → ℕ → Type 0 where
-  of-leaf : {k : Bool} {c m : ℕ} → Costs (Leaf k c m) c m
-  of-call : {k : Bool} {f c m : ℕ} → Costs (Call k f c m) c m
-  of-loop : {k : Bool} {b c m : ℕ} → Costs (Loop k b c m) c m
-  of-if : {k : Bool} {c m : ℕ} → Costs (If k c m) c m
+pub data LeafLine : Form → ℕ → ℕ → Type 0 where
+  of-leaf : {k : Bool} {c m : ℕ} → LeafLine (Leaf k c m) c m
+  of-call : {k : Bool} {f c m : ℕ} → LeafLine (Call k f c m) c m
+  of-loop : {k : Bool} {b c m : ℕ} → LeafLine (Loop k b c m) c m
+  of-if : {k : Bool} {c m : ℕ} → LeafLine (If k c m) c m
 
 -- How many of some lines are leaves.
 unfoldable pub leaves-among : List Form → ℕ
@@ -59,53 +59,53 @@ functions-among (Call k f c m ∷ fs) = functions-among fs
 functions-among (Loop k b c m ∷ fs) = functions-among fs
 functions-among (If k c m ∷ fs) = functions-among fs
 
--- Functions are numbered from 0 (01): the number of the function in which the next line stands.
+-- Functions are numbered from 0 (01): behind some lines, the number of the function that began last.
 abbrev pub own-function : List Form → ℕ
 own-function earlier = functions-among earlier - 1
 
--- OPEN BRACKETS AND LEVELS
+-- OPEN BRACKETS AND LEVELS: open brackets are given by the levels of the forms inside them, the last opened first.
 
--- The level of a line in open brackets, given by the levels inside them, the last opened first: that of the last.
+-- The level of a form is that inside the last open bracket.
 abbrev pub innermost : List ℕ → ℕ
 innermost levels = getD levels 0 0
 
--- What a line opens and closes: a function's own forms count from 1, a loop body is one above its condition, then and else keep the level; `)` closes
--- the last open form; leaf and call lines close themselves (01).
-abbrev pub opened : Form → List ℕ → List ℕ
-opened (Task d t) levels = 0 ∷ levels
-opened Fun levels = 1 ∷ levels
-opened Then levels = innermost levels ∷ levels
-opened Else levels = innermost levels ∷ levels
-opened Close levels = drop 1 levels
-opened (Leaf k c m) levels = levels
-opened (Call k f c m) levels = levels
-opened (Loop k b c m) levels = (innermost levels + 1) ∷ levels
-opened (If k c m) levels = innermost levels ∷ levels
+-- The open brackets behind a line, from those before it: a function's own forms count from 1, a loop body is one above its condition, then and else
+-- keep the level; `)` closes the last open form; leaf and call lines close themselves (01).
+abbrev pub brackets-behind : Form → List ℕ → List ℕ
+brackets-behind (Task d t) levels = 0 ∷ levels
+brackets-behind Fun levels = 1 ∷ levels
+brackets-behind Then levels = innermost levels ∷ levels
+brackets-behind Else levels = innermost levels ∷ levels
+brackets-behind Close levels = drop 1 levels
+brackets-behind (Leaf k c m) levels = levels
+brackets-behind (Call k f c m) levels = levels
+brackets-behind (Loop k b c m) levels = (innermost levels + 1) ∷ levels
+brackets-behind (If k c m) levels = innermost levels ∷ levels
 
--- The brackets that are open behind some lines, as the levels inside them.
+-- The open brackets behind some lines.
 unfoldable pub open-brackets : List Form → List ℕ
 open-brackets [] = []
-open-brackets (f ∷ earlier) = opened f (open-brackets earlier)
+open-brackets (f ∷ earlier) = brackets-behind f (open-brackets earlier)
 
--- On some lines a form of function F has level L, called forms included: a leaf line has its own level, and a call line adds the levels of what it
--- calls (01).
+-- On some lines a form of function F has level L, called forms included: only forms have levels, and a call line adds the levels of what it calls (01).
 pub data FormAt : List Form → ℕ → ℕ → Type 0 where
-  own-level : {earlier : List Form} {f : Form} {c m : ℕ} → Costs f c m → FormAt (f ∷ earlier) (own-function earlier) (innermost (open-brackets earlier))
+  own-level : {earlier : List Form} {f : Form} {c m : ℕ} → LeafLine f c m → FormAt (f ∷ earlier) (own-function earlier) (innermost (open-brackets earlier))
   called-level : {earlier : List Form} {k : Bool} {G c m L : ℕ} → FormAt earlier G L →
       FormAt (Call k G c m ∷ earlier) (own-function earlier) (innermost (open-brackets earlier) + L)
   earlier-line : {earlier : List Form} {f : Form} {F L : ℕ} → FormAt earlier F L → FormAt (f ∷ earlier) F L
 
 -- THE RULES
 
--- The rules that a line breaks behind the lines before it, where the caller lends so many records.
+-- The rules that a line breaks behind lines that break none, where the caller lends so many records. Leaves, functions, brackets and levels are those of
+-- the lines so far, this one among them.
 pub data Breaks (capacity : ℕ) (earlier : List Form) : Line → ℕ → Type 0 where
-  -- 2, form: it is no line of the grammar; or no lines of a plan begin so.
+  -- 2, form: it is no line of the grammar; or no lines of a plan begin with these and it.
   no-line : Breaks capacity earlier no-form 2
   nesting : {f : Form} → ((more : List Form) → ¬ PlanLines (reverse earlier ++ (f ∷ more))) → Breaks capacity earlier (form f) 2
-  -- 3, range: D is not from 1 to 2^40; T not to 2^20; C or M not to 2^20; F not to 15; B not from 1 to 65,535.
+  -- 3, range: D is not from 1 to 2^40; T is over 2^20; C or M is over 2^20; F is over 15; B is not from 1 to 65,535.
   deadline-range : {d t : ℕ} → (d < 1) ⊎ (2 ^ 40 < d) → Breaks capacity earlier (form (Task d t)) 3
   switch-range : {d t : ℕ} → 2 ^ 20 < t → Breaks capacity earlier (form (Task d t)) 3
-  cost-range : {f : Form} {c m : ℕ} → Costs f c m → (2 ^ 20 < c) ⊎ (2 ^ 20 < m) → Breaks capacity earlier (form f) 3
+  cost-range : {f : Form} {c m : ℕ} → LeafLine f c m → (2 ^ 20 < c) ⊎ (2 ^ 20 < m) → Breaks capacity earlier (form f) 3
   target-range : {k : Bool} {F c m : ℕ} → 15 < F → Breaks capacity earlier (form (Call k F c m)) 3
   bound-range : {k : Bool} {b c m : ℕ} → (b < 1) ⊎ (65535 < b) → Breaks capacity earlier (form (Loop k b c m)) 3
   -- 4, count: a 513th leaf; a leaf more than the lent row holds; a 17th function.
@@ -113,7 +113,7 @@ pub data Breaks (capacity : ℕ) (earlier : List Form) : Line → ℕ → Type 0
   row-count : {f : Form} → capacity < leaves-among (f ∷ earlier) → Breaks capacity earlier (form f) 4
   function-count : {f : Form} → 16 < functions-among (f ∷ earlier) → Breaks capacity earlier (form f) 4
   -- 5, load: M is below C.
-  load : {f : Form} {c m : ℕ} → Costs f c m → m < c → Breaks capacity earlier (form f) 5
+  load : {f : Form} {c m : ℕ} → LeafLine f c m → m < c → Breaks capacity earlier (form f) 5
   -- 6, target: F is not below the number of its own function.
   target : {k : Bool} {F c m : ℕ} → own-function earlier ≤ F → Breaks capacity earlier (form (Call k F c m)) 6
   -- 7, depth: a 65th open bracket; level over 32, called forms included.
@@ -127,7 +127,7 @@ unfoldable pub NoneBroken : ℕ → List Form → Type 0
 NoneBroken capacity [] = Unit
 NoneBroken capacity (f ∷ earlier) = NoneBroken capacity earlier × ((i : ℕ) → ¬ Breaks capacity earlier (form f) i)
 
--- A text is refused by k at line j, counted from 1.
+-- A text is refused by k at line j, counted from 1. A last line without its line feed is no line of the grammar.
 pub data RefusedAt (capacity : ℕ) (text : List ℕ) : ℕ → ℕ → Type 0 where
   -- None of the lines before line j breaks a rule, and k is the first that line j breaks.
   at-line : (earlier : List Form) {x : Line} (rest : List Line) {k : ℕ} → map line-form (lines text) ≡ map form (reverse earlier) ++ (x ∷ rest) →
