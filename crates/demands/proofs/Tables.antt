@@ -8,7 +8,7 @@ use lib.ListN.{length, drop}
 use lib.Seq.{drop-at}
 use Rattle.model.specs.Plan.{Plan}
 use Rattle.model.specs.Acceptance.{sizes, Accepted}
-use Rattle.reader.specs.Machine.{Outcome, plan, refused}
+use Rattle.reader.specs.Outcome.{Outcome, plan, refused}
 use Rattle.reader.specs.declared.Answer.the-variants as answers
 use Rattle.reader.specs.declared.Answer.the-variants.{Refused}
 use Rattle.reader.specs.Print.{print}

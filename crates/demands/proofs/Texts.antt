@@ -3,61 +3,35 @@ use mathlib.Core.Bool.{Bool, true, false, _&&_}
 use mathlib.Core.List.{List, []}
 use mathlib.Core.Logic.{_⊎_, _↔_, inl, inr}
 use mathlib.Core.Path.{_≡_, refl, ap, sym, _∙_, subst}
-use Prim.Native.Nat.{ℕ, _-_, _^_, _≤_, _<_, min}
+use Prim.Native.Nat.{ℕ, _-_, _^_, _<_}
 use native.Mathlib.Omega.{arith}
 use native.Mathlib.Decide.{decLe}
 use lib.Dec.{leb}
 use lib.ListN.{length}
-use borrow.Author.Tests.{leb-false, le-leb, lt-leb}
+use borrow.Author.Tests.{leb-false, lt-leb}
 use Rattle.model.specs.Plan.{C, M, Plan}
 use Rattle.model.specs.Forms.{main}
 use Rattle.model.specs.Runs.{Run, visits, sum}
 use Rattle.model.specs.Total.{total}
 use Rattle.model.specs.Places.{pick}
 use Rattle.model.proofs.Theorems as model
-use Rattle.text.specs.Text.{lines}
-use Rattle.reader.specs.Machine.{State, start, task, body, await-then, await-else, await-close, done, Outcome, plan, refused, finish, run, outcome}
-use Rattle.reader.specs.Refusal.{Why, at-end, at-line, Stops, Refusal}
-use Rattle.reader.specs.Refusal as reader-rules
+use Rattle.reader.specs.Outcome.{Outcome, plan, refused}
+use Rattle.reader.specs.Machine.{outcome}
 use Rattle.reader.proofs.Theorems as reader
+use Rattle.refusals.proofs.Theorems as refusals
 use Rattle.table.specs.Accepting.{seen-all?, called-from?, short?}
 use Rattle.table.specs.Reading.{judged, after-lines, verdict}
 use Rattle.table.proofs.Accepting.{seen-all-exactly, called-exactly}
 use Rattle.table.proofs.Theorems as table
-use Rattle.demands.specs.Rules.{Read, Ruled, accepted, oversize, stopped, unseen, uncalled, long}
+use Rattle.demands.specs.Rules.{Read, Ruled, accepted, oversize, line-refused, unseen, uncalled, long}
 use Rattle.demands.proofs.Tests.{failed, fails}
 
 -- FROM THE RULES TO THE READER
 
--- A state that has not closed the task refuses the end of the text by 2.
-early : (S : State) → ((p : Plan) → S ≡ done p → ⊥) → (j : ℕ) → finish S j ≡ refused 2 j
-early start d j = refl
-early (task p) d j = refl
-early (body p K fs) d j = refl
-early (await-then p K b fs) d j = refl
-early (await-else p K b ts fs) d j = refl
-early (await-close p K b ts es fs) d j = refl
-early (done p) d j = absurd (d p refl)
-
--- Why the reader stops is what it says.
-why-refused : (room : ℕ) (S : State) (n j : ℕ) {ls : List (List ℕ)} {k : ℕ} → Why room S n ls k → run room S n j ls ≡ refused k j
-unfolding run
-why-refused room S n j (at-end d) = early S d j
-why-refused room S n j (at-line e) = rw e
-
--- Where it stops at line j, the lines are refused by k at j.
-stops-refused : (room : ℕ) (S : State) (n i : ℕ) (ls : List (List ℕ)) (k j : ℕ) → Stops room S n i ls k j → run room S n i ls ≡ refused k j
-stops-refused room S n i ls k j x =
-    ap (run room S n i) (x .split) ∙ (x .through (x .rest) ∙ why-refused room (x .state) (x .leaves) j (x .why))
-
--- A text over 65,536 bytes is refused by 1, and any other is read line by line.
+-- A text over 65,536 bytes is refused by 1.
 outcome-long : (capacity : ℕ) (text : List ℕ) → 65536 < length text → outcome capacity text ≡ refused 1 0
 unfolding outcome
 outcome-long capacity text h = rw (lt-leb (length text) 65536 h)
-
-outcome-short : (capacity : ℕ) (text : List ℕ) → length text ≤ 65536 → outcome capacity text ≡ run (min 512 capacity) start 0 1 (lines text)
-unfolding outcome
-outcome-short capacity text h = rw (le-leb (length text) 65536 h)
 
 -- What the tests for rules 8, 9 and 10 say, in this order.
 abbrev Tests : Plan → Bool → Bool → Bool → Outcome
@@ -83,8 +57,7 @@ not-short p r (inr h) =
 ruled-verdict : (capacity : ℕ) (text : List ℕ) (o : Outcome) → Ruled capacity text o → verdict capacity text ≡ o
 ruled-verdict capacity text o (accepted {p = p} e a f) = table.read-as-plan capacity text p .1 (e, a, f)
 ruled-verdict capacity text o (oversize h) = rw (outcome-long capacity text h)
-ruled-verdict capacity text o (stopped {k = k} {j = j} h x) =
-    rw (outcome-short capacity text h, stops-refused (min 512 capacity) start 0 1 (lines text) k j x)
+ruled-verdict capacity text o (line-refused {k = k} {j = j} h x) = ap (λ o. after-lines o) (refusals.refused-exactly capacity text k j h .1 x)
 ruled-verdict capacity text o (unseen {p = p} r f) =
     read-outcome capacity text p r ∙ rw (fails (seen-all? [] (p .functions)) (seen-all-exactly [] (p .functions)) f)
 ruled-verdict capacity text o (uncalled {p = p} r a f) =
@@ -121,24 +94,19 @@ judged-ruled capacity text p r =
     by true d false h z i = uncalled r (seen-all-exactly [] (p .functions) .0 d) (failed _ (called-exactly (p .functions)) h)
     by false d y h z i = unseen r (failed _ (seen-all-exactly [] (p .functions)) d)
 
--- A refusal has one number and one line.
-same-refusal : {k k′ j j′ : ℕ} → refused k j ≡ refused k′ j′ → (k ≡ k′) × (j ≡ j′)
-same-refusal e = (cc, cc)
-
--- A refusal by 2 to 7 is of a text that is not oversize.
-line-ruled : (capacity : ℕ) (text : List ℕ) {k j : ℕ} → outcome capacity text ≡ refused k j → Refusal capacity text k j → Ruled capacity text (refused k j)
-line-ruled capacity text e (reader-rules.oversize h) = oversize h
-line-ruled capacity text {k} {j} e (reader-rules.stopped x) =
+-- A refusal by the reader is by 1, of an oversize text, or by one of 2 to 7.
+reader-ruled : (capacity : ℕ) (text : List ℕ) (k j : ℕ) → outcome capacity text ≡ refused k j → Ruled capacity text (refused k j)
+reader-ruled capacity text k j e =
     elim (decLe (length text) 65536) [
-      | yes h ↦ stopped h x
+      | yes h ↦ line-refused h (refusals.refused-exactly capacity text k j h .0 e)
       | no h ↦
-          let z = same-refusal (sym (outcome-long capacity text (omega arith)) ∙ e) .0 in
-          absurd (omega (arith, z, x .rule .0))
+          let l : 65536 < length text = omega arith in
+          subst (Ruled capacity text) (sym (outcome-long capacity text l) ∙ e) (oversize l)
     ]
 
 -- What the reader says is what the rules say.
 outcome-ruled : (capacity : ℕ) (text : List ℕ) (o : Outcome) → outcome capacity text ≡ o → Ruled capacity text (after-lines o)
-outcome-ruled capacity text (refused k j) e = line-ruled capacity text e (reader.refusal capacity text k j e)
+outcome-ruled capacity text (refused k j) e = reader-ruled capacity text k j e
 outcome-ruled capacity text (plan p) e =
     let (x, f, h) = reader.sound capacity text p e in
     judged-ruled capacity text p (record { text-is = x; formed = f; fits = h })

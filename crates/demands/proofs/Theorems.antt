@@ -17,7 +17,7 @@ use Rattle.model.specs.Timed.{Decision, PointOf, Fit, last-reading, Refusable, 
 use Rattle.model.specs.Histories.{Reached, Since}
 use Rattle.model.specs.Worked.{plan-A}
 use Rattle.model.proofs.Theorems as model
-use Rattle.reader.specs.Machine as reader
+use Rattle.reader.specs.Outcome as reader
 use Rattle.reader.specs.declared.Answer.the-variants as answers
 use Rattle.reader.specs.Print.{print}
 use Rattle.table.proofs.Theorems as table

@@ -16,7 +16,7 @@ use Rattle.model.specs.Acceptance.{size, sizes}
 use Rattle.model.specs.Worked.{plan-A, point-block, silent-block}
 use Rattle.model.proofs.Worked.{plan-A-accepted}
 use Rattle.text.specs.Spelling.{decimal, numerals, spell}
-use Rattle.reader.specs.Machine.{plan}
+use Rattle.reader.specs.Outcome.{plan}
 use Rattle.reader.specs.Print as printed
 use Rattle.reader.specs.Print.{forms-all, forms-of, join-all, print}
 use Rattle.table.specs.Reading.{verdict}

@@ -8,7 +8,7 @@ use lib.ListN.{length, replicate}
 use Rattle.model.specs.Plan.{Plan}
 use Rattle.model.specs.Calls as calls
 use Rattle.model.specs.Calls.{refused, go, suspend, stay, resume, ended, Controller}
-use Rattle.reader.specs.Machine.{plan}
+use Rattle.reader.specs.Outcome.{plan}
 use Rattle.reader.specs.declared.Answer as reader
 use Rattle.table.specs.declared.Head.{Head}
 use Rattle.table.specs.Reading.{verdict, verdict-of}

@@ -4,7 +4,7 @@ use mathlib.Core.Bool.{true, false}
 use mathlib.Core.List.{List, [], _∷_, _++_}
 use mathlib.Core.Logic.{_⊎_}
 use mathlib.Core.Path.{_≡_}
-use Prim.Native.Nat.{ℕ, _^_, _≤_, _<_, min}
+use Prim.Native.Nat.{ℕ, _^_, _≤_, _<_}
 use lib.ListN.{length}
 use Rattle.model.specs.Plan.{C, M, Plan}
 use Rattle.model.specs.Forms.{main}
@@ -14,10 +14,9 @@ use Rattle.model.specs.Levels.{Standing, so-far, history, stack}
 use Rattle.model.specs.Acceptance.{Formed, Fits, Seen-all, Called, Accepted}
 use Rattle.model.specs.Calls.{Call, release, report, end}
 use Rattle.model.specs.Timed.{PointOf, Fit}
-use Rattle.text.specs.Text.{lines}
-use Rattle.reader.specs.Machine.{start, Outcome, plan, refused}
+use Rattle.reader.specs.Outcome.{Outcome, plan, refused}
 use Rattle.reader.specs.Print.{print}
-use Rattle.reader.specs.Refusal.{Stops}
+use Rattle.refusals.specs.Refusal.{RefusedAt}
 use Rattle.control.specs.declared.State.{State}
 use Rattle.control.specs.State.{stack-of}
 use Rattle.control.specs.Meaning.{StandsSomewhere}
@@ -37,8 +36,8 @@ pub data Ruled (capacity : ℕ) (text : List ℕ) : Outcome → Type 0 where
   accepted : {p : Plan} → text ≡ print p → Accepted p → Fits capacity p → Ruled capacity text (plan p)
   -- 1: it has over 65,536 bytes.
   oversize : 65536 < length text → Ruled capacity text (refused 1 0)
-  -- 2 to 7: the lines before line j are read, and line j is refused by k.
-  stopped : {k j : ℕ} → length text ≤ 65536 → Stops (min 512 capacity) start 0 1 (lines text) k j → Ruled capacity text (refused k j)
+  -- 2 to 7: no line before line j breaks one of them, and k is the first that line j breaks; or the text ends early (2).
+  line-refused : {k j : ℕ} → length text ≤ 65536 → RefusedAt capacity text k j → Ruled capacity text (refused k j)
   -- 8: a silent loop or call has a point inside it or in what it calls.
   unseen : {p : Plan} → Read capacity text p → ¬ Seen-all [] (p .functions) → Ruled capacity text (refused 8 0)
   -- 9: not 8, and no call names some function but the last.

@@ -7,7 +7,7 @@ use lib.ListN.{length}
 use borrow.Author.Tests.{le-leb}
 use Rattle.text.specs.Text.{pick}
 use Rattle.reader.specs.declared.Answer.{Answer}
-use Rattle.reader.specs.Machine.{Outcome, plan, refused}
+use Rattle.reader.specs.Outcome.{Outcome, plan, refused}
 use Rattle.table.specs.declared.Head.{Head}
 use Rattle.table.specs.declared.Verdict.{Verdict}
 use Rattle.table.specs.Table.{table-at, good}

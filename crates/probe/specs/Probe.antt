@@ -7,7 +7,8 @@ use lib.ListN.{length, getD, take, drop}
 use Rattle.text.specs.Text.{pick}
 use Rattle.reader.specs.declared.Answer.{Answer}
 use Rattle.reader.specs.declared.Answer.the-variants.{Accepted, Refused}
-use Rattle.reader.specs.Machine.{Outcome, plan, refused, outcome}
+use Rattle.reader.specs.Machine.{outcome}
+use Rattle.reader.specs.Outcome.{Outcome, plan, refused}
 use Rattle.reader.specs.Raw.{raw-of}
 use Rattle.table.specs.declared.Head.{Head}
 use Rattle.table.specs.Table.{table-at, good}

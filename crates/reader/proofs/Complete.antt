@@ -13,7 +13,8 @@ use Rattle.text.specs.Grammar.{form}
 use Rattle.model.specs.Plan.{Block, Lines, close, leaf-line, call-line, loop-line, if-line, Plan}
 use Rattle.model.specs.Levels.{height, heights}
 use Rattle.model.specs.Acceptance.{size, sizes, Functions, Formed, Fits}
-use Rattle.reader.specs.Machine.{_⊕_, Around, in-fun, in-loop, in-then, in-else, State, start, task, body, await-then, await-else, await-close, done, brackets-in, brackets, level-in, level, functions-of, to, closed-task, with-function, block, next, counted, Turn, stop, go, turn, Outcome, plan, finish, onwards, run, outcome}
+use Rattle.reader.specs.Machine.{_⊕_, Around, in-fun, in-loop, in-then, in-else, State, start, task, body, await-then, await-else, await-close, done, brackets-in, brackets, level-in, level, functions-of, to, closed-task, with-function, block, next, counted, Turn, stop, go, turn, finish, onwards, run, outcome}
+use Rattle.reader.specs.Outcome.{Outcome, plan}
 use Rattle.reader.specs.Print.{leaf-form, call-form, loop-form, if-form, forms, forms-all, forms-of, print}
 use Rattle.text.proofs.Theorems.{reads-spelled}
 use Rattle.reader.proofs.Appended.{⊕-assoc, ⊕-close, heights-snoc, heights-length}

@@ -13,7 +13,8 @@ use Rattle.text.specs.Grammar.{no-form, form, line-form}
 use Rattle.model.specs.Plan.{Block, Lines, close, leaf-line, call-line, loop-line, if-line, Plan}
 use Rattle.model.specs.Levels.{height, heights}
 use Rattle.model.specs.Acceptance.{size, sizes}
-use Rattle.reader.specs.Machine.{_⊕_, Around, in-fun, in-loop, in-then, in-else, State, start, task, body, await-then, await-else, await-close, done, brackets-in, brackets, level-in, level, functions-of, stuck, to, closed, with-function, block, next, fault, counted, Turn, turn, refused, onwards, run}
+use Rattle.reader.specs.Machine.{_⊕_, Around, in-fun, in-loop, in-then, in-else, State, start, task, body, await-then, await-else, await-close, done, brackets-in, brackets, level-in, level, functions-of, stuck, to, closed, with-function, block, next, fault, counted, Turn, turn, onwards, run}
+use Rattle.reader.specs.Outcome.{refused}
 use Rattle.reader.specs.Records.{entry, records, records-all, bounds}
 use Rattle.reader.proofs.Complete.{closes-task}
 use Rattle.reader.proofs.Appended.{⊕-assoc, ⊕-close, size-⊕, height-⊕, sizes-snoc, heights-snoc}

@@ -9,7 +9,8 @@ use Rattle.text.specs.Spelling.{decimal, numerals, spell}
 use Rattle.text.specs.Grammar.{line-form}
 use Rattle.model.specs.Worked.{plan-A, plan-B, smallest}
 use Rattle.model.specs.Levels.{height, heights}
-use Rattle.reader.specs.Machine.{_⊕_, outcome, run, fault, brackets-in, brackets, level-in, level, functions-of, Outcome, plan, refused}
+use Rattle.reader.specs.Machine.{_⊕_, outcome, run, fault, brackets-in, brackets, level-in, level, functions-of}
+use Rattle.reader.specs.Outcome.{Outcome, plan, refused}
 use Rattle.model.specs.Acceptance.{size}
 use Rattle.reader.specs.Records.{records, records-all, bounds, row-of, bounds-of, heights-of}
 use Rattle.reader.specs.Print.{forms, forms-all, forms-of, join-all, print}

@@ -11,7 +11,8 @@ use Rattle.text.specs.declared.Form.{Form}
 use Rattle.text.specs.declared.Form.the-variants.{Fun, Then, Else, Loop, If}
 use Rattle.text.specs.Grammar.{Line, no-form, form, line-form}
 use Rattle.model.specs.Plan.{Block, Lines, close, Plan}
-use Rattle.reader.specs.Machine.{outcome, _⊕_, start, turn, onwards, Around, in-fun, in-loop, in-then, in-else, State, task, body, await-then, await-else, await-close, done, brackets, level, functions-of, stuck, to, block, tag-of, in-body, in-task, fault, plan, refused, run}
+use Rattle.reader.specs.Machine.{outcome, _⊕_, start, turn, onwards, Around, in-fun, in-loop, in-then, in-else, State, task, body, await-then, await-else, await-close, done, brackets, level, functions-of, stuck, to, block, tag-of, in-body, in-task, fault, run}
+use Rattle.reader.specs.Outcome.{plan, refused}
 use Rattle.reader.proofs.Capped.{Held}
 use Rattle.reader.proofs.Contract.{broken, misplaced, no-line, Stands, Forming, Enclosed, Reading, loop-opens, in-loop-stands, in-then-stands, in-else-stands, if-opens, then-opens, then-closes, else-opens, else-closes, fun-opens, in-fun-stands}
 

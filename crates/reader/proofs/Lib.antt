@@ -3,8 +3,8 @@ pub mod Appended
 pub mod Allowed
 pub mod Length
 pub mod Complete
+pub mod Steps
 pub mod Sound
-pub mod Refusal
 pub mod Records
 pub mod OneRow
 pub mod Capped

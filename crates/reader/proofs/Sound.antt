@@ -1,5 +1,5 @@
 -- What the reader accepts is the text of the plan that it finds, and that plan keeps the rules: every step keeps an invariant of the state, and adds
--- its form to those that were read.
+-- its form to those that were read (`Steps`).
 use Prim.Native.Nat.{ℕ, zero, suc, _+_, _^_, _≤_, _<_, min}
 use mathlib.Core.Path.{_≡_, refl, sym, ap, ap₂, _∙_, subst}
 use mathlib.Core.List.{List, [], _∷_, _++_, append-assoc, append-nil, map}
@@ -9,35 +9,20 @@ use lib.ListN.{length, length-append}
 use lib.Dec.{leb}
 use Rattle.text.specs.Text.{pick, lines}
 use Rattle.text.specs.declared.Form.{Form}
-use Rattle.text.specs.declared.Form.the-variants.{Task, Fun, Then, Else, Close, Leaf, Call, Loop, If}
 use Rattle.text.specs.Grammar.{Line, no-form, form, line-form}
 use Rattle.model.specs.Plan.{Block, Lines, close, leaf-line, call-line, loop-line, if-line, Plan}
 use Rattle.model.specs.Levels.{height, heights}
 use Rattle.model.specs.Acceptance.{size, sizes, Functions, Formed, Fits}
-use Rattle.reader.specs.Machine.{_⊕_, Around, in-fun, in-loop, in-then, in-else, State, start, task, body, await-then, await-else, await-close, done, brackets-in, brackets, level-in, level, functions-of, Next, stuck, to, closed, closed-task, block, next, in-start, in-task, in-body, fault, counted, judged, turn, Outcome, plan, refused, onwards, run, outcome}
+use Rattle.reader.specs.Machine.{_⊕_, Around, in-fun, in-loop, in-then, in-else, State, start, task, body, await-then, await-else, await-close, done, brackets-in, brackets, level-in, level, functions-of, Next, stuck, to, block, next, fault, counted, judged, turn, onwards, run, outcome}
+use Rattle.reader.specs.Outcome.{Outcome, plan, refused}
 use Rattle.text.specs.Spelling.{spell}
-use Rattle.reader.specs.Print.{loop-form, if-form, forms, forms-all, forms-of, join-all, print}
+use Rattle.reader.specs.Print.{loop-form, if-form, forms-of, join-all, print}
 use Rattle.reader.proofs.Texts.{join-lines}
 use Rattle.text.proofs.Theorems.{spells-read}
 use Rattle.reader.proofs.Allowed.{Allowed, allowed, Good, Good-all, good-numbered, good-ranged, good-size, good-height, good-depth}
 use Rattle.reader.proofs.Complete.{follow}
-use Rattle.reader.proofs.Appended.{size-⊕, forms-⊕, sizes-snoc, forms-snoc, heights-length}
-
--- THE FORMS THAT WERE READ on the way to a state
-opening : Plan → Around → List Form
-opening p in-fun = Task (p .deadline) (p .switch) ∷ (forms-all (p .functions) ++ (Fun ∷ []))
-opening p (in-loop b n fs K) = opening p K ++ (forms fs ++ (loop-form b n ∷ []))
-opening p (in-then b fs K) = opening p K ++ (forms fs ++ (if-form b ∷ Then ∷ []))
-opening p (in-else b ts fs K) = opening p K ++ (forms fs ++ (if-form b ∷ Then ∷ (forms ts ++ (Close ∷ Else ∷ []))))
-
-before : State → List Form
-before start = []
-before (task p) = Task (p .deadline) (p .switch) ∷ forms-all (p .functions)
-before (body p K fs) = opening p K ++ forms fs
-before (await-then p K b fs) = opening p K ++ (forms fs ++ (if-form b ∷ []))
-before (await-else p K b ts fs) = opening p K ++ (forms fs ++ (if-form b ∷ Then ∷ (forms ts ++ (Close ∷ []))))
-before (await-close p K b ts es fs) = opening p K ++ (forms fs ++ (if-form b ∷ Then ∷ (forms ts ++ (Close ∷ Else ∷ (forms es ++ (Close ∷ []))))))
-before (done p) = forms-of p
+use Rattle.reader.proofs.Steps.{before, Step, opens-task, opens-fun, closes-task, leaf, call, loop, cond, closes-fun, closes-loop, closes-then, closes-else, opens-then, opens-else, closes-if, stepped, before-step}
+use Rattle.reader.proofs.Appended.{size-⊕, sizes-snoc, heights-length}
 
 -- WHAT HOLDS IN A STATE
 module _ (room : ℕ) where
@@ -96,131 +81,44 @@ module _ (room : ℕ) where
       Open p K × Here p K fs × At p K fs b (if-form b) × (brackets-in K + 1 < 64) × Part p K (b .number + 1) ts × Part p K (b .number + 1 + size ts) es × (n ≡ b .number + 1 + size ts + size es)
   Inv (done p) n = Header p × (1 ≤ length (p .functions))
 
-  -- A step keeps it, and adds its form to those that were read.
-  Kept : List Form → Form → Next → ℕ → Type 0
-  Kept fs f stuck n = Unit
-  Kept fs f (to S) n = Inv S n × (before S ≡ fs ++ (f ∷ []))
-
   abbrev Asked : State → ℕ → Form → Type 0
   Asked S n f = Allowed room (brackets S) (level S) n (heights [] (functions-of S)) f
 
-  kept-start : (n : ℕ) (f : Form) → n ≡ 0 → Asked start n f → Kept [] f (in-start f) (counted n f)
-  unfolding Kept Inv before brackets level functions-of forms-all Good-all sizes
-  kept-start n (Task x y) e (a, b, c, d) = ((record { low = a; high = b; cost = c; few = omega arith; all = tt }, e), refl)
-  kept-start n Fun e a = tt
-  kept-start n Then e a = tt
-  kept-start n Else e a = tt
-  kept-start n Close e a = tt
-  kept-start n (Leaf k c m) e a = tt
-  kept-start n (Call k f c m) e a = tt
-  kept-start n (Loop k x c m) e a = tt
-  kept-start n (If k c m) e a = tt
-
-  kept-task-close : (p : Plan) (n : ℕ) (ls : List Lines) → p .functions ≡ ls → Header p → Kept (before (task p)) Close (closed-task p ls) n
-  unfolding Kept Inv before forms-of
-  kept-task-close p n [] q h = tt
-  kept-task-close p n (l ∷ ls) q h = ((h, rw q (omega arith)), refl)
-
-  kept-task : (p : Plan) (n : ℕ) (f : Form) → Inv (task p) n → Asked (task p) n f → Kept (before (task p)) f (in-task p f) (counted n f)
-  unfolding Kept Inv Open base before opening brackets level functions-of Good forms size
-  kept-task p n (Task x y) h a = tt
-  kept-task p n Fun (h, e) (a, b) =
-      (((h, omega (arith, heights-length [] (p .functions))), tt, omega arith), append-nil (Task (p .deadline) (p .switch) ∷ (forms-all (p .functions) ++ (Fun ∷ []))))
-  kept-task p n Then h a = tt
-  kept-task p n Else h a = tt
-  kept-task p n Close (h, e) a = kept-task-close p n (p .functions) refl h
-  kept-task p n (Leaf k c m) h a = tt
-  kept-task p n (Call k f c m) h a = tt
-  kept-task p n (Loop k x c m) h a = tt
-  kept-task p n (If k c m) h a = tt
-
-  kept-close : (p : Plan) (n : ℕ) (K : Around) (fs : Lines) → Inv (body p K fs) n → Kept (before (body p K fs)) Close (to (closed p K fs)) n
-  unfolding Kept Inv Open base before opening Good forms size brackets-in level-in
-  kept-close p n in-fun fs ((h, u), g, e) = (
-    (
-      record {
-        low = h .low;
-        high = h .high;
-        cost = h .cost;
-        few = omega (arith, length-append (p .functions) (fs ∷ []));
-        all = good-snoc [] (p .functions) fs 0 (sizes (p .functions)) (omega arith) (h .all) g;
-      },
-      omega (arith, sizes-snoc (p .functions) fs),
-    ),
-    rw (forms-snoc (p .functions) fs) (simp append-assoc),
-  )
-  kept-close p n (in-loop b k hs K) fs ((o, g₀, (q, a)), g, e) = (
-    (o, good-append (heights [] (p .functions)) hs (loop-line b k fs close) (brackets-in K) (level-in K) (base p K) (b .number) q g₀ (refl, a, g, tt), omega (arith, size-⊕ hs (loop-line b k fs close))),
-    rw (forms-⊕ hs (loop-line b k fs close)) (simp append-assoc),
-  )
-  kept-close p n (in-then b hs K) fs ((o, g₀, a, d), g, e) = ((o, g₀, a, d, g, e), simp append-assoc)
-  kept-close p n (in-else b ts hs K) fs ((o, g₀, a, d, t), g, e) = ((o, g₀, a, d, t, g, e), simp append-assoc)
-
-  kept-body : (p : Plan) (n : ℕ) (K : Around) (fs : Lines) (f : Form) → Inv (body p K fs) n → Asked (body p K fs) n f → Kept (before (body p K fs)) f (in-body n p K fs f) (counted n f)
-  unfolding Kept Inv Open base before opening brackets level functions-of Good forms size brackets-in level-in
-  kept-body p n K fs (Task x y) h a = tt
-  kept-body p n K fs Fun h a = tt
-  kept-body p n K fs Then h a = tt
-  kept-body p n K fs Else h a = tt
-  kept-body p n K fs Close h a = kept-close p n K fs h
-  kept-body p n K fs (Leaf k c m) (o, g, e) a =
+  -- A step keeps it.
+  kept : {S S′ : State} {n : ℕ} {f : Form} → Step S n f S′ → Inv S n → Asked S n f → Inv S′ (counted n f)
+  unfolding Inv Open base brackets level functions-of Good Good-all size sizes brackets-in level-in
+  kept opens-task e (a, b, c, d) = (record { low = a; high = b; cost = c; few = omega arith; all = tt }, e)
+  kept (opens-fun {p = p}) (h, e) (a, b) = ((h, omega (arith, heights-length [] (p .functions))), tt, omega arith)
+  kept (closes-task q) (h, e) a = (h, q)
+  kept (leaf {p = p} {K = K} {fs = fs} {n = n} {k = k} {c = c} {m = m}) (o, g, e) a =
       let l = leaf-line (block n k c m) close in
-      ((o, good-append (heights [] (p .functions)) fs l (brackets-in K) (level-in K) (base p K) n e g (refl, a, tt), omega (arith, size-⊕ fs l)), rw (forms-⊕ fs l) (simp append-assoc))
-  kept-body p n K fs (Call k f c m) (o, g, e) a =
-      let l = call-line (block n k c m) f close in
-      ((o, good-append (heights [] (p .functions)) fs l (brackets-in K) (level-in K) (base p K) n e g (refl, a, tt), omega (arith, size-⊕ fs l)), rw (forms-⊕ fs l) (simp append-assoc))
-  kept-body p n K fs (Loop k x c m) (o, g, e) a = (((o, g, (e, a)), tt, omega arith), simp (append-assoc, append-nil))
-  kept-body p n K fs (If k c m) (o, g, e) a = ((o, g, (e, a), refl), simp append-assoc)
-
-  kept-then : (p : Plan) (n : ℕ) (K : Around) (b : Block) (fs : Lines) (f : Form) → Inv (await-then p K b fs) n → Asked (await-then p K b fs) n f →
-      Kept (before (await-then p K b fs)) f (next (await-then p K b fs) n f) (counted n f)
-  unfolding Kept Inv Open base before opening brackets level functions-of Good forms size
-  kept-then p n K b fs (Task x y) h a = tt
-  kept-then p n K b fs Fun h a = tt
-  kept-then p n K b fs Then (o, g, a, e) d = (((o, g, a, d), tt, omega arith), simp (append-assoc, append-nil))
-  kept-then p n K b fs Else h a = tt
-  kept-then p n K b fs Close h a = tt
-  kept-then p n K b fs (Leaf k c m) h a = tt
-  kept-then p n K b fs (Call k f c m) h a = tt
-  kept-then p n K b fs (Loop k x c m) h a = tt
-  kept-then p n K b fs (If k c m) h a = tt
-
-  kept-else : (p : Plan) (n : ℕ) (K : Around) (b : Block) (ts fs : Lines) (f : Form) → Inv (await-else p K b ts fs) n → Asked (await-else p K b ts fs) n f →
-      Kept (before (await-else p K b ts fs)) f (next (await-else p K b ts fs) n f) (counted n f)
-  unfolding Kept Inv Open base before opening brackets level functions-of Good forms size
-  kept-else p n K b ts fs (Task x y) h a = tt
-  kept-else p n K b ts fs Fun h a = tt
-  kept-else p n K b ts fs Then h a = tt
-  kept-else p n K b ts fs Else (o, g, a, c, t, e) d = (((o, g, a, d, t), tt, omega arith), simp (append-assoc, append-nil))
-  kept-else p n K b ts fs Close h a = tt
-  kept-else p n K b ts fs (Leaf k c m) h a = tt
-  kept-else p n K b ts fs (Call k f c m) h a = tt
-  kept-else p n K b ts fs (Loop k x c m) h a = tt
-  kept-else p n K b ts fs (If k c m) h a = tt
-
-  kept-if : (p : Plan) (n : ℕ) (K : Around) (b : Block) (ts es fs : Lines) (f : Form) → Inv (await-close p K b ts es fs) n → Asked (await-close p K b ts es fs) n f →
-      Kept (before (await-close p K b ts es fs)) f (next (await-close p K b ts es fs) n f) (counted n f)
-  unfolding Kept Inv Open base before opening brackets level functions-of Good forms size
-  kept-if p n K b ts es fs (Task x y) h a = tt
-  kept-if p n K b ts es fs Fun h a = tt
-  kept-if p n K b ts es fs Then h a = tt
-  kept-if p n K b ts es fs Else h a = tt
-  kept-if p n K b ts es fs Close (o, g, (q, a), d, t, s, e) u =
-      let l = if-line b ts es close in
-      ((o, good-append (heights [] (p .functions)) fs l (brackets-in K) (level-in K) (base p K) (b .number) q g (refl, a, d, t, s, tt), omega (arith, size-⊕ fs l)), rw (forms-⊕ fs l) (simp append-assoc))
-  kept-if p n K b ts es fs (Leaf k c m) h a = tt
-  kept-if p n K b ts es fs (Call k f c m) h a = tt
-  kept-if p n K b ts es fs (Loop k x c m) h a = tt
-  kept-if p n K b ts es fs (If k c m) h a = tt
-
-  kept : (S : State) (n : ℕ) (f : Form) → Inv S n → Asked S n f → Kept (before S) f (next S n f) (counted n f)
-  kept start n f h a = unfold before Inv in kept-start n f h a
-  kept (task p) n f h a = kept-task p n f h a
-  kept (body p K fs) n f h a = kept-body p n K fs f h a
-  kept (await-then p K b fs) n f h a = kept-then p n K b fs f h a
-  kept (await-else p K b ts fs) n f h a = kept-else p n K b ts fs f h a
-  kept (await-close p K b ts es fs) n f h a = kept-if p n K b ts es fs f h a
-  kept (done p) n f h a = unfold Kept in tt
+      (o, good-append (heights [] (p .functions)) fs l (brackets-in K) (level-in K) (base p K) n e g (refl, a, tt), omega (arith, size-⊕ fs l))
+  kept (call {p = p} {K = K} {fs = fs} {n = n} {k = k} {g = t} {c = c} {m = m}) (o, g, e) a =
+      let l = call-line (block n k c m) t close in
+      (o, good-append (heights [] (p .functions)) fs l (brackets-in K) (level-in K) (base p K) n e g (refl, a, tt), omega (arith, size-⊕ fs l))
+  kept loop (o, g, e) a = ((o, g, (e, a)), tt, omega arith)
+  kept cond (o, g, e) a = (o, g, (e, a), refl)
+  kept (closes-fun {p = p} {fs = fs}) ((h, u), g, e) a = (
+    record {
+      low = h .low;
+      high = h .high;
+      cost = h .cost;
+      few = omega (arith, length-append (p .functions) (fs ∷ []));
+      all = good-snoc [] (p .functions) fs 0 (sizes (p .functions)) (omega arith) (h .all) g;
+    },
+    omega (arith, sizes-snoc (p .functions) fs),
+  )
+  kept (closes-loop {p = p} {x = x} {b = b} {hs = hs} {K = K} {fs = fs}) ((o, g₀, (q, a)), g, e) u =
+      let l = loop-line x b fs close in
+      (o, good-append (heights [] (p .functions)) hs l (brackets-in K) (level-in K) (base p K) (x .number) q g₀ (refl, a, g, tt), omega (arith, size-⊕ hs l))
+  kept closes-then ((o, g₀, a, d), g, e) u = (o, g₀, a, d, g, e)
+  kept closes-else ((o, g₀, a, d, t), g, e) u = (o, g₀, a, d, t, g, e)
+  kept opens-then (o, g, a, e) d = ((o, g, a, d), tt, omega arith)
+  kept opens-else (o, g, a, c, t, e) d = ((o, g, a, d, t), tt, omega arith)
+  kept (closes-if {p = p} {K = K} {x = x} {ts = ts} {es = es} {fs = fs}) (o, g, (q, a), d, t, s, e) u =
+      let l = if-line x ts es close in
+      let w = good-append (heights [] (p .functions)) fs l (brackets-in K) (level-in K) (base p K) (x .number) q g (refl, a, d, t, s, tt) in
+      (o, w, omega (arith, size-⊕ fs l))
 
 -- THE RUN
 never-plan : {A : Type 0} {p : Plan} {k i : ℕ} → refused k i ≡ plan p → A
@@ -261,11 +159,9 @@ unspelled room (l ∷ ls) S n i p e = here (line-form l) refl e (unspelled room 
 -- What a state leads to.
 module _ (room : ℕ) where
   step-kept : (S : State) (n : ℕ) (f : Form) (S′ : State) (n′ : ℕ) → Inv room S n → Went room S n f S′ n′ → Inv room S′ n′ × (before S′ ≡ before S ++ (f ∷ []))
-  unfolding Kept
   step-kept S n f S′ n′ h w =
-      let k : Kept room (before S) f (to S′) (counted n f) =
-      rw (w .step) at (kept room S n f h (allowed room (brackets S) (level S) n (heights [] (functions-of S)) f (w .faultless))) in
-      (rw (w .leaves) (k .0), k .1)
+      let s : Step S n f S′ = stepped (w .step) in
+      (rw (w .leaves) (kept room s h (allowed room (brackets S) (level S) n (heights [] (functions-of S)) f (w .faultless))), before-step s)
 
   ends-in : (fs : List Form) (S : State) (n i : ℕ) (p : Plan) → Inv room S n → follow room S n i fs ≡ plan p →
       (before S ++ fs ≡ forms-of p) × ((m : ℕ) × Inv room (done p) m)

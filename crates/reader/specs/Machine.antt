@@ -12,6 +12,7 @@ use Rattle.text.specs.declared.Form.{Form}
 use Rattle.text.specs.declared.Form.the-variants.{Task, Fun, Then, Else, Close, Leaf, Call, Loop, If}
 use Rattle.text.specs.Text.{pick, lines}
 use Rattle.text.specs.Grammar.{Line, no-form, form, line-form}
+use Rattle.reader.specs.Outcome.{Outcome, plan, refused}
 
 infixl 60 _⊕_
 -- Forms after forms.
@@ -257,11 +258,6 @@ turn room S n (form f) =
     judged (next S n f) (fault room (brackets S) (level S) n (heights [] (functions-of S)) f) (counted n f)
 
 -- ALL LINES
-
--- What the reader says in the end: the plan; or a refusal's number and line.
-pub data Outcome : Type 0 where
-  plan : Plan → Outcome
-  refused : ℕ → ℕ → Outcome
 
 -- A text that ends early is refused by 2 at the line after the last, i.
 abbrev pub finish : State → ℕ → Outcome

@@ -7,7 +7,7 @@ use lib.Seq.{sets}
 use Rattle.model.specs.Acceptance.{sizes}
 use Rattle.reader.specs.declared.Answer.the-variants.{Accepted, Refused}
 use Rattle.reader.specs.declared.Raw.{Raw}
-use Rattle.reader.specs.Machine.{Outcome, plan, refused}
+use Rattle.reader.specs.Outcome.{Outcome, plan, refused}
 use Rattle.reader.specs.Records.{row-of, bounds-of, heights-of}
 
 -- The first so many numbers of a list, filled up with 0.

@@ -8,7 +8,7 @@ use lib.ListN.{length, getD, take, replicate, length-replicate}
 use lib.Seq.{sets, length-sets, length-take-le, getD-take}
 use Rattle.model.specs.Plan.{Plan}
 use Rattle.model.specs.Acceptance.{sizes}
-use Rattle.reader.specs.Machine.{Outcome, plan, refused}
+use Rattle.reader.specs.Outcome.{Outcome, plan, refused}
 use Rattle.columns.proofs.Stores.{sets-below}
 use Rattle.table.specs.declared.Head.{Head}
 use Rattle.table.specs.Table.{Table, table-of}

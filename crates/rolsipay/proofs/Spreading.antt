@@ -8,7 +8,7 @@ use native.Mathlib.Omega.{arith}
 use lib.ListN.{length, getD, set, drop}
 use lib.Seq.{set-at, drop-cons, append-snoc}
 use Rattle.reader.specs.declared.Answer.{Answer}
-use Rattle.reader.specs.Machine.{Outcome, plan, refused}
+use Rattle.reader.specs.Outcome.{Outcome, plan, refused}
 use Rattle.table.specs.declared.Head.{Head}
 use Rattle.table.specs.Table.{Table, table-of}
 use Rattle.table.specs.Reading.{verdict, verdict-of}

@@ -12,7 +12,7 @@ use Rattle.model.specs.Plan.{Plan}
 use Rattle.model.specs.Acceptance.{sizes, Accepted}
 use Rattle.model.specs.Places.{pick, bit}
 use Rattle.model.specs.Calls.{Call, Answer, refused, go, suspend, stay, resume, ended, Reply}
-use Rattle.reader.specs.Machine.{plan}
+use Rattle.reader.specs.Outcome.{plan}
 use Rattle.reader.proofs.Theorems.{row-length}
 use Rattle.table.specs.declared.Head.{Head}
 use Rattle.table.specs.Table.{Table, table-of, head-of}

@@ -8,7 +8,7 @@ use Rattle.model.specs.Plan.{Plan}
 use Rattle.model.specs.Acceptance.{sizes}
 use Rattle.reader.specs.declared.Answer.{Answer}
 use Rattle.reader.specs.declared.Answer.the-variants.{Accepted, Refused}
-use Rattle.reader.specs.Machine.{Outcome, plan, refused}
+use Rattle.reader.specs.Outcome.{Outcome, plan, refused}
 use Rattle.table.specs.declared.Head.{Head}
 use Rattle.table.specs.declared.Verdict.{Verdict}
 use Rattle.table.specs.Table.{head-of, table-of}

@@ -12,7 +12,7 @@ use Rattle.model.specs.Forms.{main}
 use Rattle.model.specs.Total.{total}
 use Rattle.model.specs.Acceptance.{sizes, Accepted}
 use Rattle.model.proofs.Limits.{short-total}
-use Rattle.reader.specs.Machine.{plan}
+use Rattle.reader.specs.Outcome.{plan}
 use Rattle.reader.proofs.Theorems.{row-length}
 use Rattle.rows.specs.Answers.{Says}
 use Rattle.structure.specs.Plans.{Structured}

@@ -13,7 +13,7 @@ use Rattle.model.specs.Places.{pick}
 use Rattle.reader.specs.declared.Answer.{Answer}
 use Rattle.reader.specs.declared.Answer.the-variants.{Accepted, Refused}
 use Rattle.reader.specs.declared.Raw.{Raw}
-use Rattle.reader.specs.Machine.{Outcome, plan, refused}
+use Rattle.reader.specs.Outcome.{Outcome, plan, refused}
 use Rattle.reader.specs.Records.{row-of, bounds-of}
 use Rattle.reader.specs.Raw.{padded, raw-of}
 use Rattle.reader.proofs.Theorems.{row-length}

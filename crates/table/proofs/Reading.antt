@@ -14,7 +14,8 @@ use Rattle.model.specs.Forms.{main}
 use Rattle.model.specs.Total.{total}
 use Rattle.model.specs.Acceptance.{sizes, Formed, Fits, Accepted}
 use Rattle.model.specs.Places.{pick}
-use Rattle.reader.specs.Machine.{Outcome, plan, refused, outcome}
+use Rattle.reader.specs.Machine.{outcome}
+use Rattle.reader.specs.Outcome.{Outcome, plan, refused}
 use Rattle.reader.specs.Print.{print}
 use Rattle.reader.proofs.Theorems as reading
 use Rattle.table.specs.Accepting.{formed?, seen-all?, called-from?, accepted?}

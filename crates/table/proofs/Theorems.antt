@@ -8,7 +8,7 @@ use mathlib.Core.Path.{_≡_}
 use Prim.Native.Nat.{ℕ}
 use Rattle.model.specs.Plan.{Plan}
 use Rattle.model.specs.Acceptance.{Fits, Accepted}
-use Rattle.reader.specs.Machine.{plan}
+use Rattle.reader.specs.Outcome.{plan}
 use Rattle.reader.specs.Print.{print}
 use Rattle.table.specs.Accepting.{accepted?}
 use Rattle.table.specs.declared.Head.{Head}

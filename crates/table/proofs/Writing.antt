@@ -9,7 +9,8 @@ use Rattle.model.specs.Plan.{Plan}
 use Rattle.model.specs.Acceptance.{sizes}
 use Rattle.reader.specs.declared.Answer.the-variants.{Accepted, Refused}
 use Rattle.reader.specs.declared.Raw.{Raw}
-use Rattle.reader.specs.Machine.{Outcome, plan, refused, outcome}
+use Rattle.reader.specs.Machine.{outcome}
+use Rattle.reader.specs.Outcome.{Outcome, plan, refused}
 use Rattle.reader.specs.Records.{row-of}
 use Rattle.reader.specs.Raw.{raw-of, row-after}
 use Rattle.reader.proofs.Theorems.{sound, row-length}

@@ -8,7 +8,7 @@ use Rattle.model.specs.Plan.{C, Plan, all-leaves}
 use Rattle.model.specs.Total.{tallies}
 use Rattle.model.specs.Acceptance.{sizes, Accepted}
 use lib.Seq.{length-sets}
-use Rattle.reader.specs.Machine.{Outcome, plan, refused}
+use Rattle.reader.specs.Outcome.{Outcome, plan, refused}
 use Rattle.reader.specs.Records.{row-of}
 use Rattle.reader.proofs.Theorems.{row-length}
 use Rattle.table.specs.declared.Head.{Head}

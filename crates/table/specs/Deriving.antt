@@ -8,7 +8,7 @@ use lib.ListN.{length, take}
 use Rattle.model.specs.Plan.{Plan}
 use Rattle.model.specs.Acceptance.{sizes, Formed}
 use Rattle.reader.specs.declared.Raw.{Raw}
-use Rattle.reader.specs.Machine.{Outcome, plan}
+use Rattle.reader.specs.Outcome.{Outcome, plan}
 use Rattle.reader.specs.Records.{row-of}
 use Rattle.reader.specs.Raw.{raw-of}
 use Rattle.table.specs.declared.Head.{Head}

@@ -7,7 +7,8 @@ use Rattle.model.specs.Plan.{Plan}
 use Rattle.model.specs.Places.{pick}
 use lib.Seq.{sets}
 use Rattle.reader.specs.declared.Answer.the-variants.{Accepted, Refused}
-use Rattle.reader.specs.Machine.{Outcome, plan, refused, outcome}
+use Rattle.reader.specs.Machine.{outcome}
+use Rattle.reader.specs.Outcome.{Outcome, plan, refused}
 use Rattle.table.specs.declared.Head.{Head}
 use Rattle.table.specs.declared.Verdict.{Verdict}
 use Rattle.table.specs.Accepting.{seen-all?, called-from?, short?}

@@ -8,7 +8,7 @@ ghost use Rattle.model.specs.Acceptance.{sizes};
 ghost use Rattle.rows.specs.Answers.{Says};
 ghost use Rattle.structure.specs.Plans.{Structured};
 ghost use Rattle.table.specs.Table.{zeros, table-at, good};
-ghost use Rattle.reader.specs.Machine.{Outcome, refused};
+ghost use Rattle.reader.specs.Outcome.{Outcome, refused};
 ghost use Rattle.table.specs.Reading.{after-lines, verdict, verdict-of, stored};
 ghost use Rattle.table.specs.Deriving.{Ranged, Wide, Derives, Agrees, Came, Filled, headed};
 use columns::derive;

@@ -19,7 +19,7 @@ use Rattle.model.specs.Levels.{Leveled, own-levels, blocks}
 use Rattle.model.specs.Acceptance.{size, sizes, Formed}
 use Rattle.model.specs.Places.{pick, bit}
 use Rattle.model.proofs.Among.{among-left, among-right}
-use Rattle.reader.specs.Machine.{Outcome, plan, refused}
+use Rattle.reader.specs.Outcome.{Outcome, plan, refused}
 use Rattle.reader.specs.Records.{row-of, leveled-leaves, no-leaf}
 use Rattle.reader.proofs.Theorems.{row-length, row-leaf}
 use Rattle.table.specs.declared.Head.{Head}

@@ -9,7 +9,7 @@ use Rattle.model.specs.Stretch.{stretch}
 use Rattle.model.specs.Tail.{tail}
 use Rattle.model.specs.Levels.{Leveled, own-levels}
 use Rattle.model.specs.Places.{pick}
-use Rattle.reader.specs.Machine.{Outcome, plan, refused}
+use Rattle.reader.specs.Outcome.{Outcome, plan, refused}
 use Rattle.print.specs.Lines.{task-line, point-line, refused-plan-line}
 
 -- A point of the function l: number, level in its own function, largest isolated sum from a first visit of it to the end of its own function, stretch.

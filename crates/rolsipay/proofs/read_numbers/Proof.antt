@@ -6,7 +6,7 @@ use native.Mathlib.Omega.{arith}
 use borrow.Author.Needs.{needs}
 use lib.ListN.{length, take}
 use lib.Seq.{sets, length-sets, length-take-le}
-use Rattle.reader.specs.Machine.{Outcome}
+use Rattle.reader.specs.Outcome.{Outcome}
 use Rattle.table.specs.declared.Verdict.{Verdict}
 use Rattle.table.specs.Reading.{verdict}
 use Rattle.rolsipay.specs.declared.Filled.{Filled}

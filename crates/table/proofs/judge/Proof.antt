@@ -8,7 +8,7 @@ use lib.ListN.{length, take, length-take}
 use Rattle.reader.proofs.Theorems.{row-length}
 use mathlib.Core.List.{[]}
 use Rattle.model.specs.Acceptance.{Seen-all, Called}
-use Rattle.reader.specs.Machine.{Outcome, plan, refused}
+use Rattle.reader.specs.Outcome.{Outcome, plan, refused}
 use Rattle.structure.specs.Plans.{Structured}
 use Rattle.rows.proofs.Answers.{said-true, said-false}
 use Rattle.table.specs.Reading.{judged}

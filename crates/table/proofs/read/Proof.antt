@@ -5,7 +5,8 @@ use borrow.Author.Needs.{needs}
 use native.Mathlib.Omega.{arith}
 use lib.ListN.{length, take, length-take, length-replicate}
 use Rattle.model.specs.Plan.{Plan}
-use Rattle.reader.specs.Machine.{outcome, plan}
+use Rattle.reader.specs.Machine.{outcome}
+use Rattle.reader.specs.Outcome.{plan}
 use Rattle.table.specs.Reading.{verdict}
 use Rattle.table.specs.Deriving.{Came}
 use Rattle.table.proofs.Writing as writing
