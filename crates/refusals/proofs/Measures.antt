@@ -46,6 +46,7 @@ innermost-in (in-loop b n hs K) = refl
 innermost-in (in-then b hs K) = refl
 innermost-in (in-else b ts hs K) = refl
 
+-- A step opens and closes what its line does.
 brackets-step : {S S′ : State} {n : ℕ} {f : Form} → Step S n f S′ → brackets-behind f (levels-at S) ≡ levels-at S′
 unfolding levels-at levels-in level-in
 brackets-step opens-task = refl
@@ -70,6 +71,7 @@ brackets-within (in-loop b n hs K) = omega (arith, brackets-within K)
 brackets-within (in-then b hs K) = omega (arith, brackets-within K)
 brackets-within (in-else b ts hs K) = omega (arith, brackets-within K)
 
+-- The machine counts these brackets.
 pub brackets-at : (S : State) → brackets S ≡ length (levels-at S)
 unfolding brackets levels-at
 brackets-at start = refl
@@ -98,6 +100,8 @@ innermost-under : (K : Around) → innermost (levels-in K) ≡ under K + 1
 innermost-under K = innermost-in K ∙ level-under K
 
 -- FUNCTIONS AND LEAVES
+
+-- The functions that have begun.
 unfoldable pub functions-in : State → ℕ
 functions-in start = 0
 functions-in (task p) = length (p .functions)
@@ -348,6 +352,8 @@ highest-same L g h e (Loop k b c m) = refl
 highest-same L g h e (If k c m) = refl
 
 -- THE STATE AND THE LINES BEFORE IT
+
+-- A state with n leaves is that behind these lines, in every measure.
 pub record Agrees (S : State) (n : ℕ) (es : List Form) : Type 0 where
   pub order : before S ≡ reverse es
   pub nested : nests start 0 (reverse es) ≡ to S

@@ -39,15 +39,19 @@ held-step opens-then = tt
 held-step opens-else = tt
 held-step closes-if = tt
 
--- MANY LINES: the nesting alone.
+-- MANY LINES: the nesting alone
+
+-- Where the machine is stuck it stays so.
 abbrev and-then : Next → (State → Next) → Next
 and-then stuck g = stuck
 and-then (to S) g = g S
 
+-- Where the machine stands behind some lines by their nesting, whatever other rules they break.
 unfoldable pub nests : State → ℕ → List Form → Next
 nests S n [] = to S
 nests S n (f ∷ fs) = and-then (next S n f) (λ S′. nests S′ (counted n f) fs)
 
+-- The number of leaves behind some lines.
 unfoldable pub leaves-after : ℕ → List Form → ℕ
 leaves-after n [] = n
 leaves-after n (f ∷ fs) = leaves-after (counted n f) fs
@@ -80,6 +84,8 @@ before-nests (g ∷ gs) S n T e = here (next S n g) refl e (λ S′. before-nest
     here (to S′) q e ih = ih S′ e ∙ (ap (λ x. x ++ gs) (before-step (stepped q)) ∙ append-assoc (before S) (g ∷ []) gs)
 
 -- EVERY STATE CAN BE CLOSED
+
+-- Some lines lead from a state to a closed task with a function.
 pub record Closes (S : State) (n : ℕ) : Type 0 where
   pub by : List Form
   pub found : Plan
@@ -126,9 +132,11 @@ pub begins : (S : State) → Held S → (more : List Form) × PlanLines (before 
 unfolding before
 begins S h =
     let c = closes S 0 h in
-    (c .by, record { tree = c .found; some-function = c .some-function; lines-are = before-nests (c .by) S 0 (done (c .found)) (c .closed-by) })
+    (c .by, record { tree = c .found; some-function = omega (arith, c .some-function); lines-are = before-nests (c .by) S 0 (done (c .found)) (c .closed-by) })
 
 -- THE LINES OF A PLAN ARE NESTED
+
+-- Some lines lead from a body back into it; the lines gs follow them.
 record Passes (S : State) (n : ℕ) (fs : List Form) (p : Plan) (K : Around) (gs : List Form) : Type 0 where
   pub forms-read : Lines
   pub leaves-read : ℕ
@@ -167,6 +175,7 @@ passes (if-line b then else rest) p K fs n gs =
           (t .passed ∙ (e .passed ∙ r .passed));
     }
 
+-- Some lines lead from the task back into it, with so many functions; the lines gs follow them.
 record PassesAll (S : State) (n : ℕ) (fs : List Form) (gs : List Form) (many : ℕ) : Type 0 where
   pub plan-read : Plan
   pub leaves-read : ℕ
@@ -186,6 +195,7 @@ passes-all (l ∷ ls) p n gs =
       passed = ap (λ x. nests (task p) n (Fun ∷ x)) (append-assoc (forms l) (Close ∷ forms-all ls) gs) ∙ (i .passed ∙ r .passed);
     }
 
+-- The lines of a plan lead to a closed task.
 pub passes-whole : (p : Plan) → 1 ≤ length (p .functions) → (q : Plan) × (nests start 0 (forms-of p) ≡ to (done q))
 unfolding forms-of nests
 passes-whole p h =

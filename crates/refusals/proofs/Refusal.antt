@@ -65,6 +65,8 @@ names room d L n S (Loop k b c m) a = tt
 names room d L n S (If k c m) a = tt
 
 -- ONE LINE
+
+-- The machine goes on at a line that breaks no rule, and stops by the first rule that a line breaks.
 data Judged (capacity : ℕ) (es : List Form) : Line → Turn → Type 0 where
   goes : {f : Form} {S : State} {n : ℕ} → ((i : ℕ) → ¬ Breaks capacity es (form f) i) → Agrees S n (f ∷ es) → Judged capacity es (form f) (go S n)
   stops : {x : Line} {k : ℕ} → Breaks capacity es x k → ((i : ℕ) → i < k → ¬ Breaks capacity es x i) → Judged capacity es x (stop k)
@@ -173,6 +175,8 @@ module _ (capacity : ℕ) (text : List ℕ) where
       by x t q (stops b c) e ih = refused-as e (at-line es xs q h b c)
 
 -- FROM THE RULES TO THE MACHINE
+
+-- Some lines lead the machine from the start to a state that agrees with them, whatever follows.
 record Led (capacity : ℕ) (es : List Form) : Type 0 where
   pub state : State
   pub leaves : ℕ

@@ -34,7 +34,7 @@ and-false : (s t : Bool) → (s && t) ≡ false → (s ≡ false) ⊎ (t ≡ fal
 and-false true t e = inr e
 and-false false t e = inl refl
 
--- THE TESTS OF THE MACHINE, rule by rule
+-- THE TESTS OF THE MACHINE, rule by rule: range, count, load, target, depth
 abbrev costs : ℕ → ℕ → Bool
 costs c m = leb c (2 ^ 20) && leb m (2 ^ 20)
 
@@ -93,6 +93,7 @@ test-7 d L hs (Call k f c m) = leb (L + getD hs f 0) 32
 test-7 d L hs (Loop k b c m) = leb L 32 && ltb d 64
 test-7 d L hs (If k c m) = leb L 32 && ltb d 64
 
+-- The number of the first of five tests that fails, 0 if none does; and how the machine's tests of each kind of line make up such a chain.
 abbrev chain : Bool → Bool → Bool → Bool → Bool → ℕ
 chain a b c d e = unless a 3 (unless b 4 (unless c 5 (unless d 6 (unless e 7 0))))
 
@@ -163,6 +164,7 @@ pub record AtLeaf (es : List Form) (L : ℕ) (hs : List ℕ) : Type 0 where
   pub own-is : length hs ≡ own-function es
   pub heights-are : (F : ℕ) → F < length hs → height-of F es ≡ getD hs F 0
 
+-- At any line: open brackets and leaves; at a `(fun` the functions; at a leaf line the above.
 pub record Values (es : List Form) (f : Form) (d L n : ℕ) (hs : List ℕ) : Type 0 where
   pub brackets-are : d ≡ length (open-brackets es)
   pub leaves-are : n ≡ leaves-among es
@@ -204,7 +206,7 @@ module _ (capacity : ℕ) (es : List Form) where
   task-broken d t (inr q) = by (and-false (leb d (2 ^ 40)) (leb t (2 ^ 20)) q)
     where
       by : (leb d (2 ^ 40) ≡ false) ⊎ (leb t (2 ^ 20) ≡ false) → Breaks capacity es (form (Task d t)) 3
-      by (inl q) = deadline-range (inr (leb-false d (2 ^ 40) q))
+      by (inl q) = deadline-range {d = d} (inr (omega (arith, leb-false d (2 ^ 40) q)))
       by (inr q) = switch-range (leb-false t (2 ^ 20) q)
 
   call-broken : (k : Bool) (f c m : ℕ) → (leb f 15 ≡ false) ⊎ (costs c m ≡ false) → Breaks capacity es (form (Call k f c m)) 3
@@ -436,6 +438,7 @@ abbrev pub Ruling : ℕ → List Form → Form → ℕ → Type 0
 Ruling capacity es f zero = (i : ℕ) → ¬ Breaks capacity es (form f) i
 Ruling capacity es f (suc k) = Breaks capacity es (form f) (suc k) × ((i : ℕ) → i < suc k → ¬ Breaks capacity es (form f) i)
 
+-- Where the machine's numbers are those of the lines before, its refusal says so.
 pub ruling : (capacity : ℕ) (es : List Form) (f : Form) (d L n : ℕ) (hs : List ℕ) → (more : List Form) × PlanLines (reverse es ++ (f ∷ more)) →
     NoneBroken capacity es → Values es f d L n hs → Ruling capacity es f (fault (min 512 capacity) d L n hs f)
 ruling capacity es f d L n hs p h v =
