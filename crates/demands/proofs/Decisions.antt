@@ -25,6 +25,7 @@ use Rattle.control.specs.State.{fresh, standing, at-release}
 use Rattle.control.specs.Calls.{refuse, word, decision, suspended-after, released, next-levels, reported, may-end, closed, at-levels, by-phase, call-on, controller-of}
 use Rattle.model.specs.Histories.{Since}
 use Rattle.model.specs.Histories as since
+use Rattle.control.specs.Meaning.{HistoryState}
 use Rattle.control.proofs.Theorems as control
 use Rattle.demands.specs.Decisions.{Worded, goes, suspends, stays, Decided, Closes, resumes, just-ends}
 use Rattle.demands.specs.Delivered.{Memory, zeros}
@@ -131,6 +132,10 @@ module _ (p : Plan) (m : Memory) (o : TableOf p m) where
   -- The reply to a call on the plan's table is that on this one.
   replied : (s : State) (c : Call) → call-on (table-of p) s c ≡ call-on (table-held m) s c
   replied s c = ap (λ x. call-on x s c) (sym (numbers-held p m o))
+
+  -- The state is that of its history.
+  pub history-state : {s : State} {n : ℕ} {h : List ℕ} {ds : List Decision} → Since (controller-of (table-held m)) s (n ∷ h) ds → HistoryState p s (n ∷ h)
+  history-state w = control.state-is-of-history p (o .accepted) (since-plan w)
 
   -- The release.
   pub release-exactly : Accepts (call-on (table-held m) fresh release .answer) ↔ Fit p

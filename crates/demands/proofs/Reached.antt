@@ -17,7 +17,7 @@ use Rattle.model.specs.Histories.{Reached, at-first, after, Since}
 use Rattle.model.specs.Histories as since
 use Rattle.model.specs.Controller.{is-point}
 use Rattle.control.specs.Calls.{refuse, call-on}
-use Rattle.control.specs.Meaning.{StandsSomewhere}
+use Rattle.control.specs.Meaning.{StandsSomewhere, HistoryState}
 use Rattle.rolsipay.specs.declared.State.{State}
 use Rattle.rolsipay.specs.Calling.{state-of, lent}
 use Rattle.demands.specs.Delivered.{Memory, zeros, delivered}
@@ -69,6 +69,10 @@ module _ (p : Plan) (m : Memory) (o : TableOf p m) where
 
   to-held : (s : State) (c : Call) → Accepts (answer s c) → Accepts (held s c)
   to-held s c q = subst Accepts (answer-meant m s c) q
+
+  -- The lent state is that of its history.
+  pub state-of-history : {s : State} {n : ℕ} {h : List ℕ} {ds : List Decision} → Since (delivered m) s (n ∷ h) ds → HistoryState p (state-of s) (n ∷ h)
+  state-of-history w = decisions.history-state p m o (since-held m w)
 
   -- The release.
   pub release-exactly : Accepts (answer zeros release) ↔ Fit p

@@ -21,7 +21,7 @@ use Rattle.reader.specs.Outcome as reader
 use Rattle.reader.specs.declared.Answer.the-variants as answers
 use Rattle.reader.specs.Print.{print}
 use Rattle.table.proofs.Theorems as table
-use Rattle.control.specs.Meaning.{StandsSomewhere}
+use Rattle.control.specs.Meaning.{StandsSomewhere, HistoryState}
 use Rattle.control.specs.Cases.{cases}
 use Rattle.rolsipay.specs.declared.State.{State}
 use Rattle.rolsipay.specs.Calling.{state-of}
@@ -83,6 +83,11 @@ module _ (p : Plan) (m : Memory) (o : TableOf p m) where
   -- reports h with the decisions ds, the latest first.
   pub every-state-known : {s : State} → Reached (delivered m) s → (s ≡ zeros) ⊎ ((h : List ℕ) × (ds : List Decision) × Since (delivered m) s h ds)
   every-state-known = reached.reached-known p m o
+
+  -- After reports the lent state is that of its history: some run with these reports stands at its stack of points, open loops and calls with their visit
+  -- counts, and its 33 remaining times are that run's.
+  pub state-is-of-history : {s : State} {n : ℕ} {h : List ℕ} {ds : List Decision} → Since (delivered m) s (n ∷ h) ds → HistoryState p (state-of s) (n ∷ h)
+  state-is-of-history = reached.state-of-history p m o
 
   -- A release from a state of zeros is accepted exactly when total + T is within D.
   pub release-accepted-exactly : Accepts (delivered m .respond zeros release .answer) ↔ Fit p
