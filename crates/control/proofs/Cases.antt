@@ -11,8 +11,7 @@ use Rattle.model.specs.Stretch.{silence, rounds-silence, stretch, rounds-stretc
 use Rattle.model.specs.Acceptance.{Accepted}
 use Rattle.model.specs.Places.{passes, seek, onward, can-end}
 use Rattle.model.specs.Stack.{behind, below, whole, kept, seek-at, onward-at, suffix, turned, inside-of, decode}
-use Rattle.model.specs.Calls.{Call, Answer}
-use Rattle.model.specs.Histories.{answers}
+use Rattle.model.specs.Histories.{Exchange, Answered}
 use Rattle.model.specs.Controller.{is-point}
 use Rattle.model.specs.Worked.{plan-A, plan-B, smallest}
 use Rattle.model.proofs.Worked.{plan-A-accepted, plan-B-accepted, smallest-accepted}
@@ -23,45 +22,48 @@ use Rattle.place.specs.Stack.{frames}
 use Rattle.control.specs.declared.State.{State}
 use Rattle.control.specs.State.{fresh, points?}
 use Rattle.control.specs.Calls.{on-plan, by-phase, call-on, controller-of}
-use Rattle.control.specs.Cases.{Case, cases, Right, AllRight}
+use Rattle.control.specs.Cases.{Case, worst-of-A, cases, Right, AllRight}
 
 -- The same calls on the plan itself.
-answers-on : Plan → State → List Call → List Answer
-answers-on p s [] = []
-answers-on p s (c ∷ cs) = by-phase p s c (s .running) .answer ∷ answers-on p (by-phase p s c (s .running) .state) cs
+AnsweredOn : Plan → State → List Exchange → Type 0
+AnsweredOn p s [] = Unit
+AnsweredOn p s (x ∷ xs) = (by-phase p s (x .call) (s .running) .answer ≡ x .answer) × AnsweredOn p (by-phase p s (x .call) (s .running) .state) xs
 
-on-plans : (p : Plan) → Accepted p → (s : State) (cs : List Call) → answers (controller-of (table-of p)) s cs ≡ answers-on p s cs
-unfolding answers answers-on call-on
-on-plans p a s [] = refl
-on-plans p a s (c ∷ cs) =
-    let e : call-on (table-of p) s c ≡ by-phase p s c (s .running) = ap (λ o. on-plan s c o) (plan-of-exactly (table-of p) p .1 (a, refl)) in
-    ap (λ r. r .answer ∷ answers (controller-of (table-of p)) (r .state) cs) e ∙ ap (λ l. by-phase p s c (s .running) .answer ∷ l) (on-plans p a (by-phase p s c (s .running) .state) cs)
+on-plans : (p : Plan) → Accepted p → (s : State) (xs : List Exchange) → AnsweredOn p s xs → Answered (controller-of (table-of p)) s xs
+unfolding Answered AnsweredOn call-on
+on-plans p a s [] u = tt
+on-plans p a s (x ∷ xs) (e, u) =
+    let i : call-on (table-of p) s (x .call) ≡ by-phase p s (x .call) (s .running) =
+    ap (λ o. on-plan s (x .call) o) (plan-of-exactly (table-of p) p .1 (a, refl)) in (
+      ap (λ r. r .answer) i ∙ e,
+      subst (λ r. Answered (controller-of (table-of p)) (r .state) xs) (sym i) (on-plans p a (by-phase p s (x .call) (s .running) .state) xs u),
+    )
 
 right : (c : Case) → Accepted (c .plan) → table-of (c .plan) .head .total ≡ c .total → table-of (c .plan) .head .loaded ≡ c .max-total → table-of (c .plan) .stretches ≡ c .stretches →
-    answers-on (c .plan) fresh (c .calls) ≡ c .expected → Right c
-right c a t m s e = record { accepted = a; total-is = t; max-total-is = m; stretches-are = s; right = on-plans (c .plan) a fresh (c .calls) ∙ e }
+    AnsweredOn (c .plan) fresh (c .exchanges) → Right c
+right c a t m s e = record { accepted = a; total-is = t; max-total-is = m; stretches-are = s; answered = on-plans (c .plan) a fresh (c .exchanges) e }
 
 pub cases-right : AllRight cases
-unfolding cases AllRight answers-on plan-A plan-B smallest plans.leaves all-leaves forms linked last total silence rounds-silence stretch rounds-stretch passes seek onward can-end behind below whole kept seek-at onward-at suffix turned inside-of decode is-point frames points? same-numbers _⊕_
+unfolding cases worst-of-A AllRight AnsweredOn plan-A plan-B smallest plans.leaves all-leaves forms linked last total silence rounds-silence stretch rounds-stretch passes seek onward can-end behind below whole kept seek-at onward-at suffix turned inside-of decode is-point frames points? same-numbers _⊕_
 cases-right = (
-  right _ plan-A-accepted refl refl refl refl,
+  right _ plan-A-accepted refl refl refl (refl, (refl, (refl, (refl, (refl, (refl, (refl, tt))))))),
   (
-    right _ plan-A-accepted refl refl refl refl,
+    right _ plan-A-accepted refl refl refl (refl, (refl, (refl, tt))),
     (
-      right _ plan-A-accepted refl refl refl refl,
+      right _ plan-A-accepted refl refl refl (refl, (refl, (refl, tt))),
       (
-        right _ plan-A-accepted refl refl refl refl,
+        right _ plan-A-accepted refl refl refl (refl, (refl, (refl, (refl, (refl, (refl, (refl, tt))))))),
         (
-          right _ plan-A-accepted refl refl refl refl,
+          right _ plan-A-accepted refl refl refl (refl, (refl, (refl, (refl, (refl, (refl, tt)))))),
           (
-            right _ plan-B-accepted refl refl refl refl,
+            right _ plan-B-accepted refl refl refl (refl, (refl, (refl, (refl, (refl, tt))))),
             (
-              right _ plan-B-accepted refl refl refl refl,
+              right _ plan-B-accepted refl refl refl (refl, (refl, (refl, (refl, (refl, tt))))),
               (
-                right _ (smallest-accepted 9 (omega arith) (omega arith)) refl refl refl refl,
+                right _ (smallest-accepted 9 (omega arith) (omega arith)) refl refl refl (refl, tt),
                 (
-                  right _ (smallest-accepted 10 (omega arith) (omega arith)) refl refl refl refl,
-                  (right _ (smallest-accepted 18 (omega arith) (omega arith)) refl refl refl refl, (right _ (smallest-accepted 19 (omega arith) (omega arith)) refl refl refl refl, tt)),
+                  right _ (smallest-accepted 10 (omega arith) (omega arith)) refl refl refl (refl, tt),
+                  (right _ (smallest-accepted 18 (omega arith) (omega arith)) refl refl refl (refl, tt), (right _ (smallest-accepted 19 (omega arith) (omega arith)) refl refl refl (refl, tt), tt)),
                 ),
               ),
             ),

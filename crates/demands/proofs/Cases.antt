@@ -1,22 +1,21 @@
 -- The marked cases hold in every memory that holds the table of their plan.
-use mathlib.Core.List.{List, [], _∷_, map}
-use mathlib.Core.Path.{_≡_, refl, ap, sym, _∙_}
+use mathlib.Core.List.{List, [], _∷_}
+use mathlib.Core.Path.{ap, sym, _∙_, subst}
 use Prim.Native.Nat.{_≤_}
 use native.Mathlib.Omega.{arith}
-use Rattle.model.specs.Acceptance.{Accepted}
-use Rattle.table.specs.Table.{Table, table-of}
+use Rattle.table.specs.Table.{Table}
 use Rattle.control.specs.Cases.{Case, cases, Right, AllRight}
 use Rattle.control.specs.State.{fresh}
 use Rattle.control.specs.Calls.{controller-of}
-use Rattle.model.specs.Histories.{answers}
+use Rattle.model.specs.Histories.{Answered}
 use Rattle.control.proofs.Cases.{cases-right}
 use Rattle.rolsipay.specs.declared.Leaf.{Leaf}
 use Rattle.rolsipay.proofs.Theorems.{column-held}
-use Rattle.demands.specs.Delivered.{Memory, zeros, delivered}
+use Rattle.demands.specs.Delivered.{Memory, zeros}
 use Rattle.demands.specs.Rules.{TableOf}
 use Rattle.demands.specs.Cases.{RightIn, EachRight}
-use Rattle.demands.proofs.Tables.{table-held, numbers-held}
-use Rattle.demands.proofs.Delivered.{answers-held}
+use Rattle.demands.proofs.Tables.{numbers-held}
+use Rattle.demands.proofs.Delivered.{answered-held}
 
 -- A case that is right on the plan's table is right in the memory.
 right-in : (c : Case) → Right c → (m : Memory) → TableOf (c .plan) m → RightIn m c
@@ -27,7 +26,7 @@ right-in c r m o =
       total-is = ap (λ (t : Table). t .head .total) e ∙ r .total-is;
       max-total-is = ap (λ (t : Table). t .head .loaded) e ∙ r .max-total-is;
       stretches-are = sym (column-held (λ (l : Leaf). l .stretch) (m .head .leaves) (m .row) few) ∙ (ap (λ (t : Table). t .stretches) e ∙ r .stretches-are);
-      answers-are = answers-held m zeros (c .calls) ∙ (ap (λ (t : Table). answers (controller-of t) fresh (c .calls)) e ∙ r .right);
+      answered = answered-held m zeros (c .exchanges) (subst (λ (t : Table). Answered (controller-of t) fresh (c .exchanges)) (sym e) (r .answered));
     }
 
 each : (cs : List Case) → AllRight cs → EachRight cs

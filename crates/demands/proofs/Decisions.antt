@@ -15,7 +15,7 @@ use Rattle.model.specs.Stretch.{silence}
 use Rattle.model.specs.Condition.{margin, holds}
 use Rattle.model.specs.Places.{pick}
 use Rattle.model.specs.Stack.{Levels}
-use Rattle.model.specs.Calls.{Call, release, report, end, Answer, go, suspend, stay, resume, ended, Accepts}
+use Rattle.model.specs.Calls.{Call, release, report, end, go, suspend, stay, resume, ended, Accepts}
 use Rattle.model.specs.Timed.{Decision, RemainingAt, StretchAt, Held, PointOf, Fit, last-reading}
 use Rattle.model.specs.Controller.{is-point, late}
 use Rattle.model.proofs.Decisions.{holds-exactly, remaining-report, stretch-report}
@@ -149,7 +149,7 @@ module _ (p : Plan) (m : Memory) (o : TableOf p m) where
       subst (Decided p [] (record { history = []; reading = 0 })) e
       (record {
         remaining = d .remaining;
-        str = d .str;
+        stretch = d .str;
         is-remaining = d .is-remaining;
         is-stretch = d .is-stretch;
         worded = word-said p [] (record { history = []; reading = 0 }) (d .remaining) (d .str) (d .is-remaining) (d .is-stretch) false ((λ i. tt), λ u. refl);
@@ -173,7 +173,7 @@ module _ (p : Plan) (m : Memory) (o : TableOf p m) where
       subst (Decided p ds (record { history = h ++ (n ∷ []); reading = r })) e
       (record {
         remaining = d .remaining;
-        str = d .str;
+        stretch = d .str;
         is-remaining = x;
         is-stretch = y;
         worded = word-said p ds (record { history = h ++ (n ∷ []); reading = r }) (d .remaining) (d .str) x y (s .suspended) (control.others-share-exactly p (o .accepted) (since-plan w));

@@ -7,7 +7,7 @@ use Rattle.model.specs.Plan.{Plan}
 use Rattle.model.specs.Calls as calls
 use Rattle.model.specs.Calls.{Call, refused, go, suspend, stay, resume, ended, Accepts}
 use Rattle.model.specs.Timed.{Decision, Fit, KeepsDeadline}
-use Rattle.model.specs.Histories.{Since, answers}
+use Rattle.model.specs.Histories.{Since, Exchange, Answered}
 use Rattle.model.specs.Histories as since
 use Rattle.model.specs.Controller as places
 use Rattle.model.specs.Places.{pick}
@@ -65,7 +65,7 @@ module _ (m : Memory) where
   unfolding called
   accepted-leaves s c q = moves s (lent (reply s c .state)) (reply s c .answer) q
 
-  -- A history of the delivered calls is one of the controller's, and the answers to any calls are the same.
+  -- A history of the delivered calls is one of the controller's, and calls have the answers that they have there.
   pub since-held : {s : State} {h : List ℕ} {ds : List Decision} → Since (delivered m) s h ds → Since (controller-of (table-held m)) (state-of s) h ds
   since-held (since.released q) =
       subst (λ x. Since (controller-of (table-held m)) x [] (record { history = []; reading = 0 } ∷ [])) (sym (state-left zeros calls.release))
@@ -74,12 +74,13 @@ module _ (m : Memory) where
       subst (λ x. Since (controller-of (table-held m)) x (h ++ (n ∷ [])) (record { history = h ++ (n ∷ []); reading = r } ∷ ds)) (sym (state-left s (calls.report n r)))
       (since.reported (since-held w) n r (subst Accepts (answer-meant s (calls.report n r)) q))
 
-  pub answers-held : (s : State) (cs : List Call) → answers (delivered m) s cs ≡ answers (controller-of (table-held m)) (state-of s) cs
-  unfolding answers
-  answers-held s [] = refl
-  answers-held s (c ∷ cs) =
-      ap (λ l. delivered m .respond s c .answer ∷ l) (answers-held (delivered m .respond s c .state) cs ∙ ap (λ x. answers (controller-of (table-held m)) x cs) (state-left s c)) ∙
-      ap (λ a. a ∷ answers (controller-of (table-held m)) (reply s c .state) cs) (answer-meant s c)
+  pub answered-held : (s : State) (xs : List Exchange) → Answered (controller-of (table-held m)) (state-of s) xs → Answered (delivered m) s xs
+  unfolding Answered
+  answered-held s [] u = tt
+  answered-held s (x ∷ xs) (e, u) = (
+    answer-meant s (x .call) ∙ e,
+    answered-held (delivered m .respond s (x .call) .state) xs (subst (λ t. Answered (controller-of (table-held m)) t xs) (sym (state-left s (x .call))) u),
+  )
 
 -- On the table of an accepted plan with total + T within D they keep the deadline.
 pub keeps-deadline : (p : Plan) (m : Memory) → TableOf p m → Fit p → KeepsDeadline p (delivered m)

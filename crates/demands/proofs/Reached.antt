@@ -3,12 +3,15 @@
 use mathlib.Core.Bool.{Bool, true, false}
 use mathlib.Core.List.{List, [], _∷_, _++_}
 use mathlib.Core.Logic.{_⊎_, _↔_, inl, inr}
+use mathlib.Core.Option.{Option, none, some}
 use mathlib.Core.Path.{_≡_, refl, ap, sym, _∙_, subst}
-use Prim.Native.Nat.{ℕ, _≤_, _<_}
+use Prim.Native.Nat.{ℕ, _+_, _≤_, _<_}
 use native.Mathlib.Omega.{arith}
 use native.Mathlib.Decide.{decLe}
-use Rattle.model.specs.Plan.{Block, Plan, all-leaves}
+use lib.Dec.{leb}
+use Rattle.model.specs.Plan.{Block, C, Plan, all-leaves}
 use Rattle.model.specs.Forms.{main}
+use Rattle.model.specs.Total.{total}
 use Rattle.model.specs.Remaining.{Reported, Ended}
 use Rattle.model.specs.Calls.{Call, release, report, end, refused, Answer, Accepts, Reply}
 use Rattle.model.specs.Timed.{Decision, PointOf, Fit, last-reading, opened, Refusable}
@@ -16,14 +19,19 @@ use Rattle.model.specs.Timed as timed
 use Rattle.model.specs.Histories.{Reached, at-first, after, Since}
 use Rattle.model.specs.Histories as since
 use Rattle.model.specs.Controller.{is-point}
-use Rattle.control.specs.Calls.{refuse, call-on}
+use Rattle.model.specs.Places.{pick}
+use Rattle.reader.specs.Print.{print}
+use Rattle.table.specs.Table.{Table, plan-of}
+use Rattle.control.specs.declared.State as control
+use Rattle.control.specs.State.{fresh}
+use Rattle.control.specs.Calls.{refuse, released, by-phase, on-plan, call-on}
 use Rattle.control.specs.Meaning.{StandsSomewhere, HistoryState}
 use Rattle.rolsipay.specs.declared.State.{State}
 use Rattle.rolsipay.specs.Calling.{state-of, lent}
-use Rattle.demands.specs.Delivered.{Memory, zeros, delivered}
+use Rattle.demands.specs.Delivered.{Memory, after-read, ReadAs, zeros, delivered}
 use Rattle.demands.specs.Rules.{TableOf, Refuses, no-plan, nowhere, busy, unfit, idle-report, idle-end, stranger, backward-report, backward-end, astray-report, astray-end}
 use Rattle.demands.specs.Decisions.{Decided, Closes, resumes, just-ends}
-use Rattle.demands.proofs.Tables.{table-held, one-plan}
+use Rattle.demands.proofs.Tables.{table-held, own-text, read-holds, one-plan}
 use Rattle.demands.proofs.Calls as calls
 use Rattle.demands.proofs.Calls.{fate, point-test}
 use Rattle.demands.proofs.Decisions as decisions
@@ -37,6 +45,60 @@ refused-exactly m s c k = subst (λ a. (a ≡ refused k) ↔ Refuses m (state-of
 
 pub accepted-exactly : (m : Memory) (s : State) (c : Call) → Accepts (delivered m .respond s c .answer) ↔ ((k : ℕ) → ¬ Refuses m (state-of s) c k)
 accepted-exactly m s c = subst (λ a. Accepts a ↔ ((k : ℕ) → ¬ Refuses m (state-of s) c k)) (sym (answer-meant m s c)) (calls.accepted-exactly m (state-of s) c)
+
+-- Lent states that read the same are answered the same.
+pub alike-answered : (m : Memory) (s t : State) → state-of s ≡ state-of t → (c : Call) → delivered m .respond s c .answer ≡ delivered m .respond t c .answer
+alike-answered m s t e c = answer-meant m s c ∙ (ap (λ x. call-on (table-held m) x c .answer) e ∙ sym (answer-meant m t c))
+
+-- An accepted release does not depend on what else an idle state holds.
+released-alike : (t : Table) (s : control.State) → s .running ≡ false → Accepts (call-on t s release .answer) → call-on t s release ≡ call-on t fresh release
+unfolding call-on
+released-alike t s e = by (plan-of t)
+  where
+    fits : (p : Plan) (b : Bool) (x : Reply control.State) → Accepts (pick b x (refuse s 13) .answer) → pick b x (refuse s 13) ≡ pick b x (refuse fresh 13)
+    fits p true x q = refl
+    fits p false x q = absurd q
+
+    idle : (p : Plan) (b : Bool) → b ≡ false → Accepts (by-phase p s release b .answer) → by-phase p s release b ≡ released p fresh
+    idle p false i q = fits p (leb (total C (main p) + p .switch) (p .deadline)) _ q
+    idle p true i q = let z : _≡_ {A = ℕ} 0 1 = cc in absurd (omega arith)
+
+    by : (o : Option Plan) → Accepts (on-plan s release o .answer) → on-plan s release o ≡ on-plan fresh release o
+    by none q = absurd q
+    by (some p) q = idle p (s .running) e q
+
+pub idle-released : (m : Memory) (s : State) → state-of s .running ≡ false → Accepts (delivered m .respond s release .answer) →
+    delivered m .respond s release ≡ delivered m .respond zeros release
+idle-released m s e q =
+    let a : Accepts (call-on (table-held m) (state-of s) release .answer) = subst Accepts (answer-meant m s release) q in
+    let i = released-alike (table-held m) (state-of s) e a in
+    let b : Accepts (call-on (table-held m) fresh release .answer) = subst (λ x. Accepts (x .answer)) i a in
+    let answer-same : delivered m .respond s release .answer ≡ delivered m .respond zeros release .answer =
+    answer-meant m s release ∙ (ap (λ x. x .answer) i ∙ sym (answer-meant m zeros release)) in
+    let state-same : delivered m .respond s release .state ≡ delivered m .respond zeros release .state =
+    accepted-leaves m s release a ∙ (ap (λ x. lent (x .state)) i ∙ sym (accepted-leaves m zeros release b)) in
+    λ j. record { state = state-same j; answer = answer-same j }
+
+-- An idle state is refused by 11 exactly where no reading left the memory as it is.
+pub broken-exactly : (m : Memory) (s : State) → state-of s .running ≡ false → (c : Call) →
+    (delivered m .respond s c .answer ≡ refused 11) ↔ ((text : List ℕ) (before : Memory) (p : Plan) → ReadAs text before p → ¬ (after-read text before ≡ m))
+broken-exactly m s e c = (
+  (λ q text before p r i. by refl (refused-exactly m s c 11 .0 q) (p, subst (TableOf p) i (read-holds text before p r))),
+  λ f. refused-exactly m s c 11 .1 (no-plan (λ p o. f (print p) m p (own-text p m o) (o .unchanged))),
+)
+  where
+    by : {c : Call} {k : ℕ} → k ≡ 11 → Refuses m (state-of s) c k → ¬ ((p : Plan) × TableOf p m)
+    by i (no-plan f) (p, o) = f p o
+    by i (nowhere u r f) w = let z : _≡_ {A = ℕ} 0 1 = cc in omega arith
+    by i (busy u) w = omega arith
+    by i (unfit u r f) w = omega arith
+    by i (idle-report u r) w = omega arith
+    by i (idle-end u r) w = omega arith
+    by i (stranger u f) w = omega arith
+    by i (backward-report u x l) w = omega arith
+    by i (backward-end u l) w = omega arith
+    by i (astray-report u x l f) w = omega arith
+    by i (astray-end u l f) w = omega arith
 
 -- On the table of an accepted plan a running state is refused by 11 exactly when no run stands where it stands.
 pub nowhere-exactly : (p : Plan) (m : Memory) → TableOf p m → (s : State) → state-of s .running ≡ true → (c : Call) →

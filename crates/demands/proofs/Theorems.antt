@@ -1,7 +1,7 @@
 -- What is promised of the calls that integrators link: the three demands, rule 11 and the marked cases. Statements alone: each proof names the lemma that
 -- shows it. `read-answer` and `after-read` are what the delivered `read` answers and leaves, `delivered` what `release`, `report` and `end` answer and leave
 -- (specs/Delivered), each by its contract. docs/BELIEVE.md lists every definition that these statements need.
-use mathlib.Core.Bool.{true}
+use mathlib.Core.Bool.{true, false}
 use mathlib.Core.List.{List, [], _∷_, _++_}
 use mathlib.Core.Logic.{_⊎_, _↔_}
 use mathlib.Core.Path.{_≡_}
@@ -11,25 +11,25 @@ use Rattle.model.specs.Plan.{Block, Plan}
 use Rattle.model.specs.Forms.{main}
 use Rattle.model.specs.Runs.{Run, visits}
 use Rattle.model.specs.Remaining.{Reported, Ended}
-use Rattle.model.specs.Acceptance.{sizes, Fits, Accepted}
+use Rattle.model.specs.Acceptance.{sizes}
 use Rattle.model.specs.Calls.{Call, release, report, end, refused, Accepts}
 use Rattle.model.specs.Timed.{Decision, PointOf, Fit, last-reading, Refusable, CallList, closed, opened, KeepsDeadline, Plays}
 use Rattle.model.specs.Histories.{Reached, Since}
 use Rattle.model.specs.Worked.{plan-A}
 use Rattle.model.proofs.Theorems as model
 use Rattle.reader.specs.Outcome as reader
-use Rattle.reader.specs.declared.Answer.the-variants as answers
-use Rattle.reader.specs.Print.{print}
-use Rattle.table.proofs.Theorems as table
+use Rattle.reader.specs.declared.Answer.the-variants as reading
 use Rattle.control.specs.Meaning.{StandsSomewhere, HistoryState}
-use Rattle.control.specs.Cases.{cases}
+use Rattle.control.specs.Cases.{worst-of-A, cases}
 use Rattle.rolsipay.specs.declared.State.{State}
 use Rattle.rolsipay.specs.Calling.{state-of}
 use Rattle.demands.specs.Delivered.{Memory, read-answer, after-read, ReadAs, zeros, delivered}
 use Rattle.demands.specs.Rules.{Ruled, TableOf, Refuses}
+use Rattle.demands.specs.Tables.{Numbers}
 use Rattle.demands.specs.Decisions.{Decided, Closes}
-use Rattle.demands.specs.Lists.{exchanges, text-A, worst-of-A}
+use Rattle.demands.specs.Lists.{exchanges, text-A}
 use Rattle.demands.specs.Cases.{EachRight}
+use Rattle.demands.proofs.Texts as texts
 use Rattle.demands.proofs.Tables as tables
 use Rattle.demands.proofs.Reached as reached
 use Rattle.demands.proofs.Delivered as delivering
@@ -40,11 +40,11 @@ use Rattle.demands.proofs.Cases as marked
 
 -- Consider any text and any lent memory. Reading refuses the text by a number and a line exactly when the rules say this number and line.
 pub plan-refused-exactly : (text : List ℕ) (m : Memory) (k j : ℕ) →
-    (read-answer text m ≡ answers.Refused k j) ↔ Ruled (length (m .row)) text (reader.refused k j)
+    (read-answer text m ≡ reading.Refused k j) ↔ Ruled (length (m .row)) text (reader.refused k j)
 plan-refused-exactly = tables.text-refused
 
 -- A refused plan leaves the lent memory exactly as it was: every record of the row, and the head.
-pub refused-plan-keeps-memory : (text : List ℕ) (m : Memory) (k j : ℕ) → read-answer text m ≡ answers.Refused k j → after-read text m ≡ m
+pub refused-plan-keeps-memory : (text : List ℕ) (m : Memory) (k j : ℕ) → read-answer text m ≡ reading.Refused k j → after-read text m ≡ m
 refused-plan-keeps-memory = tables.refused-leaves
 
 -- Consider any lent memory, any lent state and any call. It is refused by a number exactly when the rules refuse it by that number; so by one number only.
@@ -58,12 +58,12 @@ refused-call-keeps-state = delivering.refused-keeps
 -- DEMAND 2: ACCEPTED EXACTLY WHERE THE RULES ALLOW IT, REMAINING AND SUSPENSION
 
 -- A text is accepted exactly when it is read as a plan.
-pub plan-accepted-exactly : (text : List ℕ) (m : Memory) → (read-answer text m ≡ answers.Accepted) ↔ ((p : Plan) × ReadAs text m p)
+pub plan-accepted-exactly : (text : List ℕ) (m : Memory) → (read-answer text m ≡ reading.Accepted) ↔ ((p : Plan) × ReadAs text m p)
 plan-accepted-exactly = tables.text-accepted
 
--- It is read as the plan p exactly when it is the one text of p, p keeps the rules 3 to 10, and the lent row holds the leaves of p.
-pub read-as-exactly : (text : List ℕ) (m : Memory) (p : Plan) → ReadAs text m p ↔ ((text ≡ print p) × Accepted p × Fits (length (m .row)) p)
-read-as-exactly text m p = table.read-as-plan (length (m .row)) text p
+-- It is read as the plan p exactly when no rule refuses it and it is the one text of p.
+pub read-as-exactly : (text : List ℕ) (m : Memory) (p : Plan) → ReadAs text m p ↔ Ruled (length (m .row)) text (reader.plan p)
+read-as-exactly text m p = texts.text-exactly (length (m .row)) text (reader.plan p)
 
 -- The memory then holds the table of p, and the records past the last leaf of p keep their values.
 pub table-written : (text : List ℕ) (m : Memory) (p : Plan) → ReadAs text m p → TableOf p (after-read text m)
@@ -73,9 +73,24 @@ pub later-records-kept : (text : List ℕ) (m : Memory) (p : Plan) → ReadAs te
     drop (sizes (p .functions)) (after-read text m .row) ≡ drop (sizes (p .functions)) (m .row)
 later-records-kept = tables.later-records
 
+-- Memory that holds the table of p has p's D and T, its totals and its stretches in head and row; and it holds the table of one plan at most.
+pub table-says : (p : Plan) (m : Memory) → TableOf p m → Numbers p m
+table-says = tables.table-numbers
+
+pub table-of-one-plan : (p q : Plan) (m : Memory) → TableOf p m → TableOf q m → p ≡ q
+table-of-one-plan = tables.one-plan
+
 -- A call, in any lent memory and on any lent state, is accepted exactly when the rules refuse it by no number.
 pub call-accepted-exactly : (m : Memory) (s : State) (c : Call) → Accepts (delivered m .respond s c .answer) ↔ ((k : ℕ) → ¬ Refuses m (state-of s) c k)
 call-accepted-exactly = reached.accepted-exactly
+
+-- Lent states that read the same (any number but 0 says yes) are answered the same; and a release on any idle state is, once accepted, that on zeros.
+pub alike-answered : (m : Memory) (s t : State) → state-of s ≡ state-of t → (c : Call) → delivered m .respond s c .answer ≡ delivered m .respond t c .answer
+alike-answered = reached.alike-answered
+
+pub idle-as-fresh : (m : Memory) (s : State) → state-of s .running ≡ false → Accepts (delivered m .respond s release .answer) →
+    delivered m .respond s release ≡ delivered m .respond zeros release
+idle-as-fresh = reached.idle-released
 
 -- Consider lent memory that holds the table of the accepted plan p.
 module _ (p : Plan) (m : Memory) (o : TableOf p m) where
@@ -125,7 +140,7 @@ module _ (p : Plan) (m : Memory) (o : TableOf p m) where
 -- Consider any lent memory, any text that is read into it as a plan p, and let p's total + T be within its D. Every list of release, report and end calls on
 -- this memory that document 01 describes, from a state of zeros and with the others running, keeps the claim: every call of a timed run is accepted, each
 -- reading there is at most D and no late mark is set, and after each call, also a refused one, the others run exactly when no release is open or the
--- condition held at the open release and at every decision since.
+-- condition held at the open release and at every decision since. (Which plan a text is read as is said by `read-as-exactly`.)
 pub deadline-kept : (text : List ℕ) (m : Memory) (p : Plan) → ReadAs text m p → Fit p → KeepsDeadline p (delivered (after-read text m))
 deadline-kept text m p e f = delivering.keeps-deadline p (after-read text m) (table-written text m p e) f
 
@@ -157,10 +172,10 @@ worst-case-played m room = worst.worst-A (after-read text-A m) (table-written te
 
 -- RULE 11 AND THE MARKED CASES
 
--- Rule 11, the table: lent memory holds the table of an accepted plan exactly when some text, read into some memory, left it so.
-pub table-good-exactly : (m : Memory) →
-    ((p : Plan) × TableOf p m) ↔ ((text : List ℕ) × (before : Memory) × (p : Plan) × ReadAs text before p × (after-read text before ≡ m))
-table-good-exactly = tables.held-by-reading
+-- Rule 11, the table: every call on an idle state is refused by 11 exactly when no text, read into whatever memory, left this one.
+pub table-good-exactly : (m : Memory) (s : State) → state-of s .running ≡ false → (c : Call) →
+    (delivered m .respond s c .answer ≡ refused 11) ↔ ((text : List ℕ) (before : Memory) (p : Plan) → ReadAs text before p → ¬ (after-read text before ≡ m))
+table-good-exactly = reached.broken-exactly
 
 -- Rule 11, the state: on the table of an accepted plan every call on a running state is refused by 11 exactly when the state neither stands at the release
 -- with the times of the release, nor stands where some run of the plan stands, at its last point, open loops and calls with its visit counts, with that

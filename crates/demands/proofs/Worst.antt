@@ -1,8 +1,8 @@
 -- The worst case of plan A: a timed run in which every visit takes the most ticks that it may, and the switch too. Its answers are those of the marked
 -- case m3.
 use mathlib.Core.Bool.{Bool, true, false}
-use mathlib.Core.List.{List, [], _∷_, map}
-use mathlib.Core.Path.{_≡_, refl, ap, sym, subst}
+use mathlib.Core.List.{List, [], _∷_}
+use mathlib.Core.Path.{_≡_, refl, ap, subst}
 use Prim.Native.Nat.{ℕ, _+_, _≤_}
 use native.Mathlib.Omega.{arith}
 use Rattle.model.specs.Plan.{Block, Plan}
@@ -11,7 +11,7 @@ use Rattle.model.specs.Runs.{Run, ends, visit, leave, turn, visits}
 use Rattle.model.specs.Calls.{Call, release, report, end, Answer, Controller, others-after, clock-after}
 use Rattle.model.specs.Timed.{Phase, opened, closed, Open, cost, passed-point, passed-silent, CallList, stops, releases, silent-visit, point-visit}
 use Rattle.model.specs.Timed as timed
-use Rattle.model.specs.Histories.{answers}
+use Rattle.model.specs.Histories.{Exchange, _gets_, Answered}
 use Rattle.model.specs.Acceptance.{size, sizes}
 use Rattle.model.specs.Worked.{plan-A, point-block, silent-block}
 use Rattle.model.proofs.Worked.{plan-A-accepted}
@@ -21,8 +21,8 @@ use Rattle.reader.specs.Print as printed
 use Rattle.reader.specs.Print.{forms-all, forms-of, join-all, print}
 use Rattle.table.specs.Reading.{verdict}
 use Rattle.table.proofs.Theorems as table
-use Rattle.control.specs.Cases.{cases}
-use Rattle.demands.specs.Lists.{Exchange, _gets_, exchanges, text-A, worst-of-A}
+use Rattle.control.specs.Cases.{worst-of-A, cases}
+use Rattle.demands.specs.Lists.{exchanges, text-A}
 use Rattle.demands.specs.Delivered.{Memory, zeros, delivered}
 use Rattle.demands.specs.Rules.{TableOf}
 use Rattle.demands.specs.Cases.{EachRight}
@@ -33,19 +33,15 @@ module _ {S : Type 0} (p : Plan) (k : Controller S) where
   abbrev Played : S → Bool → Phase → List Exchange → Type 0
   Played s others phase xs = (z : CallList p k s others phase) × (exchanges p k z ≡ xs)
 
-  -- The calls of these exchanges, made from a state on, have these answers.
-  abbrev Answered : S → List Exchange → Type 0
-  Answered s xs = answers k s (map (λ x. x .call) xs) ≡ map (λ x. x .answer) xs
-
   -- The first answer, and those behind it.
-  first-answer : (s : S) (c : Call) (a : Answer) (xs : List Exchange) → Answered s ((c gets a) ∷ xs) → (k .respond s c .answer ≡ a) × Answered (k .respond s c .state) xs
-  unfolding answers
-  first-answer s c a xs e = (cc, cc)
+  first-answer : (s : S) (c : Call) (a : Answer) (xs : List Exchange) → Answered k s ((c gets a) ∷ xs) → (k .respond s c .answer ≡ a) × Answered k (k .respond s c .state) xs
+  unfolding Answered
+  first-answer s c a xs e = e
 
   -- Lists that begin with a release, a silent visit, a point's visit and an end, where the answers are known.
   release-played : {s : S} {others : Bool} {a : Answer} {xs : List Exchange} (r : Run (main p)) (switch : ℕ) → switch ≤ p .switch →
-      Answered s ((release gets a) ∷ xs) →
-      (Answered (k .respond s release .state) xs →
+      Answered k s ((release gets a) ∷ xs) →
+      (Answered k (k .respond s release .state) xs →
       Played (k .respond s release .state) (others-after a others) (opened (timed.released (clock-after a switch 0) (visits r))) xs) →
       Played s others closed ((release gets a) ∷ xs)
   unfolding exchanges
@@ -60,8 +56,8 @@ module _ {S : Type 0} (p : Plan) (k : Controller S) where
   silent-played b w ticks d q h (z, i) = (silent-visit b w ticks d q h z, i)
 
   point-played : {s : S} {others : Bool} {o : Open} {a : Answer} {xs : List Exchange} (b : Block) (w : List Block) (switch ticks : ℕ) →
-      o .to-come ≡ b ∷ w → b .point ≡ true → switch ≤ p .switch → Answered s ((report (b .number) (o .clock) gets a) ∷ xs) → ticks ≤ cost (others-after a others) b →
-      (Answered (k .respond s (report (b .number) (o .clock)) .state) xs →
+      o .to-come ≡ b ∷ w → b .point ≡ true → switch ≤ p .switch → Answered k s ((report (b .number) (o .clock) gets a) ∷ xs) → ticks ≤ cost (others-after a others) b →
+      (Answered k (k .respond s (report (b .number) (o .clock)) .state) xs →
       Played (k .respond s (report (b .number) (o .clock)) .state) (others-after a others) (opened (passed-point o (b .number) w (clock-after a switch (o .clock) + ticks))) xs) →
       Played s others (opened o) ((report (b .number) (o .clock) gets a) ∷ xs)
   unfolding exchanges
@@ -71,7 +67,7 @@ module _ {S : Type 0} (p : Plan) (k : Controller S) where
       subst (λ y. ticks ≤ cost (others-after y others) b → Played (k .respond s c .state) (others-after y others) (opened (passed-point o (b .number) w (clock-after y switch (o .clock) + ticks))) xs → Played s others (opened o) ((c gets y) ∷ xs)) i
       (λ l (z, v). (point-visit b w switch ticks d q h l z, ap (λ l. (c gets k .respond s c .answer) ∷ l) v)) l (f j)
 
-  end-played : {s : S} {others : Bool} {o : Open} {a : Answer} → o .to-come ≡ [] → Answered s ((end (o .clock) gets a) ∷ []) →
+  end-played : {s : S} {others : Bool} {o : Open} {a : Answer} → o .to-come ≡ [] → Answered k s ((end (o .clock) gets a) ∷ []) →
       Played s others (opened o) ((end (o .clock) gets a) ∷ [])
   unfolding exchanges
   end-played {s} {others} {o} {a} d e = (timed.ends d stops, ap (λ y. (end (o .clock) gets y) ∷ []) (first-answer s (end (o .clock)) a [] e .0))
@@ -82,7 +78,7 @@ unfolding plan-A forms linked last
 run-A = visit (turn (visit ends) (turn (visit ends) (turn (visit ends) (leave (visit ends)))))
 
 -- The list of calls that it makes, where the calls have these answers.
-played-A : {S : Type 0} (k : Controller S) (s : S) → Answered plan-A k s worst-of-A → Played plan-A k s true closed worst-of-A
+played-A : {S : Type 0} (k : Controller S) (s : S) → Answered k s worst-of-A → Played plan-A k s true closed worst-of-A
 unfolding run-A worst-of-A plan-A forms linked last visits
 played-A k s e =
     release-played plan-A k run-A 0 (omega arith) e (λ e.
@@ -98,9 +94,9 @@ played-A k s e =
     end-played plan-A k refl e))))))))))
 
 -- The answers are those of m3.
-answers-A : (m : Memory) → TableOf plan-A m → Answered plan-A (delivered m) zeros worst-of-A
-unfolding worst-of-A cases EachRight
-answers-A m o = each-right .2 .2 .2 .1 m o .answers-are
+answers-A : (m : Memory) → TableOf plan-A m → Answered (delivered m) zeros worst-of-A
+unfolding cases EachRight
+answers-A m o = each-right .2 .2 .2 .1 m o .answered
 
 -- In every memory that holds the table of plan A there is a list of calls with these exchanges.
 pub worst-A : (m : Memory) → TableOf plan-A m → Played plan-A (delivered m) zeros true closed worst-of-A

@@ -4,7 +4,7 @@ use mathlib.Core.List.{List, [], _∷_, map}
 use mathlib.Core.Path.{_≡_}
 use lib.ListN.{take}
 use Rattle.model.specs.Acceptance.{Accepted}
-use Rattle.model.specs.Histories.{answers}
+use Rattle.model.specs.Histories.{Answered}
 use Rattle.control.specs.Cases.{Case}
 use Rattle.rolsipay.specs.declared.Leaf.{Leaf}
 use Rattle.demands.specs.Delivered.{Memory, zeros, delivered}
@@ -15,7 +15,7 @@ pub record RightIn (m : Memory) (c : Case) : Type 0 where
   pub total-is : m .head .total ≡ c .total
   pub max-total-is : m .head .loaded ≡ c .max-total
   pub stretches-are : map (λ (l : Leaf). l .stretch) (take (m .head .leaves) (m .row)) ≡ c .stretches
-  pub answers-are : answers (delivered m) zeros (c .calls) ≡ c .expected
+  pub answered : Answered (delivered m) zeros (c .exchanges)
 
 -- Each case's plan is accepted, and the case holds in every memory that holds its plan's table.
 unfoldable pub EachRight : List Case → Type 0

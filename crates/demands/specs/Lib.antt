@@ -1,5 +1,6 @@
 pub mod Delivered
 pub mod Rules
+pub mod Tables
 pub mod Decisions
 pub mod Lists
 pub mod Cases

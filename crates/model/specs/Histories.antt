@@ -1,9 +1,20 @@
--- Histories of calls, for any controller: the states that calls lead to from a fresh one, and the answers on the way.
+-- Histories of calls, for any controller: the states that calls lead to from a fresh one, and calls with their answers.
 -- Assumes nothing: these are definitions.
 use mathlib.Core.List.{List, [], _∷_, _++_}
+use mathlib.Core.Path.{_≡_}
 use Prim.Native.Nat.{ℕ}
 use Rattle.model.specs.Calls.{Call, release, report, Answer, Accepts, Controller}
 use Rattle.model.specs.Timed.{Decision}
+
+-- A call and its answer.
+pub record Exchange : Type 0 where
+  pub call : Call
+  pub answer : Answer
+
+infixl 20 _gets_
+-- The call c with the answer a.
+abbrev pub _gets_ : Call → Answer → Exchange
+c gets a = record { call = c; answer = a }
 
 module _ {S : Type 0} (k : Controller S) where
   -- The states that calls lead to, whatever the calls: a fresh one first, then the one that the last call returned or left.
@@ -19,7 +30,7 @@ module _ {S : Type 0} (k : Controller S) where
     reported : {s : S} {h : List ℕ} {ds : List Decision} → Since s h ds → (n r : ℕ) → Accepts (k .respond s (report n r) .answer) →
         Since (k .respond s (report n r) .state) (h ++ (n ∷ [])) (record { history = h ++ (n ∷ []); reading = r } ∷ ds)
 
-  -- The answers to calls, one after the other, each on the state that the last one left.
-  unfoldable pub answers : S → List Call → List Answer
-  answers s [] = []
-  answers s (c ∷ cs) = k .respond s c .answer ∷ answers (k .respond s c .state) cs
+  -- These calls, made one after the other from a state on, each on the state that the last one left, have these answers.
+  unfoldable pub Answered : S → List Exchange → Type 0
+  Answered s [] = Unit
+  Answered s (x ∷ xs) = (k .respond s (x .call) .answer ≡ x .answer) × Answered (k .respond s (x .call) .state) xs

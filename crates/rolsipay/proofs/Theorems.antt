@@ -145,7 +145,7 @@ same-leaves (u ∷ us) (v ∷ vs) e f g h =
     } ∷ rest j
 
 -- A column of the first leaves of a row.
-take-map : (f : Leaf → ℕ) (n : ℕ) (ls : List Leaf) → take n (map f ls) ≡ map f (take n ls)
+pub take-map : (f : Leaf → ℕ) (n : ℕ) (ls : List Leaf) → take n (map f ls) ≡ map f (take n ls)
 take-map f zero ls = refl
 take-map f (suc n) [] = refl
 take-map f (suc n) (l ∷ ls) = ap (λ (r : List ℕ). f l ∷ r) (take-map f n ls)
