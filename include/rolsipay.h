@@ -1,13 +1,13 @@
 /* Rolsipay: the run-time controller of one critical task, from C (C99).
  *
  * A plan's text is read once into a row of leaf records and a head, both lent by the caller. Then come calls: release, report of a point with a
- * reading, and end with a reading. The running state lies in the caller's memory and is moved on there. No call keeps a pointer, allocates memory or
- * fails by a signal.
+ * reading, and end with a reading. The running state lies in the caller's memory and is moved on there. No call keeps a pointer or allocates memory.
  *
- * What a caller must ensure: each pointer is valid for its whole struct, or for as many records or bytes as the count beside it says (a pointer
- * beside the count 0 must still not be null), is aligned for it, and nobody else writes that memory during the call. What a call writes (row and
- * head of rolsipay_read, state of the others) must not overlap with what else it is given. Nothing is asked of the contents: any bytes in text, row,
- * head and state are answered, by a refusal where they are no plan, no plan's table or no state of it. The stack has room for the call (below).
+ * What a caller must ensure: the stack has room for the call (ROLSIPAY_STACK_READ, ROLSIPAY_STACK_CALL); each pointer is valid for its whole struct, or for
+ * as many records or bytes as the count beside it says (a pointer beside the count 0 must still not be null), is aligned for it, and nobody else writes that
+ * memory during the call. What a call writes (row and head of rolsipay_read, state of the others) must not overlap with what else it is given. Nothing is
+ * asked of the contents: any bytes in text, row, head and state are answered, by a refusal where they are no plan, no plan's table or no state of it. Where
+ * this holds no call fails by a signal.
  *
  * Platform: librolsipay.a is x86-64 code, ELF objects with the calling convention of System V; the calls use the vector registers of SSE2, which every
  * such processor has, and nothing newer. They need memcpy and memset from the C library, nothing else: no system call, no thread-local memory.
@@ -26,7 +26,7 @@
 extern "C" {
 #endif
 
-/* The version of this header and of the library beside it, to be compared by #if: 10000 * major + 100 * minor + patch. */
+/* The version of this header, to be compared by #if: 10000 * major + 100 * minor + patch. The library carries none: take both from one dist/. */
 #define ROLSIPAY_VERSION 10000            /* 1.0.0 */
 
 /* The most stack that a call takes, in bytes, whatever it is given; docs/MEMORY.md tells how it was measured. */

@@ -1,4 +1,4 @@
-/* What the example programs share: how an answer is printed, and how a plan's file is read into the lent row and head. */
+/* What the example programs share: the lent memory and the calls on it, how an answer is printed, and how a plan's file is read. */
 #ifndef ANSWERS_H
 #define ANSWERS_H
 
@@ -10,11 +10,32 @@
 
 static rolsipay_leaf row[ROLSIPAY_LEAVES];
 static rolsipay_head head;
+static rolsipay_state state;
+
+/* The words of replies, by their numbers. */
+static const char *const words[] = {"refused", "go", "suspend", "stay", "resume", "ended"};
+
+/* Releases on the lent memory. */
+static rolsipay_reply release(void)
+{
+    return rolsipay_release(row, ROLSIPAY_LEAVES, &head, &state);
+}
+
+/* Reports a point with a reading. */
+static rolsipay_reply report(uint64_t point, uint64_t reading)
+{
+    return rolsipay_report(row, ROLSIPAY_LEAVES, &head, &state, point, reading);
+}
+
+/* Ends with a reading. */
+static rolsipay_reply end(uint64_t reading)
+{
+    return rolsipay_end(row, ROLSIPAY_LEAVES, &head, &state, reading);
+}
 
 /* Prints an answer as one line: the word, remaining and margin, then 1 if late, else 0; for the end the word and the late mark; or `refused` and the number. */
 static void print(rolsipay_reply reply)
 {
-    static const char *const words[] = {"refused", "go", "suspend", "stay", "resume", "ended"};
     if (reply.word == ROLSIPAY_REFUSED)
         printf("refused %" PRIu64 "\n", reply.number);
     else if (reply.word == ROLSIPAY_RESUME || reply.word == ROLSIPAY_ENDED)

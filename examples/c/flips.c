@@ -1,48 +1,45 @@
-/* Flips each bit of plan A's row, head and state, one at a time, makes the call that comes next, and counts the answers: how often a refusal's number, how
- * often a word that is not the right answer or not with its numbers, and how often the right answer all the same. */
-#include "rolsipay.h"
+/* Flips each bit of plan A's row, head and state, one at a time, makes a call on them, and counts the answers: how often a refusal's number, how often a word
+ * that is not the right answer or not with its numbers, and how often the right answer all the same. The calls are the release, the third visit of the loop
+ * and the end of the run where every visit takes its full cost. Before two further calls there, a first visit at 29 and an end at 101, D and T alone are
+ * flipped. It is run at the top of the repository. */
+#include "answers.h"
 
-#include <inttypes.h>
-#include <stdio.h>
-#include <string.h>
+enum { WORDS = sizeof words / sizeof *words, REFUSALS = 18 };
 
-enum { LEAVES = 4, WORDS = 6, REFUSALS = 18 };
+/* A call with its point and its reading. */
+typedef rolsipay_reply next_call(void);
 
-typedef rolsipay_reply call_on(rolsipay_state *at);
-
-static const uint8_t text[] = "(task 100 4\n(fun\n(leaf p 5 9)\n(loop p 3 2 4\n(leaf s 10 20)\n)\n(leaf s 6 8)\n)\n)\n";
-
-static rolsipay_leaf row[LEAVES];
-static rolsipay_head head;
-static rolsipay_state state;
-
-static rolsipay_reply release(rolsipay_state *at)
+/* The first visit of the loop, one tick after it could go on. */
+static rolsipay_reply first_visit_at_29(void)
 {
-    return rolsipay_release(row, LEAVES, &head, at);
+    return report(1, 29);
 }
 
-static rolsipay_reply report(rolsipay_state *at, uint64_t point, uint64_t reading)
+/* The third visit, which suspends. */
+static rolsipay_reply third_visit_at_57(void)
 {
-    return rolsipay_report(row, LEAVES, &head, at, point, reading);
-}
-
-/* The report that suspends. */
-static rolsipay_reply third_visit(rolsipay_state *at)
-{
-    return report(at, 1, 57);
+    return report(1, 57);
 }
 
 /* The end of the run. */
-static rolsipay_reply end(rolsipay_state *at)
+static rolsipay_reply end_at_81(void)
 {
-    return rolsipay_end(row, LEAVES, &head, at, 81);
+    return end(81);
 }
 
-/* A call on a copy of the state, so that every flip meets the same one. */
-static rolsipay_reply tried(call_on *call)
+/* An end that is late. */
+static rolsipay_reply end_at_101(void)
 {
-    rolsipay_state copy = state;
-    return call(&copy);
+    return end(101);
+}
+
+/* The answer to a call, with the state set back behind it, so that every flip meets the same one. */
+static rolsipay_reply tried(next_call *call)
+{
+    rolsipay_state before = state;
+    rolsipay_reply reply = call();
+    state = before;
+    return reply;
 }
 
 /* Whether two answers are one, with all their numbers. */
@@ -52,16 +49,16 @@ static int same(rolsipay_reply a, rolsipay_reply b)
 }
 
 /* Flips each bit of this memory, makes the call on it, and prints the counts that are not 0. */
-static void flip(const char *what, void *memory, size_t bytes, call_on *call)
+static void flip(const char *what, void *memory, size_t bytes, next_call *call)
 {
-    static const char *const words[WORDS] = {"refused", "go", "suspend", "stay", "resume", "ended"};
     unsigned refused[REFUSALS] = {0}, other[WORDS] = {0}, right = 0;
     uint8_t *at = memory;
     rolsipay_reply wanted = tried(call);
     for (size_t bit = 0; bit < 8 * bytes; bit++) {
+        uint8_t kept = at[bit / 8];
         at[bit / 8] ^= (uint8_t)(1u << bit % 8);
         rolsipay_reply reply = tried(call);
-        at[bit / 8] ^= (uint8_t)(1u << bit % 8);
+        at[bit / 8] = kept;
         if (same(reply, wanted))
             right++;
         else if (reply.word == ROLSIPAY_REFUSED)
@@ -83,8 +80,21 @@ static void flip(const char *what, void *memory, size_t bytes, call_on *call)
 
 #define FLIP(part, call) flip(#part, &part, sizeof part, call)
 
-static void flip_state(call_on *call)
+/* Prints the call's right answer, and flips D and T before it. */
+static void flip_limits(const char *name, next_call *call)
 {
+    printf("%s: ", name);
+    print(tried(call));
+    FLIP(head.deadline, call);
+    FLIP(head.switching, call);
+}
+
+/* Prints the call's right answer, and flips before it D and T, then the rest of the head, the row of the plan's leaves, and the state. */
+static void flip_all(const char *name, next_call *call)
+{
+    flip_limits(name, call);
+    flip("the rest of head", &head.total, sizeof head - offsetof(rolsipay_head, total), call);
+    flip("row", row, head.leaves * sizeof *row, call);
     FLIP(state.running, call);
     FLIP(state.suspended, call);
     FLIP(state.reading, call);
@@ -94,30 +104,20 @@ static void flip_state(call_on *call)
     FLIP(state.times, call);
 }
 
-static void flip_limits(call_on *call)
-{
-    FLIP(head.deadline, call);
-    FLIP(head.switching, call);
-}
-
 int main(void)
 {
-    if (rolsipay_read(text, sizeof text - 1, row, LEAVES, &head).number != 0)
+    if (read_plan("examples/plan-a.plan", ROLSIPAY_LEAVES).number != 0)
         return 1;
-    printf("release\n");
-    FLIP(row, release);
-    flip_limits(release);
-    flip("the rest of head", &head.total, sizeof head - offsetof(rolsipay_head, total), release);
-    release(&state);
-    report(&state, 0, 0);
-    report(&state, 1, 9);
-    report(&state, 1, 33);
-    printf("report 1 at 57\n");
-    flip_limits(third_visit);
-    flip_state(third_visit);
-    third_visit(&state);
-    report(&state, 1, 73);
-    printf("end at 81\n");
-    flip_state(end);
+    flip_all("release", release);
+    release();
+    report(0, 0);
+    flip_limits("report 1 at 29", first_visit_at_29);
+    report(1, 9);
+    report(1, 33);
+    flip_all("report 1 at 57", third_visit_at_57);
+    report(1, 57);
+    report(1, 73);
+    flip_all("end at 81", end_at_81);
+    flip_limits("end at 101", end_at_101);
     return 0;
 }

@@ -7,11 +7,13 @@
 /* What a step of a run calls; the release comes first, unasked. */
 enum kind { STOP, REPORT, END };
 
+/* A step of a run. */
 struct step {
     enum kind kind;
     uint64_t reading, point;
 };
 
+/* A run: its name, the file of its plan, and its steps. */
 struct run {
     const char *name, *plan;
     struct step steps[9];
@@ -33,17 +35,17 @@ static const struct run runs[] = {
     {"trap 4", "examples/traps/4-visits.plan", {R(2, 0), R(0, 0), R(0, 22), R(3, 24), R(0, 24), R(0, 46), E(48)}},
 };
 
+/* Plays a run from a fresh state. */
 static void play(const struct run *run)
 {
-    rolsipay_state state;
     memset(&state, 0, sizeof state);
     printf("%s\n", run->name);
-    print(rolsipay_release(row, ROLSIPAY_LEAVES, &head, &state));
+    print(release());
     for (const struct step *step = run->steps; step->kind != STOP; step++)
         if (step->kind == REPORT)
-            print(rolsipay_report(row, ROLSIPAY_LEAVES, &head, &state, step->point, step->reading));
+            print(report(step->point, step->reading));
         else
-            print(rolsipay_end(row, ROLSIPAY_LEAVES, &head, &state, step->reading));
+            print(end(step->reading));
 }
 
 int main(void)

@@ -8,16 +8,14 @@ struct report {
     uint64_t point, reading;
 };
 
-/* Plays the reports from a fresh state, and leaves the state behind them. */
-static rolsipay_state play(const char *name, const struct report *reports, size_t count)
+/* Plays the reports from a fresh state. */
+static void play(const char *name, const struct report *reports, size_t count)
 {
-    rolsipay_state state;
     memset(&state, 0, sizeof state);
     printf("%s\n", name);
-    print(rolsipay_release(row, ROLSIPAY_LEAVES, &head, &state));
+    print(release());
     for (size_t i = 0; i < count; i++)
-        print(rolsipay_report(row, ROLSIPAY_LEAVES, &head, &state, reports[i].point, reports[i].reading));
-    return state;
+        print(report(reports[i].point, reports[i].reading));
 }
 
 #define PLAY(name, reports) play(name, reports, sizeof reports / sizeof *reports)
@@ -42,8 +40,8 @@ int main(int argc, char **argv)
     PLAY("m1 m4 m5", m1_m4_m5);
     PLAY("m2", m2_goes);
     PLAY("m2", m2_suspends);
-    rolsipay_state state = PLAY("m3", m3);
-    print(rolsipay_end(row, ROLSIPAY_LEAVES, &head, &state, 81));
+    PLAY("m3", m3);
+    print(end(81));
     PLAY("m5", m5_suspends);
     return 0;
 }

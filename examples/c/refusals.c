@@ -4,23 +4,7 @@
 
 #include <string.h>
 
-static rolsipay_state state;
-
-static rolsipay_reply release(void)
-{
-    return rolsipay_release(row, ROLSIPAY_LEAVES, &head, &state);
-}
-
-static rolsipay_reply report(uint64_t point, uint64_t reading)
-{
-    return rolsipay_report(row, ROLSIPAY_LEAVES, &head, &state, point, reading);
-}
-
-static rolsipay_reply end(uint64_t reading)
-{
-    return rolsipay_end(row, ROLSIPAY_LEAVES, &head, &state, reading);
-}
-
+/* Prints what was called, and its answer. */
 static void show(const char *what, rolsipay_reply reply)
 {
     printf("%s: ", what);
@@ -34,6 +18,7 @@ static void begin(void)
     release();
 }
 
+/* A table, then a running state, with one number changed, and the state mended. */
 static void broken(void)
 {
     row[2].isolated = 11;
@@ -46,6 +31,7 @@ static void broken(void)
     show("mended, report 0 at 0", report(0, 0));
 }
 
+/* Calls without a release, and a release on top of one. */
 static void idle_and_busy(void)
 {
     memset(&state, 0, sizeof state);
@@ -55,6 +41,7 @@ static void idle_and_busy(void)
     show("busy, release after a release", release());
 }
 
+/* Numbers that are no point of plan A. */
 static void strangers(void)
 {
     begin();
@@ -62,6 +49,7 @@ static void strangers(void)
     show("stranger, report 4, no leaf, at 0", report(4, 0));
 }
 
+/* Readings below the last one, and one that is equal. */
 static void backward(void)
 {
     begin();
@@ -71,6 +59,7 @@ static void backward(void)
     show("equal, report 1 at 5 after report 0 at 5", report(1, 5));
 }
 
+/* Reports and ends that no run has. */
 static void astray(void)
 {
     begin();

@@ -56,8 +56,8 @@ static void play(const struct nesting *nesting, const char *what)
     expect(level == 1 ? 0 : ROLSIPAY_ASTRAY, END, 0, what);
 }
 
-/* Every mix of ifs and loops that the brackets and levels allow and no further loop fits into: all orders, then and else parts, points and silent leaves, with
- * an empty innermost body or, where level 32 leaves room, a leaf in it. */
+/* Every mix of ifs and loops that the brackets and levels allow and no further loop fits into: in three orders, with then and else parts, points and silent
+ * leaves, with an empty innermost body or, where level 32 leaves room, a leaf in it. */
 static void mixes(void)
 {
     for (int ifs = 0; ifs <= 31; ifs++) {

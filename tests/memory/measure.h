@@ -11,9 +11,11 @@
 #include <stdio.h>
 #include <stdlib.h>
 #include <string.h>
+#include <sys/mman.h>
 
-/* Far more than any call takes: one that took more would end the test by a signal. */
+/* Far more than any call takes. Below it lies a page that nobody may write, so that a call that took more would end the test by a signal. */
 #define STACK (1 << 19)
+#define PAGE 4096
 
 /* The delivered calls. */
 enum call { READ, RELEASE, REPORT, END, CALLS };
@@ -56,6 +58,22 @@ static void *run(void *given)
     return NULL;
 }
 
+/* Ends the test with a failure, once standard error has what is missing. */
+static void missing(const char *what)
+{
+    perror(what);
+    exit(2);
+}
+
+/* Makes a stack with the page below it. */
+static unsigned char *guarded(void)
+{
+    unsigned char *page = mmap(NULL, PAGE + STACK, PROT_READ | PROT_WRITE, MAP_PRIVATE | MAP_ANONYMOUS, -1, 0);
+    if (page == MAP_FAILED || mprotect(page, PAGE, PROT_NONE) != 0)
+        missing("no stack");
+    return page + PAGE;
+}
+
 /* Runs the job on a stack of this paint, and gives how far below its top the paint is gone. */
 static size_t painted(struct job *job, int paint)
 {
@@ -64,13 +82,11 @@ static size_t painted(struct job *job, int paint)
     pthread_t thread;
     size_t kept = 0;
     if (stack == NULL)
-        stack = aligned_alloc(4096, STACK);
+        stack = guarded();
     memset(stack, paint, STACK);
     pthread_attr_init(&attributes);
-    if (pthread_attr_setstack(&attributes, stack, STACK) != 0 || pthread_create(&thread, &attributes, run, job) != 0) {
-        fputs("no thread\n", stderr);
-        exit(2);
-    }
+    if (pthread_attr_setstack(&attributes, stack, STACK) != 0 || pthread_create(&thread, &attributes, run, job) != 0)
+        missing("no thread");
     pthread_join(thread, NULL);
     pthread_attr_destroy(&attributes);
     while (stack[kept] == paint)
