@@ -19,7 +19,7 @@ def fail(why):
 
 
 def text_of(path):
-    return pathlib.Path(path).read_text() if pathlib.Path(path).is_file() else fail(f"there is no file {path}")
+    return pathlib.Path(path).read_text(encoding="utf-8") if pathlib.Path(path).is_file() else fail(f"there is no file {path}")
 
 
 def tokens(lines):

@@ -82,10 +82,10 @@ plan-told (plan p) h e = (p, refl)
 plan-told (refused k j) h e = let z : _≡_ {A = ℕ} 0 1 = cc in absurd (omega arith)
 
 -- It is refused by k at line j exactly when the rules say so.
-pub text-refused : (text : List ℕ) (m : Memory) (k j : ℕ) → (read-answer text m ≡ reading.Refused k j) ↔ Ruled (length (m .row)) text (refused k j)
+pub text-refused : (text : List ℕ) (m : Memory) (k j : ℕ) → (read-answer text m ≡ reading.Refused k j) ↔ Ruled (length (m .row)) text k j
 text-refused text m k j = (
-  (λ e. text-exactly (length (m .row)) text (refused k j) .0 (refusal-told (verdict (length (m .row)) text) (m .head) k j e)),
-  λ w. ap (λ o. verdict-of o (m .head) .answer) (text-exactly (length (m .row)) text (refused k j) .1 w),
+  (λ e. text-exactly (length (m .row)) text k j .0 (refusal-told (verdict (length (m .row)) text) (m .head) k j e)),
+  λ w. ap (λ o. verdict-of o (m .head) .answer) (text-exactly (length (m .row)) text k j .1 w),
 )
 
 -- It is accepted exactly when it is read as a plan.

@@ -1,4 +1,4 @@
--- What the rules say of a text is what the reader says of it.
+-- A text is refused by the reader exactly as the rules say.
 use mathlib.Core.Bool.{Bool, true, false, _&&_}
 use mathlib.Core.List.{List, []}
 use mathlib.Core.Logic.{_⊎_, _↔_, inl, inr}
@@ -22,8 +22,7 @@ use Rattle.refusals.proofs.Theorems as refusals
 use Rattle.table.specs.Accepting.{seen-all?, called-from?, short?}
 use Rattle.table.specs.Reading.{judged, after-lines, verdict}
 use Rattle.table.proofs.Accepting.{seen-all-exactly, called-exactly}
-use Rattle.table.proofs.Theorems as table
-use Rattle.demands.specs.Rules.{Read, Ruled, accepted, oversize, line-refused, unseen, uncalled, long}
+use Rattle.demands.specs.Rules.{Read, Ruled, oversize, line-refused, unseen, uncalled, long}
 use Rattle.demands.proofs.Tests.{failed, fails}
 
 -- FROM THE RULES TO THE READER
@@ -53,17 +52,16 @@ not-short p r (inr h) =
     by true e = e
     by false e = refl
 
--- What the rules say is what the reader says.
-ruled-verdict : (capacity : ℕ) (text : List ℕ) (o : Outcome) → Ruled capacity text o → verdict capacity text ≡ o
-ruled-verdict capacity text o (accepted {p = p} e a f) = table.read-as-plan capacity text p .1 (e, a, f)
-ruled-verdict capacity text o (oversize h) = rw (outcome-long capacity text h)
-ruled-verdict capacity text o (line-refused {k = k} {j = j} h x) = ap (λ o. after-lines o) (refusals.refused-exactly capacity text k j h .1 x)
-ruled-verdict capacity text o (unseen {p = p} r f) =
+-- What the rules refuse the reader refuses.
+ruled-verdict : (capacity : ℕ) (text : List ℕ) (k j : ℕ) → Ruled capacity text k j → verdict capacity text ≡ refused k j
+ruled-verdict capacity text k j (oversize h) = rw (outcome-long capacity text h)
+ruled-verdict capacity text k j (line-refused h x) = ap (λ o. after-lines o) (refusals.refused-exactly capacity text k j h .1 x)
+ruled-verdict capacity text k j (unseen {p = p} r f) =
     read-outcome capacity text p r ∙ rw (fails (seen-all? [] (p .functions)) (seen-all-exactly [] (p .functions)) f)
-ruled-verdict capacity text o (uncalled {p = p} r a f) =
+ruled-verdict capacity text k j (uncalled {p = p} r a f) =
     read-outcome capacity text p r ∙
     rw (seen-all-exactly [] (p .functions) .1 a, fails (called-from? (p .functions) 0 (length (p .functions) - 1)) (called-exactly (p .functions)) f)
-ruled-verdict capacity text o (long {p = p} r a b x h) =
+ruled-verdict capacity text k j (long {p = p} r a b x h) =
     read-outcome capacity text p r ∙ rw (seen-all-exactly [] (p .functions) .1 a, called-exactly (p .functions) .1 b, not-short p x h)
 
 -- FROM THE READER TO THE RULES
@@ -78,16 +76,19 @@ over p e = by (leb (total C (main p)) (2 ^ 40)) refl (leb (total M (main p)) (2 
     by true d false h e = let (r, q) = model.total-is-largest p .1 .met in (r, inr (omega (arith, q, leb-false (total M (main p)) (2 ^ 40) h)))
     by false d y h e = let (r, q) = model.total-is-largest p .0 .met in (r, inl (omega (arith, q, leb-false (total C (main p)) (2 ^ 40) d)))
 
--- What the tests say is what rules 8, 9 and 10 say.
-judged-ruled : (capacity : ℕ) (text : List ℕ) (p : Plan) → Read capacity text p → Ruled capacity text (judged p)
+-- What is found is a plan, or a refusal that the rules say.
+abbrev Found : ℕ → List ℕ → Outcome → Type 0
+Found capacity text (plan p) = Unit
+Found capacity text (refused k j) = Ruled capacity text k j
+
+-- What the tests refuse rules 8, 9 and 10 refuse.
+judged-ruled : (capacity : ℕ) (text : List ℕ) (p : Plan) → Read capacity text p → Found capacity text (judged p)
 judged-ruled capacity text p r =
     by (seen-all? [] (p .functions)) refl (called-from? (p .functions) 0 (length (p .functions) - 1)) refl (short? p) refl
   where
     by : (x : Bool) → seen-all? [] (p .functions) ≡ x → (y : Bool) → called-from? (p .functions) 0 (length (p .functions) - 1) ≡ y →
-        (z : Bool) → short? p ≡ z → Ruled capacity text (Tests p x y z)
-    by true d true h true i =
-        let v : verdict capacity text ≡ plan p = read-outcome capacity text p r ∙ rw (d, h, i) in
-        accepted (r .text-is) (table.read-as-plan capacity text p .0 v .1) (r .fits)
+        (z : Bool) → short? p ≡ z → Found capacity text (Tests p x y z)
+    by true d true h true i = tt
     by true d true h false i =
         let (q, w) = over p i in
         long r (seen-all-exactly [] (p .functions) .0 d) (called-exactly (p .functions) .0 h) q w
@@ -95,23 +96,23 @@ judged-ruled capacity text p r =
     by false d y h z i = unseen r (failed _ (seen-all-exactly [] (p .functions)) d)
 
 -- A refusal by the reader is by 1, of an oversize text, or by one of 2 to 7.
-reader-ruled : (capacity : ℕ) (text : List ℕ) (k j : ℕ) → outcome capacity text ≡ refused k j → Ruled capacity text (refused k j)
+reader-ruled : (capacity : ℕ) (text : List ℕ) (k j : ℕ) → outcome capacity text ≡ refused k j → Ruled capacity text k j
 reader-ruled capacity text k j e =
     elim (decLe (length text) 65536) [
       | yes h ↦ line-refused h (refusals.refused-exactly capacity text k j h .0 e)
       | no h ↦
           let l : 65536 < length text = omega arith in
-          subst (Ruled capacity text) (sym (outcome-long capacity text l) ∙ e) (oversize l)
+          subst (Found capacity text) (sym (outcome-long capacity text l) ∙ e) (oversize l)
     ]
 
--- What the reader says is what the rules say.
-outcome-ruled : (capacity : ℕ) (text : List ℕ) (o : Outcome) → outcome capacity text ≡ o → Ruled capacity text (after-lines o)
+-- What the reader refuses the rules refuse.
+outcome-ruled : (capacity : ℕ) (text : List ℕ) (o : Outcome) → outcome capacity text ≡ o → Found capacity text (after-lines o)
 outcome-ruled capacity text (refused k j) e = reader-ruled capacity text k j e
 outcome-ruled capacity text (plan p) e =
     let (x, f, h) = reader.sound capacity text p e in
     judged-ruled capacity text p (record { text-is = x; formed = f; fits = h })
 
--- A text is answered by o exactly when the rules say o.
-pub text-exactly : (capacity : ℕ) (text : List ℕ) (o : Outcome) → (verdict capacity text ≡ o) ↔ Ruled capacity text o
-text-exactly capacity text o =
-    ((λ e. subst (Ruled capacity text) e (outcome-ruled capacity text (outcome capacity text) refl)), ruled-verdict capacity text o)
+-- A text is refused by k at line j exactly when the rules say so.
+pub text-exactly : (capacity : ℕ) (text : List ℕ) (k j : ℕ) → (verdict capacity text ≡ refused k j) ↔ Ruled capacity text k j
+text-exactly capacity text k j =
+    ((λ e. subst (Found capacity text) e (outcome-ruled capacity text (outcome capacity text) refl)), ruled-verdict capacity text k j)

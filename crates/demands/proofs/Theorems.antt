@@ -11,14 +11,15 @@ use Rattle.model.specs.Plan.{Block, Plan}
 use Rattle.model.specs.Forms.{main}
 use Rattle.model.specs.Runs.{Run, visits}
 use Rattle.model.specs.Remaining.{Reported, Ended}
-use Rattle.model.specs.Acceptance.{sizes}
+use Rattle.model.specs.Acceptance.{sizes, Fits, Accepted}
 use Rattle.model.specs.Calls.{Call, release, report, end, refused, Accepts}
 use Rattle.model.specs.Timed.{Decision, PointOf, Fit, last-reading, Refusable, CallList, closed, opened, KeepsDeadline, Plays}
 use Rattle.model.specs.Histories.{Reached, Since}
 use Rattle.model.specs.Worked.{plan-A}
 use Rattle.model.proofs.Theorems as model
-use Rattle.reader.specs.Outcome as reader
 use Rattle.reader.specs.declared.Answer.the-variants as reading
+use Rattle.reader.specs.Print.{print}
+use Rattle.table.proofs.Theorems as table
 use Rattle.control.specs.Meaning.{StandsSomewhere, HistoryState}
 use Rattle.control.specs.Cases.{worst-of-A, cases}
 use Rattle.rolsipay.specs.declared.State.{State}
@@ -29,7 +30,6 @@ use Rattle.demands.specs.Tables.{Numbers}
 use Rattle.demands.specs.Decisions.{Decided, Closes}
 use Rattle.demands.specs.Lists.{exchanges, text-A}
 use Rattle.demands.specs.Cases.{EachRight}
-use Rattle.demands.proofs.Texts as texts
 use Rattle.demands.proofs.Tables as tables
 use Rattle.demands.proofs.Reached as reached
 use Rattle.demands.proofs.Delivered as delivering
@@ -40,7 +40,7 @@ use Rattle.demands.proofs.Cases as marked
 
 -- Consider any text and any lent memory. Reading refuses the text by a number and a line exactly when the rules say this number and line.
 pub plan-refused-exactly : (text : List ℕ) (m : Memory) (k j : ℕ) →
-    (read-answer text m ≡ reading.Refused k j) ↔ Ruled (length (m .row)) text (reader.refused k j)
+    (read-answer text m ≡ reading.Refused k j) ↔ Ruled (length (m .row)) text k j
 plan-refused-exactly = tables.text-refused
 
 -- A refused plan leaves the lent memory exactly as it was: every record of the row, and the head.
@@ -61,9 +61,9 @@ refused-call-keeps-state = delivering.refused-keeps
 pub plan-accepted-exactly : (text : List ℕ) (m : Memory) → (read-answer text m ≡ reading.Accepted) ↔ ((p : Plan) × ReadAs text m p)
 plan-accepted-exactly = tables.text-accepted
 
--- It is read as the plan p exactly when no rule refuses it and it is the one text of p.
-pub read-as-exactly : (text : List ℕ) (m : Memory) (p : Plan) → ReadAs text m p ↔ Ruled (length (m .row)) text (reader.plan p)
-read-as-exactly text m p = texts.text-exactly (length (m .row)) text (reader.plan p)
+-- It is read as the plan p exactly when it is the one text of p, p keeps the rules 3 to 10, and the lent row holds the leaves of p.
+pub read-as-exactly : (text : List ℕ) (m : Memory) (p : Plan) → ReadAs text m p ↔ ((text ≡ print p) × Accepted p × Fits (length (m .row)) p)
+read-as-exactly text m p = table.read-as-plan (length (m .row)) text p
 
 -- The memory then holds the table of p, and the records past the last leaf of p keep their values.
 pub table-written : (text : List ℕ) (m : Memory) (p : Plan) → ReadAs text m p → TableOf p (after-read text m)

@@ -32,8 +32,7 @@ read-answer text m = verdict-of (verdict (length (m .row)) text) (m .head) .answ
 
 -- The memory that it leaves.
 abbrev pub after-read : List ℕ → Memory → Memory
-after-read text m =
-    record { row = row-after (verdict (length (m .row)) text) (m .row); head = verdict-of (verdict (length (m .row)) text) (m .head) .head }
+after-read text m = record { row = row-after (verdict (length (m .row)) text) (m .row); head = verdict-of (verdict (length (m .row)) text) (m .head) .head }
 
 -- The text is read into the memory as the plan p.
 abbrev pub ReadAs : List ℕ → Memory → Plan → Type 0

@@ -14,7 +14,6 @@ use Rattle.model.specs.Levels.{Standing, so-far, history, stack}
 use Rattle.model.specs.Acceptance.{Formed, Fits, Seen-all, Called, Accepted}
 use Rattle.model.specs.Calls.{Call, release, report, end}
 use Rattle.model.specs.Timed.{PointOf, Fit}
-use Rattle.reader.specs.Outcome.{Outcome, plan, refused}
 use Rattle.reader.specs.Print.{print}
 use Rattle.refusals.specs.Refusal.{RefusedAt}
 use Rattle.control.specs.declared.State.{State}
@@ -30,21 +29,19 @@ pub record Read (capacity : ℕ) (text : List ℕ) (p : Plan) : Type 0 where
   pub formed : Formed p
   pub fits : Fits capacity p
 
--- What the rules say of a text, where the caller lends so many records: the plan; or a refusal's number and line.
-pub data Ruled (capacity : ℕ) (text : List ℕ) : Outcome → Type 0 where
-  -- No rule refuses it: it is the text of an accepted plan whose leaves the lent row holds.
-  accepted : {p : Plan} → text ≡ print p → Accepted p → Fits capacity p → Ruled capacity text (plan p)
+-- The rules refuse a text by this number at this line (0 where there is none), where the caller lends so many records.
+pub data Ruled (capacity : ℕ) (text : List ℕ) : ℕ → ℕ → Type 0 where
   -- 1: it has over 65,536 bytes.
-  oversize : 65536 < length text → Ruled capacity text (refused 1 0)
+  oversize : 65536 < length text → Ruled capacity text 1 0
   -- 2 to 7: no line before line j breaks one of them, and k is the first that line j breaks; or the text ends early (2).
-  line-refused : {k j : ℕ} → length text ≤ 65536 → RefusedAt capacity text k j → Ruled capacity text (refused k j)
+  line-refused : {k j : ℕ} → length text ≤ 65536 → RefusedAt capacity text k j → Ruled capacity text k j
   -- 8: a silent loop or call has a point inside it or in what it calls.
-  unseen : {p : Plan} → Read capacity text p → ¬ Seen-all [] (p .functions) → Ruled capacity text (refused 8 0)
+  unseen : {p : Plan} → Read capacity text p → ¬ Seen-all [] (p .functions) → Ruled capacity text 8 0
   -- 9: not 8, and no call names some function but the last.
-  uncalled : {p : Plan} → Read capacity text p → Seen-all [] (p .functions) → ¬ Called (p .functions) → Ruled capacity text (refused 9 0)
+  uncalled : {p : Plan} → Read capacity text p → Seen-all [] (p .functions) → ¬ Called (p .functions) → Ruled capacity text 9 0
   -- 10: neither 8 nor 9, and the sum of C or the sum of M over some run is over 2^40.
   long : {p : Plan} → Read capacity text p → Seen-all [] (p .functions) → Called (p .functions) → (r : Run (main p)) →
-      (2 ^ 40 < sum C (visits r)) ⊎ (2 ^ 40 < sum M (visits r)) → Ruled capacity text (refused 10 0)
+      (2 ^ 40 < sum C (visits r)) ⊎ (2 ^ 40 < sum M (visits r)) → Ruled capacity text 10 0
 
 -- CALLS
 
