@@ -45,28 +45,14 @@ use Rattle.model.specs.Histories.{Since}
 use Rattle.control.proofs.Alike.{place-of, Stands, on-idle, on-running, stands-release, stands-report, same-next, next-moves, timed-some, levels-inner, may-end-is}
 use Rattle.control.proofs.Good.{stands-times}
 
-decision-accepts : (p : Plan) (r str t : ℕ) (suspended : Bool) → Accepts (decision p r str t suspended)
+-- A decision is no refusal.
+pub decision-accepts : (p : Plan) (r str t : ℕ) (suspended : Bool) → Accepts (decision p r str t suspended)
 decision-accepts p r str t true = tt
 decision-accepts p r str t false = by (holds p r str t)
   where
     by : (h : Bool) → Accepts (word false h (stay r (margin p r str t) (late p t)) (go r (margin p r str t) (late p t)) (suspend r (margin p r str t) (late p t)))
     by true = tt
     by false = tt
-
--- What a decision says.
-pub decision-words : (p : Plan) (r str t : ℕ) → (decision p r str t true ≡ stay r (margin p r str t) (late p t)) ×
-    (Condition p r str t → decision p r str t false ≡ go r (margin p r str t) (late p t)) ×
-    (¬ Condition p r str t → decision p r str t false ≡ suspend r (margin p r str t) (late p t))
-decision-words p r str t = (
-  refl,
-  (λ c. rw (le-leb (need p r str t) (p .deadline) c)),
-  λ c. fails (holds p r str t) refl c,
-)
-  where
-    fails : (h : Bool) → holds p r str t ≡ h → ¬ Condition p r str t →
-        word false h (stay r (margin p r str t) (late p t)) (go r (margin p r str t) (late p t)) (suspend r (margin p r str t) (late p t)) ≡ suspend r (margin p r str t) (late p t)
-    fails true e c = absurd (c (leb-true (need p r str t) (p .deadline) e))
-    fails false e c = refl
 
 module _ (p : Plan) (a : Accepted p) where
   -- The place that a history leads to is the place of these levels.

@@ -1,48 +1,41 @@
--- The theorems about the calls on a table, to be read; each is proved in a file beside this one.
-use mathlib.Core.Bool.{true, false}
+-- Lemmas about the calls on a table of numbers, with the state by value; each is proved in a file beside this one. What is promised of the delivered calls
+-- stands in `demands`.
+use mathlib.Core.Bool.{false}
 use mathlib.Core.List.{List, [], _∷_, _++_}
 use mathlib.Core.Logic.{_↔_}
 use mathlib.Core.Option.{some}
-use mathlib.Core.Path.{_≡_, refl}
+use mathlib.Core.Path.{_≡_}
 use Prim.Native.Nat.{ℕ, _≤_}
 use Rattle.model.specs.Plan.{Plan}
 use Rattle.model.specs.Forms.{main}
 use Rattle.model.specs.Remaining.{Reported, Ended}
-use Rattle.model.specs.Condition.{Condition, margin}
 use Rattle.model.specs.Acceptance.{Accepted}
 use Rattle.model.specs.Stack.{Levels}
-use Rattle.model.specs.Calls.{Call, release, report, end, refused, go, suspend, stay, Accepts}
-use Rattle.model.specs.Timed.{Decision, Held, PointOf, Fit, KeepsDeadline}
+use Rattle.model.specs.Calls.{Call, release, report, end, Accepts}
+use Rattle.model.specs.Timed.{Decision, Held, PointOf, Fit}
 use Rattle.model.specs.Controller as places
-use Rattle.model.specs.Controller.{late}
-use Rattle.model.proofs.Theorems as model
-use Rattle.table.specs.Table.{Table, table-of}
+use Rattle.table.specs.Table.{table-of}
 use Rattle.control.specs.declared.State.{State}
 use Rattle.control.specs.State.{standing}
-use Rattle.control.specs.Calls.{decision, call-on, controller-of}
+use Rattle.control.specs.Calls.{call-on, controller-of}
 use Rattle.model.specs.Histories.{Since}
 use Rattle.control.specs.Meaning.{StandsSomewhere, DecidesRelease, DecidesReport, HistoryState}
 use Rattle.control.proofs.Alike as alike
 use Rattle.control.proofs.Alike.{Tied}
 use Rattle.control.proofs.Histories as histories
 use Rattle.control.proofs.Good as good
-use Rattle.control.proofs.Keeping as keeping
 
 -- Rule 11, the state: consider the table of an accepted plan. A running state is good exactly when it stands at the release with the times of the
 -- release, or some run of the plan stands at its last point, open loops and calls with its visit counts and its remaining times are that run's 33.
 pub state-good-exactly : (p : Plan) → Accepted p → (s : State) → ((ls : Levels) × (standing p s ≡ some ls)) ↔ StandsSomewhere p s
 state-good-exactly = good.good-exactly
 
--- A refused call leaves the state exactly as it was, whatever table and state are.
-pub refused-call-keeps-state : (t : Table) (s : State) (c : Call) (k : ℕ) → call-on t s c .answer ≡ refused k → call-on t s c .state ≡ s
-refused-call-keeps-state = keeping.refused-keeps
-
 -- The calls on the table of an accepted plan answer as the controller over places does, and keep the tie between its states and theirs.
 pub calls-alike : (p : Plan) (a : Accepted p) (s : State) (x : places.State) (c : Call) → Tied p a s x →
     (call-on (table-of p) s c .answer ≡ places.respond p x c .answer) × Tied p a (call-on (table-of p) s c .state) (places.respond p x c .state)
 calls-alike = alike.alike
 
--- DEMAND 2: consider the table of an accepted plan, and any state after an accepted release and accepted reports from a fresh state (`Since`).
+-- HISTORIES: consider the table of an accepted plan, and any state after an accepted release and accepted reports from a fresh state (`Since`).
 
 -- The state is that of its history: some run with these reports stands at its stack, and its remaining times are that run's 33.
 pub state-is-of-history : (p : Plan) (a : Accepted p) {s : State} {m : ℕ} {h : List ℕ} {ds : List Decision} → Since (controller-of (table-of p)) s (m ∷ h) ds → HistoryState p s (m ∷ h)
@@ -71,17 +64,6 @@ pub report-answer : (p : Plan) (a : Accepted p) {s : State} {h : List ℕ} {ds :
     Accepts (call-on (table-of p) s (report n t) .answer) → DecidesReport p s h n t
 report-answer = histories.report-decides
 
--- A decision says stay where the others are suspended already; else go where the condition holds, and suspend where it does not.
-pub decision-says : (p : Plan) (r str t : ℕ) → (decision p r str t true ≡ stay r (margin p r str t) (late p t)) ×
-    (Condition p r str t → decision p r str t false ≡ go r (margin p r str t) (late p t)) ×
-    (¬ Condition p r str t → decision p r str t false ≡ suspend r (margin p r str t) (late p t))
-decision-says = histories.decision-words
-
 -- The others are suspended exactly where the condition failed at the release or at a decision since: suspend comes at the first of these.
 pub others-share-exactly : (p : Plan) (a : Accepted p) {s : State} {h : List ℕ} {ds : List Decision} → Since (controller-of (table-of p)) s h ds → (s .suspended ≡ false) ↔ Held p ds
 others-share-exactly = histories.shares-exactly
-
--- DEMAND 3: consider any accepted plan with total + T within D, and its table. Every list of calls on that table that timed runs of the plan make,
--- from a fresh state and with refused calls anywhere among them, keeps the claim.
-pub deadline-kept-on-table : (p : Plan) → Accepted p → Fit p → KeepsDeadline p (controller-of (table-of p))
-deadline-kept-on-table p a f = model.deadline-kept-alike p (controller-of (table-of p)) (Tied p a) a f refl (alike.alike p a)

@@ -28,6 +28,7 @@ use Rattle.control.specs.State.{stack-of, levels-of, standing, at-release}
 use Rattle.control.specs.Calls.{refuse, word, decision, suspended-after, next-levels, reported, may-end, closed, running-call, idle-call, at-levels, by-phase, on-plan, call-on}
 use Rattle.control.specs.Meaning.{StandsSomewhere}
 use Rattle.control.proofs.Alike.{timed-some}
+use Rattle.control.proofs.Histories.{decision-accepts}
 use Rattle.control.proofs.Theorems as control
 use Rattle.demands.specs.Rules.{TableOf, Underway, CanReport, Refuses, no-plan, nowhere, busy, unfit, idle-report, idle-end, stranger, backward-report, backward-end, astray-report, astray-end}
 use Rattle.demands.specs.Delivered.{Memory}
@@ -45,15 +46,7 @@ not-both x k e q = subst Accepts e q
 pub same-number : {k m : ℕ} → refused k ≡ refused m → k ≡ m
 same-number e = cc
 
--- A decision and an end are no refusals.
-decision-accepts : (p : Plan) (r str t : ℕ) (suspended : Bool) → Accepts (decision p r str t suspended)
-decision-accepts p r str t true = tt
-decision-accepts p r str t false = by (holds p r str t)
-  where
-    by : (h : Bool) → Accepts (word false h (stay r (margin p r str t) (late p t)) (go r (margin p r str t) (late p t)) (suspend r (margin p r str t) (late p t)))
-    by true = tt
-    by false = tt
-
+-- An end is no refusal.
 closed-accepts : (p : Plan) (s : State) (t : ℕ) → Accepts (closed p s t .answer)
 closed-accepts p s t = by (s .suspended)
   where

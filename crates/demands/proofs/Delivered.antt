@@ -16,7 +16,7 @@ use Rattle.table.specs.Table.{Table}
 use Rattle.control.specs.declared.State as control
 use Rattle.control.specs.Answers.{answer-of}
 use Rattle.control.specs.Calls.{call-on, controller-of}
-use Rattle.control.proofs.Alike as alike
+use Rattle.control.proofs.Theorems.{calls-alike}
 use Rattle.control.proofs.Alike.{Tied}
 use Rattle.rolsipay.specs.declared.State.{State}
 use Rattle.rolsipay.specs.Calling.{state-of, lent, refusing, called}
@@ -88,7 +88,7 @@ keeps-deadline p m o f =
     let a = o .accepted in
     model.deadline-kept-alike p (delivered m) (λ s x. Tied p a (state-of s) x) a f refl
     (λ s x c t.
-    let y = alike.alike p a (state-of s) x c t in (
+    let y = calls-alike p a (state-of s) x c t in (
       answer-meant m s c ∙ (ap (λ (u : Table). call-on u (state-of s) c .answer) (numbers-held p m o) ∙ y .0),
       subst (λ k. Tied p a k (places.respond p x c .state))
           (sym (state-left m s c ∙ ap (λ (u : Table). call-on u (state-of s) c .state) (numbers-held p m o))) (y .1),

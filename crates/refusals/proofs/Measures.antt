@@ -17,7 +17,7 @@ use Rattle.model.specs.Levels.{height, heights}
 use Rattle.reader.specs.Machine.{_⊕_, Around, in-fun, in-loop, in-then, in-else, State, start, task, body, await-then, await-else, await-close, done, brackets-in, brackets, level-in, functions-of, to, block, next, counted}
 use Rattle.reader.proofs.Appended.{height-⊕, heights-snoc, heights-length}
 use Rattle.reader.proofs.Steps.{before, Step, opens-task, opens-fun, closes-task, leaf, call, loop, cond, closes-fun, closes-loop, closes-then, closes-else, opens-then, opens-else, closes-if, stepped, before-step}
-use Rattle.refusals.specs.Refusal.{of-leaf, of-call, of-loop, of-if, leaves-among, functions-among, own-function, innermost, brackets-behind, open-brackets, FormAt, own-level, called-level, earlier-line}
+use Rattle.refusals.specs.Refusal.{of-leaf, of-call, of-loop, of-if, leaves-among, functions-among, own-function, innermost, brackets-behind, open-brackets, LevelAt, own-level, called-level, earlier-line}
 use Rattle.refusals.proofs.Nesting.{Held, held-step, nests, leaves-after, nests-append}
 
 -- OPEN BRACKETS AND LEVELS
@@ -169,7 +169,7 @@ same-number : (F : ℕ) → eqb F F ≡ true
 same-number F = eq-eqb F F refl
 
 -- No form is higher.
-pub height-bounds : {es : List Form} {F L : ℕ} → FormAt es F L → L ≤ height-of F es
+pub height-bounds : {es : List Form} {F L : ℕ} → LevelAt es F L → L ≤ height-of F es
 unfolding height-of
 height-bounds (own-level {earlier = es} of-leaf) = rw (same-number (own-function es)) (omega arith)
 height-bounds (own-level {earlier = es} of-call) = rw (same-number (own-function es)) (omega arith)
@@ -179,9 +179,9 @@ height-bounds (called-level {earlier = es} x) = rw (same-number (own-function es
 height-bounds (earlier-line x) = omega (arith, height-bounds x)
 
 -- The highest level on a line is that of a form.
-highest-met : (es : List Form) → ((F : ℕ) → 1 ≤ height-of F es → FormAt es F (height-of F es)) → (f : Form) →
+highest-met : (es : List Form) → ((F : ℕ) → 1 ≤ height-of F es → LevelAt es F (height-of F es)) → (f : Form) →
     1 ≤ highest (innermost (open-brackets es)) (λ G. height-of G es) f →
-    FormAt (f ∷ es) (own-function es) (highest (innermost (open-brackets es)) (λ G. height-of G es) f)
+    LevelAt (f ∷ es) (own-function es) (highest (innermost (open-brackets es)) (λ G. height-of G es) f)
 highest-met es ih (Task d t) h = absurd (omega arith)
 highest-met es ih Fun h = absurd (omega arith)
 highest-met es ih Then h = absurd (omega arith)
@@ -193,13 +193,13 @@ highest-met es ih (Call k g c m) h =
       | yes q ↦ called-level (ih g q)
       | no q ↦
           let z : innermost (open-brackets es) ≡ innermost (open-brackets es) + height-of g es = omega arith in
-          subst (λ L. FormAt (Call k g c m ∷ es) (own-function es) L) z (own-level of-call)
+          subst (λ L. LevelAt (Call k g c m ∷ es) (own-function es) L) z (own-level of-call)
     ]
 highest-met es ih (Loop k b c m) h = own-level of-loop
 highest-met es ih (If k c m) h = own-level of-if
 
 -- Some form is as high as its function, unless the function has none.
-pub height-met : (es : List Form) (F : ℕ) → 1 ≤ height-of F es → FormAt es F (height-of F es)
+pub height-met : (es : List Form) (F : ℕ) → 1 ≤ height-of F es → LevelAt es F (height-of F es)
 unfolding height-of
 height-met [] F h = absurd (omega arith)
 height-met (f ∷ es) F h = by (eqb F (own-function es)) refl h (height-met es)
@@ -208,19 +208,19 @@ height-met (f ∷ es) F h = by (eqb F (own-function es)) refl h (height-met es)
     here = highest (innermost (open-brackets es)) (λ G. height-of G es) f
 
     by : (t : Bool) → eqb F (own-function es) ≡ t → 1 ≤ max (height-of F es) (pick t here 0) →
-        ((F : ℕ) → 1 ≤ height-of F es → FormAt es F (height-of F es)) → FormAt (f ∷ es) F (max (height-of F es) (pick t here 0))
+        ((F : ℕ) → 1 ≤ height-of F es → LevelAt es F (height-of F es)) → LevelAt (f ∷ es) F (max (height-of F es) (pick t here 0))
     by false q h ih =
         let z : height-of F es ≡ max (height-of F es) 0 = omega arith in
-        subst (λ L. FormAt (f ∷ es) F L) z (earlier-line (ih F (omega arith)))
+        subst (λ L. LevelAt (f ∷ es) F L) z (earlier-line (ih F (omega arith)))
     by true q h ih =
         elim (decLe here (height-of F es)) [
           | yes g ↦
               let z : height-of F es ≡ max (height-of F es) here = omega arith in
-              subst (λ L. FormAt (f ∷ es) F L) z (earlier-line (ih F (omega arith)))
+              subst (λ L. LevelAt (f ∷ es) F L) z (earlier-line (ih F (omega arith)))
           | no g ↦
               let z : here ≡ max (height-of F es) here = omega arith in
-              subst (λ L. FormAt (f ∷ es) F L) z
-              (subst (λ G. FormAt (f ∷ es) G here) (sym (eqb-true F (own-function es) q)) (highest-met es ih f (omega arith)))
+              subst (λ L. LevelAt (f ∷ es) F L) z
+              (subst (λ G. LevelAt (f ∷ es) G here) (sym (eqb-true F (own-function es) q)) (highest-met es ih f (omega arith)))
         ]
 
 -- The height that the function being read has so far.

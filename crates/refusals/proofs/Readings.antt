@@ -1,6 +1,6 @@
 -- The rules of lines on cases worked by hand: what is open, levels, which rules a line breaks; and whole texts that are refused by 2 for their nesting or
 -- their end. One for each reading of document 01 that could have been another.
-use Prim.Native.Nat.{ℕ, _≤_}
+use Prim.Native.Nat.{ℕ, _≤_, zero, suc}
 use mathlib.Core.Path.{_≡_, refl}
 use mathlib.Core.List.{List, [], _∷_, _++_}
 use mathlib.Core.Bool.{true, false}
@@ -15,7 +15,7 @@ use Rattle.text.specs.Grammar.{form, line-form}
 use Rattle.model.specs.Levels.{height, heights}
 use Rattle.reader.specs.Outcome.{refused}
 use Rattle.reader.specs.Machine.{_⊕_, outcome, run, fault, brackets-in, brackets, level-in, level, functions-of}
-use Rattle.refusals.specs.Refusal.{of-leaf, of-call, leaves-among, functions-among, own-function, innermost, open-brackets, FormAt, own-level, Breaks, target-range, leaf-count, row-count, function-count, load, target, bracket-depth, level-depth, RefusedAt}
+use Rattle.refusals.specs.Refusal.{of-leaf, of-call, leaves-among, functions-among, own-function, innermost, open-brackets, LevelAt, own-level, Breaks, target-range, leaf-count, row-count, function-count, load, target, bracket-depth, level-depth, RefusedAt}
 use Rattle.refusals.proofs.Measures.{height-of, height-bounds, height-met}
 use Rattle.refusals.proofs.Refusal.{refused-exactly}
 
@@ -32,6 +32,15 @@ an-if = If false 1 1
 abbrev in-main : List Form → List Form
 in-main fs = fs ++ (Fun ∷ Task 1 0 ∷ [])
 
+-- So many functions without forms, and so many ifs around each other, each open in its then part.
+empty-functions : ℕ → List Form
+empty-functions zero = Task 1 0 ∷ []
+empty-functions (suc n) = Close ∷ Fun ∷ empty-functions n
+
+nested-ifs : ℕ → List Form
+nested-ifs zero = []
+nested-ifs (suc n) = Then ∷ an-if ∷ nested-ifs n
+
 -- BRACKETS AND LEVELS
 
 -- task, fun, loop, if, then and else are brackets, leaf and call lines are not, and `)` closes the last: here else, if, loop, fun and task are open.
@@ -45,7 +54,7 @@ unfolding open-brackets
 second-level = refl
 
 -- Only forms have levels: a loop at level 32 passes with an empty body ..
-empty-loop-32 : {L : ℕ} → FormAt (Close ∷ in-main (replicate 32 a-loop)) 0 L → L ≤ 32
+empty-loop-32 : {L : ℕ} → LevelAt (Close ∷ in-main (replicate 32 a-loop)) 0 L → L ≤ 32
 unfolding height-of open-brackets functions-among
 empty-loop-32 x = height-bounds x
 
@@ -57,12 +66,12 @@ inside-33 =
     level-depth {f = a-leaf} (own-level of-leaf) (omega arith)
 
 -- A call at level 32 of a function without forms adds nothing.
-calls-empty : {L : ℕ} → FormAt (Call true 0 1 1 ∷ (replicate 31 a-loop ++ (Fun ∷ Close ∷ Fun ∷ Task 1 0 ∷ []))) 1 L → L ≤ 32
+calls-empty : {L : ℕ} → LevelAt (Call true 0 1 1 ∷ (replicate 31 a-loop ++ (Fun ∷ Close ∷ Fun ∷ Task 1 0 ∷ []))) 1 L → L ≤ 32
 unfolding height-of open-brackets functions-among
 calls-empty x = height-bounds x
 
 -- Through all calls: function 0 has a leaf in a loop (2), function 1 calls it from a loop (2 + 2), and main calls function 1 from level 1.
-through-calls : FormAt (Call true 1 1 1 ∷ Fun ∷ Close ∷ Close ∷ Call true 0 1 1 ∷ a-loop ∷ Fun ∷ Close ∷ Close ∷ in-main (a-leaf ∷ a-loop ∷ [])) 2 5
+through-calls : LevelAt (Call true 1 1 1 ∷ Fun ∷ Close ∷ Close ∷ Call true 0 1 1 ∷ a-loop ∷ Fun ∷ Close ∷ Close ∷ in-main (a-leaf ∷ a-loop ∷ [])) 2 5
 unfolding height-of open-brackets functions-among
 through-calls =
     height-met (Call true 1 1 1 ∷ Fun ∷ Close ∷ Close ∷ Call true 0 1 1 ∷ a-loop ∷ Fun ∷ Close ∷ Close ∷ in-main (a-leaf ∷ a-loop ∷ [])) 2 (omega arith)
@@ -84,10 +93,10 @@ unfolding leaves-among
 row-of-none = row-count {f = a-leaf} (omega arith)
 
 -- A 17th function.
-function-17th : Breaks 512 (replicate 16 Fun ++ (Task 1 0 ∷ [])) (form Fun) 4
-unfolding functions-among
+function-17th : Breaks 512 (empty-functions 16) (form Fun) 4
+unfolding functions-among empty-functions
 function-17th =
-    let e : functions-among (replicate 16 Fun ++ (Task 1 0 ∷ [])) ≡ 16 = refl in
+    let e : functions-among (empty-functions 16) ≡ 16 = refl in
     function-count {f = Fun} (omega arith)
 
 -- A call of its own function with M below C: 5 before 6.
@@ -96,8 +105,9 @@ unfolding functions-among
 own-light = (load {c = 2} {m = 1} of-call (omega arith), target {F = 0} (omega arith))
 
 -- F = 16 is out of its range: 3 before 6.
-called-16th : Breaks 512 (in-main []) (form (Call true 16 1 1)) 3
-called-16th = target-range {F = 16} (omega arith)
+called-16th : Breaks 512 (in-main []) (form (Call true 16 1 1)) 3 × Breaks 512 (in-main []) (form (Call true 16 1 1)) 6
+unfolding functions-among
+called-16th = (target-range {F = 16} (omega arith), target {F = 16} (omega arith))
 
 -- A call of its own function at level 33: 6 before 7.
 own-at-33 : Breaks 512 (in-main (replicate 32 a-loop)) (form (Call true 0 1 1)) 6 × Breaks 512 (in-main (replicate 32 a-loop)) (form (Call true 0 1 1)) 7
@@ -110,10 +120,10 @@ own-at-33 = (
 )
 
 -- A 65th bracket at level 1.
-bracket-65th : Breaks 512 (in-main (replicate 62 Then)) (form an-if) 7
-unfolding open-brackets
+bracket-65th : Breaks 512 (in-main (nested-ifs 31)) (form an-if) 7
+unfolding open-brackets nested-ifs
 bracket-65th =
-    let e : length (open-brackets (in-main (replicate 62 Then))) ≡ 64 = refl in
+    let e : length (open-brackets (in-main (nested-ifs 31))) ≡ 64 = refl in
     bracket-depth {f = an-if} (omega arith)
 
 -- WHOLE TEXTS, refused by 2 at the first line that cannot stand there, or behind the last

@@ -15,7 +15,7 @@ use Rattle.text.specs.declared.Form.{Form}
 use Rattle.text.specs.declared.Form.the-variants.{Task, Fun, Then, Else, Close, Leaf, Call, Loop, If}
 use Rattle.text.specs.Grammar.{Line, form}
 use Rattle.reader.specs.Machine.{unless, fault}
-use Rattle.refusals.specs.Refusal.{PlanLines, LeafLine, of-leaf, of-call, of-loop, of-if, leaves-among, functions-among, own-function, innermost, open-brackets, FormAt, own-level, called-level, Breaks, no-line, nesting, deadline-range, switch-range, cost-range, target-range, bound-range, leaf-count, row-count, function-count, load, target, bracket-depth, level-depth, NoneBroken}
+use Rattle.refusals.specs.Refusal.{PlanLines, LeafLine, of-leaf, of-call, of-loop, of-if, leaves-among, functions-among, own-function, innermost, open-brackets, LevelAt, own-level, called-level, Breaks, no-line, nesting, deadline-range, switch-range, cost-range, target-range, bound-range, leaf-count, row-count, function-count, load, target, bracket-depth, level-depth, NoneBroken}
 use Rattle.refusals.proofs.Measures.{highest, height-of, height-bounds, height-met}
 
 -- No test both holds and fails.
@@ -387,7 +387,7 @@ module _ (capacity : ℕ) (es : List Form) where
     highest-fails (Loop k b c m) v g h = and-left (leb L 32) (ltb d 64) (lt-leb L 32 (omega (arith, v .at-leaf of-loop .level-is)))
     highest-fails (If k c m) v g h = and-left (leb L 32) (ltb d 64) (lt-leb L 32 (omega (arith, v .at-leaf of-if .level-is)))
 
-    level-fails : {f : Form} {F l : ℕ} → Values es f d L n hs → Within capacity es → test-6 hs f ≡ true → FormAt (f ∷ es) F l → 32 < l → test-7 d L hs f ≡ false
+    level-fails : {f : Form} {F l : ℕ} → Values es f d L n hs → Within capacity es → test-6 hs f ≡ true → LevelAt (f ∷ es) F l → 32 < l → test-7 d L hs f ≡ false
     unfolding height-of
     level-fails {f} {F} {l} v w g x h = highest-fails f v g (by (eqb F (own-function es)) (omega (arith, height-bounds x, w .low F)))
       where

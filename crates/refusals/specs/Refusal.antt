@@ -88,11 +88,11 @@ open-brackets [] = []
 open-brackets (f ∷ earlier) = brackets-behind f (open-brackets earlier)
 
 -- On some lines a form of function F has level L, called forms included: only forms have levels, and a call line adds the levels of what it calls (01).
-pub data FormAt : List Form → ℕ → ℕ → Type 0 where
-  own-level : {earlier : List Form} {f : Form} {c m : ℕ} → LeafLine f c m → FormAt (f ∷ earlier) (own-function earlier) (innermost (open-brackets earlier))
-  called-level : {earlier : List Form} {k : Bool} {G c m L : ℕ} → FormAt earlier G L →
-      FormAt (Call k G c m ∷ earlier) (own-function earlier) (innermost (open-brackets earlier) + L)
-  earlier-line : {earlier : List Form} {f : Form} {F L : ℕ} → FormAt earlier F L → FormAt (f ∷ earlier) F L
+pub data LevelAt : List Form → ℕ → ℕ → Type 0 where
+  own-level : {earlier : List Form} {f : Form} {c m : ℕ} → LeafLine f c m → LevelAt (f ∷ earlier) (own-function earlier) (innermost (open-brackets earlier))
+  called-level : {earlier : List Form} {k : Bool} {G c m L : ℕ} → LevelAt earlier G L →
+      LevelAt (Call k G c m ∷ earlier) (own-function earlier) (innermost (open-brackets earlier) + L)
+  earlier-line : {earlier : List Form} {f : Form} {F L : ℕ} → LevelAt earlier F L → LevelAt (f ∷ earlier) F L
 
 -- THE RULES
 
@@ -118,7 +118,7 @@ pub data Breaks (capacity : ℕ) (earlier : List Form) : Line → ℕ → Type 0
   target : {k : Bool} {F c m : ℕ} → own-function earlier ≤ F → Breaks capacity earlier (form (Call k F c m)) 6
   -- 7, depth: a 65th open bracket; level over 32, called forms included.
   bracket-depth : {f : Form} → 64 < length (open-brackets (f ∷ earlier)) → Breaks capacity earlier (form f) 7
-  level-depth : {f : Form} {F L : ℕ} → FormAt (f ∷ earlier) F L → 32 < L → Breaks capacity earlier (form f) 7
+  level-depth : {f : Form} {F L : ℕ} → LevelAt (f ∷ earlier) F L → 32 < L → Breaks capacity earlier (form f) 7
 
 -- THE LINE THAT IS REFUSED
 

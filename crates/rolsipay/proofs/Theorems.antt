@@ -11,7 +11,8 @@ use lib.Seq.{drop-cons, take-add, drop-drop, take-at, take-all, take-take, take-
 use Rattle.model.specs.Plan.{Plan}
 use Rattle.model.specs.Acceptance.{sizes, Accepted}
 use Rattle.model.specs.Places.{pick, bit}
-use Rattle.model.specs.Calls.{Call, Answer, refused, go, suspend, stay, resume, ended, Reply}
+use Rattle.model.specs.Calls as calls
+use Rattle.model.specs.Calls.{Call, refused, go, suspend, stay, resume, ended}
 use Rattle.reader.specs.Outcome.{plan}
 use Rattle.reader.proofs.Theorems.{row-length}
 use Rattle.table.specs.declared.Head.{Head}
@@ -19,14 +20,18 @@ use Rattle.table.specs.Table.{Table, table-of, head-of}
 use Rattle.table.proofs.Tests.{no-truth}
 use Rattle.table.proofs.Written.{turns-size, tails-size, stretches-size}
 use Rattle.control.specs.declared.State as control
+use Rattle.control.specs.declared.Answer.{Answer}
+use Rattle.control.specs.declared.Answer.the-variants.{Refused, Go, Suspend, Stay, Resume, Ended}
 use Rattle.control.specs.Answers.{answer-of}
 use Rattle.control.specs.Calls.{call-on}
 use Rattle.control.proofs.Keeping.{refused-keeps}
 use Rattle.rolsipay.specs.declared.Leaf.{Leaf}
 use Rattle.rolsipay.specs.declared.State.{State}
+use Rattle.rolsipay.specs.declared.Reply.{Reply}
 use Rattle.rolsipay.specs.Lent.{fields, numbers, table-with, table-in, leaf-of, leaves-from}
 use Rattle.rolsipay.specs.Reading.{row-after}
 use Rattle.rolsipay.specs.Calling.{state-of, lent, refusing, called}
+use Rattle.rolsipay.specs.Face.{reply-from}
 use Rattle.rolsipay.proofs.Spreading.{length-leaves}
 use Rattle.rolsipay.proofs.Gathering.{numbers-append, length-numbers, table-of-first}
 
@@ -184,7 +189,7 @@ read-again p a ls h e =
 -- A CALL IS THE CONTROLLER'S
 
 -- An answer that is a refusal has a number.
-refused-by : (a : Answer) → refusing (answer-of a) ≡ true → (k : ℕ) × (a ≡ refused k)
+refused-by : (a : calls.Answer) → refusing (answer-of a) ≡ true → (k : ℕ) × (a ≡ refused k)
 refused-by (refused n) e = (n, refl)
 refused-by (go r m late) e = no-truth e
 refused-by (suspend r m late) e = no-truth e
@@ -218,9 +223,35 @@ pub call-state : (ls : List Leaf) (h : Head) (s : State) (c : Call) → state-of
 unfolding called
 call-state ls h s c = by (refusing (answer-of (r .answer))) refl
   where
-    r : Reply control.State
+    r : calls.Reply control.State
     r = call-on (table-in ls h) (state-of s) c
 
     by : (b : Bool) → refusing (answer-of (r .answer)) ≡ b → state-of (pick b s (lent (r .state))) ≡ r .state
     by true e = let (k, x) = refused-by (r .answer) e in sym (refused-keeps (table-in ls h) (state-of s) c k x)
     by false e = lent-back (r .state)
+
+-- THE FLAT ANSWERS
+
+-- The answer that flat numbers stand for.
+answer-in : Reply → Answer
+answer-in r =
+    let late : Bool = not (eqb (r .late) 0) in
+    pick (eqb (r .word) 0) (Refused (r .number))
+    (pick (eqb (r .word) 1) (Go (r .remaining) (r .margin) late)
+    (pick (eqb (r .word) 2) (Suspend (r .remaining) (r .margin) late)
+    (pick (eqb (r .word) 3) (Stay (r .remaining) (r .margin) late)
+    (pick (eqb (r .word) 4) (Resume late) (Ended late)))))
+
+-- It is the one that they were made of.
+answer-back : (a : Answer) → answer-in (reply-from a) ≡ a
+unfolding answer-in
+answer-back (Refused n) = refl
+answer-back (Go r m late) = ap (λ b. Go r m b) (bit-back late)
+answer-back (Suspend r m late) = ap (λ b. Suspend r m b) (bit-back late)
+answer-back (Stay r m late) = ap (λ b. Stay r m b) (bit-back late)
+answer-back (Resume late) = ap (λ b. Resume b) (bit-back late)
+answer-back (Ended late) = ap (λ b. Ended b) (bit-back late)
+
+-- So what the calls return under C names tells the answer: no two answers have the same numbers.
+pub reply-tells : (a b : Answer) → reply-from a ≡ reply-from b → a ≡ b
+reply-tells a b e = sym (answer-back a) ∙ (ap answer-in e ∙ answer-back b)

@@ -19,11 +19,9 @@ use Rattle.structure.specs.Plans.{Structured}
 use Rattle.structure.proofs.Theorems.{plan-leaves, plan-unique}
 use Rattle.table.specs.declared.Head.{Head}
 use Rattle.table.specs.Table.{Table, table-of, head-of, table-at, plan-of, found, good}
-use Rattle.table.specs.Reading.{verdict}
 use Rattle.table.specs.Deriving.{Ranged, Agrees}
 use Rattle.table.proofs.Tests.{no-truth, leb-exactly, both}
 use Rattle.table.proofs.Plans.{head-whole, same-whole, plan-of-exactly}
-use Rattle.table.proofs.Reading.{good-table}
 use Rattle.table.proofs.Bridge.{plan-row, plan-bounds, accepted-structured, structured-accepted}
 
 -- A table of an accepted plan.
@@ -38,14 +36,6 @@ good-exactly false t h = none-found (plan-of t) (λ p e. h (p, plan-of-exactly t
     none-found : (o : Option Plan) → ((p : Plan) → o ≡ some p → ⊥) → false ≡ found o
     none-found none k = refl
     none-found (some p) k = absurd (k p refl)
-
--- A table is good exactly when some text is read with it.
-pub good-has-text : (t : Table) → (good t ≡ true) ↔ ((text : List ℕ) × (p : Plan) × (verdict 512 text ≡ plan p) × (t ≡ table-of p))
-good-has-text t = ((λ e. good-table t .0 (by (plan-of t) e)), λ x. let (p, e) = good-table t .1 x in ap (λ (o : Option Plan). found o) e)
-  where
-    by : (o : Option Plan) → found o ≡ true → (p : Plan) × (o ≡ some p)
-    by none e = no-truth e
-    by (some p) e = (p, refl)
 
 module _ (row turns tails stretches : List ℕ) (h : Head) where
   abbrev lent : Table

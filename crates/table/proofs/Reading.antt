@@ -68,9 +68,3 @@ read-exactly row text p = (
       (t, judged-accepted p f j, r)),
   λ (t, a, r). ap (λ o. after-lines o) (ap (λ x. outcome row x) t ∙ reading.complete row p (a .formed) r) ∙ accepted-judged p a,
 )
-
-pub good-table : (t : Table) → ((p : Plan) × (plan-of t ≡ some p)) ↔ ((text : List ℕ) × (p : Plan) × (verdict 512 text ≡ plan p) × (t ≡ table-of p))
-good-table t = (
-  (λ (p, e). let (a, q) = plan-of-exactly t p .0 e in (print p, p, read-exactly 512 (print p) p .1 (refl, a, a .formed .few-leaves), q)),
-  λ (text, p, e, q). (p, plan-of-exactly t p .1 (read-exactly 512 text p .0 e .1, q)),
-)

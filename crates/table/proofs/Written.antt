@@ -1,4 +1,4 @@
--- The table that `read` writes, read from the lent memory, is the plan's. Assumes nothing.
+-- How long the columns of a plan's table are, and that a lent list keeps its length. Assumes nothing.
 use mathlib.Core.List.{List, [], map}
 use mathlib.Core.Path.{_≡_, refl, ap, sym, _∙_}
 use Prim.Native.Nat.{ℕ, _*_, _≤_}
@@ -34,21 +34,3 @@ stretches-size p = joined-size (leaves-join (stretch-of p)) (p .functions)
 pub stored-long : (o : Outcome) (part : Table → List ℕ) (l : List ℕ) → length (stored o part l) ≡ length l
 stored-long (plan p) part l = length-sets l 0 (part (table-of p))
 stored-long (refused k j) part l = refl
-
--- Consider lent memory that is large enough for any plan.
-module _ (row turns tails stretches : List ℕ) (h : Head) (long : length row ≡ 4096) (wide-turns : length turns ≡ 512) (wide-tails : length tails ≡ 512)
-    (wide-stretches : length stretches ≡ 512) where
-  -- A text that is read as the plan p leaves the table of p in it.
-  pub written : (capacity : ℕ) (text : List ℕ) (p : Plan) → verdict capacity text ≡ plan p →
-      table-at (stored (verdict capacity text) (λ t. t .row) row) (stored (verdict capacity text) (λ t. t .turns) turns) (stored (verdict capacity text) (λ t. t .tails) tails)
-      (stored (verdict capacity text) (λ t. t .stretches) stretches) (verdict-of (verdict capacity text) h .head) ≡ table-of p
-  written capacity text p e =
-      let few = read-exactly capacity text p .0 e .1 .formed .few-leaves in
-      rw e
-      (same-whole (table-at _ _ _ _ (head-of p)) (table-of p) (
-        take-stored (row-of p) row (sizes (p .functions) * 8) (omega (arith, row-length p)) (omega arith),
-        take-stored (table-of p .turns) turns (sizes (p .functions)) (turns-size p) (omega arith),
-        take-stored (table-of p .tails) tails (sizes (p .functions)) (tails-size p) (omega arith),
-        take-stored (table-of p .stretches) stretches (sizes (p .functions)) (stretches-size p) (omega arith),
-        refl,
-      ))
