@@ -1,8 +1,6 @@
 -- The marked cases hold: the plan is found from its table, and the answers are computed on it.
-use mathlib.Core.Bool.{Bool, true, false}
 use mathlib.Core.List.{List, [], _∷_}
 use mathlib.Core.Path.{_≡_, refl, ap, sym, _∙_, subst}
-use Prim.Native.Nat.{ℕ, _≤_}
 use native.Mathlib.Omega.{arith}
 use Rattle.model.specs.Plan.{Plan, all-leaves}
 use Rattle.model.specs.Forms.{forms, linked, last, _⊕_}

@@ -43,9 +43,6 @@ same-entries (x ∷ u) [] e h = absurd (omega arith)
 same-entries (x ∷ u) (y ∷ v) e h = rw (h 0, same-entries u v (omega arith) (λ j. h (suc j)))
 
 -- The latest report at a level is one: of two places where it could be, neither is before the other.
-no-head : (x : Leveled) (u : List Leveled) → _≡_ {A = List Leveled} [] (x ∷ u) → {B : Type 0} → B
-no-head x u e = absurd (let z : _≡_ {A = ℕ} 0 1 = cc in omega arith)
-
 abbrev NoneLater : List Leveled → ℕ → Type 0
 NoneLater v l = (u : List Leveled) (x : Leveled) (w : List Leveled) → v ≡ u ++ (x ∷ w) → x .block .point ≡ true → x .level ≡ l → ⊥
 

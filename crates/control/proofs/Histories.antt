@@ -5,7 +5,7 @@ use mathlib.Core.List.{List, [], _∷_, _++_}
 use mathlib.Core.Logic.{_↔_}
 use mathlib.Core.Option.{Option, none, some}
 use mathlib.Core.Path.{_≡_, refl, ap, sym, _∙_, subst}
-use Prim.Native.Nat.{ℕ, _+_, _-_, _≤_}
+use Prim.Native.Nat.{ℕ, _+_, _≤_}
 use native.Mathlib.Omega.{arith}
 use lib.Dec.{leb, ltb}
 use lib.ListN.{length}
@@ -15,7 +15,7 @@ use Rattle.model.specs.Forms.{Forms, main}
 use Rattle.model.specs.Total.{total}
 use Rattle.model.specs.Remaining.{Reported, Ended}
 use Rattle.model.specs.Stretch.{silence, stretch}
-use Rattle.model.specs.Condition.{Condition, need, margin, holds}
+use Rattle.model.specs.Condition.{margin, holds}
 use Rattle.model.specs.Levels.{Standing, so-far, history, Frame, stack}
 use Rattle.model.specs.Acceptance.{Accepted}
 use Rattle.model.specs.Places.{pick, locate}
@@ -37,7 +37,7 @@ use Rattle.model.proofs.Refusing as refusing
 use Rattle.model.proofs.Theorems as model
 use Rattle.table.specs.Table.{table-of}
 use Rattle.control.specs.declared.State.{State}
-use Rattle.control.specs.State.{fresh, stack-of, levels-of, standing, at-release, at-report}
+use Rattle.control.specs.State.{fresh, stack-of, levels-of, standing, at-release}
 use Rattle.control.specs.Calls.{refuse, word, decision, suspended-after, released, next-levels, reported, may-end, closed, running-call, call-on, controller-of}
 use Rattle.control.specs.Meaning.{DecidesReport, DecidesRelease, HistoryState}
 use Rattle.model.specs.Histories as since

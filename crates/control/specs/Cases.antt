@@ -1,14 +1,14 @@
 -- The marked cases m1 to m12 of document 01 ('Plans worked through') as one table: a plan, and calls from a fresh state on its table with their answers,
 -- each worked out by hand from the document's sentences.
 -- Assumes nothing: these are definitions.
-use mathlib.Core.Bool.{true, false}
+use mathlib.Core.Bool.{false}
 use mathlib.Core.List.{List, [], _∷_}
 use mathlib.Core.Path.{_≡_}
 use Prim.Native.Nat.{ℕ}
 use lib.IntN.{pos, negsuc}
 use Rattle.model.specs.Plan.{Plan}
 use Rattle.model.specs.Acceptance.{Accepted}
-use Rattle.model.specs.Calls.{Call, release, report, end, Answer, refused, go, suspend, stay, resume, ended}
+use Rattle.model.specs.Calls.{release, report, end, Answer, refused, go, suspend, stay, resume, ended}
 use Rattle.model.specs.Histories.{Exchange, _gets_, Answered}
 use Rattle.model.specs.Worked.{plan-A, plan-B, smallest}
 use Rattle.table.specs.Table.{table-of}

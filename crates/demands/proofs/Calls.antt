@@ -11,11 +11,10 @@ use Rattle.model.specs.Plan.{C, Plan, all-leaves}
 use Rattle.model.specs.Forms.{main}
 use Rattle.model.specs.Total.{total}
 use Rattle.model.specs.Stretch.{silence, stretch}
-use Rattle.model.specs.Condition.{margin, holds}
 use Rattle.model.specs.Acceptance.{Accepted}
 use Rattle.model.specs.Places.{pick}
 use Rattle.model.specs.Stack.{Levels, whole}
-use Rattle.model.specs.Calls.{Call, release, report, end, Answer, refused, go, suspend, stay, resume, ended, Accepts, Reply}
+use Rattle.model.specs.Calls.{Call, release, report, end, Answer, refused, resume, ended, Accepts, Reply}
 use Rattle.model.specs.Timed.{PointOf, Fit}
 use Rattle.model.specs.Controller.{is-point, late}
 use Rattle.model.proofs.Decisions.{largest-unique}
@@ -25,7 +24,7 @@ use Rattle.table.specs.Table.{plan-of}
 use Rattle.table.proofs.Theorems as table
 use Rattle.control.specs.declared.State.{State}
 use Rattle.control.specs.State.{stack-of, levels-of, standing, at-release}
-use Rattle.control.specs.Calls.{refuse, word, decision, suspended-after, next-levels, reported, may-end, closed, running-call, idle-call, at-levels, by-phase, on-plan, call-on}
+use Rattle.control.specs.Calls.{refuse, decision, suspended-after, next-levels, reported, may-end, closed, running-call, idle-call, at-levels, by-phase, on-plan, call-on}
 use Rattle.control.specs.Meaning.{StandsSomewhere}
 use Rattle.control.proofs.Alike.{timed-some}
 use Rattle.control.proofs.Histories.{decision-accepts}

@@ -1,4 +1,5 @@
--- Demand 2 on the table of an accepted plan in lent memory, with the state by value: which calls are accepted behind a history, and what they answer, without a word about the state.
+-- Demand 2 on the table of an accepted plan in lent memory, with the state by value: that the state is that of its history, which calls are accepted behind
+-- it, and what they answer.
 use mathlib.Core.Bool.{Bool, true, false}
 use mathlib.Core.List.{List, [], _∷_, _++_}
 use mathlib.Core.Logic.{_↔_}

@@ -79,7 +79,7 @@ idle-released m s e q =
     accepted-leaves m s release a ∙ (ap (λ x. lent (x .state)) i ∙ sym (accepted-leaves m zeros release b)) in
     λ j. record { state = state-same j; answer = answer-same j }
 
--- An idle state is refused by 11 exactly where no reading left the memory as it is.
+-- A call on an idle state is refused by 11 exactly where no accepted text, read into whatever memory, leaves this one.
 pub broken-exactly : (m : Memory) (s : State) → state-of s .running ≡ false → (c : Call) →
     (delivered m .respond s c .answer ≡ refused 11) ↔ ((text : List ℕ) (before : Memory) (p : Plan) → ReadAs text before p → ¬ (after-read text before ≡ m))
 broken-exactly m s e c = (

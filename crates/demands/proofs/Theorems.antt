@@ -99,8 +99,8 @@ module _ (p : Plan) (m : Memory) (o : TableOf p m) where
   pub every-state-known : {s : State} → Reached (delivered m) s → (s ≡ zeros) ⊎ ((h : List ℕ) × (ds : List Decision) × Since (delivered m) s h ds)
   every-state-known = reached.reached-known p m o
 
-  -- After reports the lent state is that of its history: some run with these reports stands at its stack of points, open loops and calls with their visit
-  -- counts, and its 33 remaining times are that run's.
+  -- After one report or more the place and the remaining times of the lent state are those of its history: some run with these reports stands at its stack of
+  -- points, open loops and calls with their visit counts, and its 33 remaining times are that run's.
   pub state-is-of-history : {s : State} {n : ℕ} {h : List ℕ} {ds : List Decision} → Since (delivered m) s (n ∷ h) ds → HistoryState p (state-of s) (n ∷ h)
   state-is-of-history = reached.state-of-history p m o
 
@@ -172,7 +172,7 @@ worst-case-played m room = worst.worst-A (after-read text-A m) (table-written te
 
 -- RULE 11 AND THE MARKED CASES
 
--- Rule 11, the table: every call on an idle state is refused by 11 exactly when no text, read into whatever memory, left this one.
+-- Rule 11, the table: every call on an idle state is refused by 11 exactly when no accepted text, read into whatever memory, leaves this one.
 pub table-good-exactly : (m : Memory) (s : State) → state-of s .running ≡ false → (c : Call) →
     (delivered m .respond s c .answer ≡ refused 11) ↔ ((text : List ℕ) (before : Memory) (p : Plan) → ReadAs text before p → ¬ (after-read text before ≡ m))
 table-good-exactly = reached.broken-exactly

@@ -1,4 +1,4 @@
--- What the numbers of a plan's table are, over runs: those that an integrator may read and that the listing prints.
+-- What the numbers of a plan's table are, over runs: D, T, totals and stretches. (What the listing prints besides is said of the program that prints it.)
 -- Assumes nothing: these are definitions.
 use mathlib.Core.List.{map}
 use mathlib.Core.Path.{_≡_}

@@ -1,5 +1,5 @@
 -- The machine refuses a text by k at line j, 2 to 7, exactly when the rules do, by following the lines before j.
-use Prim.Native.Nat.{ℕ, zero, suc, _+_, _-_, _≤_, _<_, min}
+use Prim.Native.Nat.{ℕ, zero, suc, _+_, _≤_, _<_, min}
 use mathlib.Core.Path.{_≡_, refl, sym, ap, _∙_, subst}
 use mathlib.Core.List.{List, [], _∷_, _++_, map, append-nil, append-assoc, reverse, reverse-cons}
 use mathlib.Core.Logic.{_⊎_, _↔_, inl, inr}

@@ -105,11 +105,6 @@ rep-drop (if-line b t s r) w L i e h fits =
     (joined w mid en e (records L s mid) (records L r en) (rep-drop s w L mid en (rw (x, y) at (h .3)) (omega arith))
     (rep-drop r w L en e (rw y at (h .4)) fits)))
 
--- So the records there are theirs.
-pub rep-records : (l : Lines) (w : List ℕ) (L i e : ℕ) → Rep w L i e l → e * 8 ≤ length w → take (size l * 8) (drop (i * 8) w) ≡ records L l i
-rep-records l w L i e h fits =
-    ap (λ u. take (size l * 8) u) (rep-drop l w L i e h fits) ∙ take-at (records L l i) (drop (e * 8) w) (size l * 8) (omega (arith, records-length L l i))
-
 -- The same of functions, one after the other.
 lies-drop : (ls : List Lines) (w s : List ℕ) (f : ℕ) → Lies w s f ls → getD s (f + length ls) 0 * 8 ≤ length w →
     drop (getD s f 0 * 8) w ≡ records-all (getD s f 0) ls ++ drop (getD s (f + length ls) 0 * 8) w

@@ -1,7 +1,6 @@
 -- The check of a lent table: each of its tests holds of every table of an accepted plan, and together they say that it is one. Assumes nothing.
 use mathlib.Core.Bool.{Bool, true, false}
 use mathlib.Core.List.{List}
-use mathlib.Core.Logic.{_↔_}
 use mathlib.Core.Option.{Option, none, some}
 use mathlib.Core.Path.{_≡_, refl, ap, sym, _∙_, subst}
 use Prim.Native.Nat.{ℕ, _*_, _^_}
@@ -12,7 +11,6 @@ use Rattle.model.specs.Forms.{main}
 use Rattle.model.specs.Total.{total}
 use Rattle.model.specs.Acceptance.{sizes, Accepted}
 use Rattle.model.proofs.Limits.{short-total}
-use Rattle.reader.specs.Outcome.{plan}
 use Rattle.reader.proofs.Theorems.{row-length}
 use Rattle.rows.specs.Answers.{Says}
 use Rattle.structure.specs.Plans.{Structured}
@@ -20,7 +18,7 @@ use Rattle.structure.proofs.Theorems.{plan-leaves, plan-unique}
 use Rattle.table.specs.declared.Head.{Head}
 use Rattle.table.specs.Table.{Table, table-of, head-of, table-at, plan-of, found, good}
 use Rattle.table.specs.Deriving.{Ranged, Agrees}
-use Rattle.table.proofs.Tests.{no-truth, leb-exactly, both}
+use Rattle.table.proofs.Tests.{leb-exactly, both}
 use Rattle.table.proofs.Plans.{head-whole, same-whole, plan-of-exactly}
 use Rattle.table.proofs.Bridge.{plan-row, plan-bounds, accepted-structured, structured-accepted}
 

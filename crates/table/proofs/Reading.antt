@@ -3,27 +3,24 @@
 use mathlib.Core.Bool.{Bool, true, false, _&&_}
 use mathlib.Core.List.{List, []}
 use mathlib.Core.Logic.{_↔_}
-use mathlib.Core.Option.{some}
-use mathlib.Core.Path.{_≡_, refl, ap, sym, _∙_, subst}
-use Prim.Native.Nat.{ℕ, _-_, _^_, _≤_}
+use mathlib.Core.Path.{_≡_, refl, ap, _∙_, subst}
+use Prim.Native.Nat.{ℕ, _-_, _^_}
 use native.Mathlib.Omega.{arith}
 use lib.Dec.{leb}
 use lib.ListN.{length}
 use Rattle.model.specs.Plan.{C, M, Plan}
 use Rattle.model.specs.Forms.{main}
 use Rattle.model.specs.Total.{total}
-use Rattle.model.specs.Acceptance.{sizes, Formed, Fits, Accepted}
+use Rattle.model.specs.Acceptance.{Formed, Fits, Accepted}
 use Rattle.model.specs.Places.{pick}
 use Rattle.reader.specs.Machine.{outcome}
 use Rattle.reader.specs.Outcome.{Outcome, plan, refused}
 use Rattle.reader.specs.Print.{print}
 use Rattle.reader.proofs.Theorems as reading
-use Rattle.table.specs.Accepting.{formed?, seen-all?, called-from?, accepted?}
-use Rattle.table.specs.Table.{Table, table-of, plan-of}
+use Rattle.table.specs.Accepting.{formed?, seen-all?, called-from?}
 use Rattle.table.specs.Reading.{judged, after-lines, verdict}
-use Rattle.table.proofs.Tests.{no-truth, both, three, four}
+use Rattle.table.proofs.Tests.{four}
 use Rattle.table.proofs.Accepting.{accepted-exactly, formed-exactly}
-use Rattle.table.proofs.Plans.{plan-of-exactly}
 
 not-plan : {k j : ℕ} {q : Plan} {A : Type 0} → refused k j ≡ plan q → A
 not-plan e = absurd (let z : _≡_ {A = ℕ} 0 1 = cc in omega arith)

@@ -1,4 +1,4 @@
--- The theorems about tables, to be read; each is proved in a file beside this one.
+-- Lemmas about tables of numbers; each is proved in a file beside this one. What is promised of the delivered calls stands in `demands`.
 use mathlib.Core.List.{List}
 use mathlib.Core.Logic.{_↔_}
 use mathlib.Core.Option.{some}

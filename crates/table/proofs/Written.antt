@@ -1,24 +1,17 @@
 -- How long the columns of a plan's table are, and that a lent list keeps its length. Assumes nothing.
-use mathlib.Core.List.{List, [], map}
-use mathlib.Core.Path.{_≡_, refl, ap, sym, _∙_}
-use Prim.Native.Nat.{ℕ, _*_, _≤_}
-use native.Mathlib.Omega.{arith}
-use lib.ListN.{length, take}
-use Rattle.model.specs.Plan.{C, Plan, all-leaves}
+use mathlib.Core.List.{List, []}
+use mathlib.Core.Path.{_≡_, refl}
+use Prim.Native.Nat.{ℕ}
+use lib.ListN.{length}
+use Rattle.model.specs.Plan.{C, Plan}
 use Rattle.model.specs.Total.{tallies}
-use Rattle.model.specs.Acceptance.{sizes, Accepted}
+use Rattle.model.specs.Acceptance.{sizes}
 use lib.Seq.{length-sets}
 use Rattle.reader.specs.Outcome.{Outcome, plan, refused}
-use Rattle.reader.specs.Records.{row-of}
-use Rattle.reader.proofs.Theorems.{row-length}
-use Rattle.table.specs.declared.Head.{Head}
-use Rattle.table.specs.Table.{Table, table-of, head-of, table-at, all-turns, all-tails, stretch-of}
-use Rattle.table.specs.Reading.{verdict, verdict-of, stored}
-use Rattle.table.proofs.Plans.{same-whole}
+use Rattle.table.specs.Table.{Table, table-of, stretch-of}
+use Rattle.table.specs.Reading.{stored}
 use Rattle.table.proofs.Holding.{joined-size}
 use Rattle.table.proofs.Deriving.{turns-join, tails-join, leaves-join}
-use Rattle.table.proofs.Reading.{read-exactly}
-use Rattle.table.proofs.Writing.{take-stored}
 
 -- One number for each leaf.
 pub turns-size : (p : Plan) → length (table-of p .turns) ≡ sizes (p .functions)
