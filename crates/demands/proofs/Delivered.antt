@@ -48,19 +48,20 @@ module _ (m : Memory) where
   abbrev reply : State → Call → calls.Reply control.State
   reply s c = call-on (table-held m) (state-of s) c
 
-  -- Answer and state of a delivered call are those of this reply.
+  -- The answer of a delivered call is that of this reply.
   pub answer-meant : (s : State) (c : Call) → delivered m .respond s c .answer ≡ reply s c .answer
   answer-meant s c = ap (λ a. meant a) (call-answer (m .row) (m .head) s c) ∙ says-meant (reply s c .answer)
-
-  pub state-left : (s : State) (c : Call) → state-of (delivered m .respond s c .state) ≡ reply s c .state
-  state-left = call-state (m .row) (m .head)
 
   -- A refused call leaves every number of the lent state.
   pub refused-keeps : (s : State) (c : Call) (k : ℕ) → delivered m .respond s c .answer ≡ refused k → delivered m .respond s c .state ≡ s
   unfolding called
   refused-keeps s c k e = ap (λ a. pick (refusing (answer-of a)) s (lent (reply s c .state))) (sym (answer-meant s c) ∙ e)
 
-  -- An accepted one leaves the lent form of the controller's state.
+  -- The state that a delivered call leaves stands for that of this reply.
+  pub state-left : (s : State) (c : Call) → state-of (delivered m .respond s c .state) ≡ reply s c .state
+  state-left = call-state (m .row) (m .head)
+
+  -- An accepted call leaves the lent form of the controller's state.
   pub accepted-leaves : (s : State) (c : Call) → Accepts (reply s c .answer) → delivered m .respond s c .state ≡ lent (reply s c .state)
   unfolding called
   accepted-leaves s c q = moves s (lent (reply s c .state)) (reply s c .answer) q
