@@ -126,7 +126,7 @@ pub fn plan(shape: (Shape, &'static str), leaves: usize) -> Plan {
         |deadline: u64| format!("(task {deadline} {switching}\n{functions}\n)\n").into_bytes();
     // Between what the plan takes alone and under load, so that decisions turn in the course of a run.
     let (_, head) = table(&text(MOST_TIME), leaves);
-    let text = text(head.total + switching + (head.loaded - head.total) / 2);
+    let text = text(head.total + switching + (head.max_load_total - head.total) / 2);
     let (row, head) = table(&text, leaves);
     Plan {
         shape: shape.1,

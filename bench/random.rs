@@ -55,17 +55,17 @@ impl Writer<'_> {
     fn form(&mut self, depth: usize, silent: bool) {
         let point = !silent && self.random.chance(self.points);
         let mark = if point { 'p' } else { 's' };
-        let loaded = self.random.below(self.cost + 1);
-        let isolated = self.random.below(loaded + 1);
+        let max_load = self.random.below(self.cost + 1);
+        let isolated = self.random.below(max_load + 1);
         let inner = depth > 0 && self.random.chance(50);
         if inner && self.random.chance(50) {
             let bound = 1 + self.random.below(3);
             self.lines
-                .push(format!("(loop {mark} {bound} {isolated} {loaded}"));
+                .push(format!("(loop {mark} {bound} {isolated} {max_load}"));
             self.forms(depth - 1, silent || !point);
         } else if inner {
             self.lines
-                .push(format!("(if {mark} {isolated} {loaded}\n(then"));
+                .push(format!("(if {mark} {isolated} {max_load}\n(then"));
             self.forms(depth - 1, silent);
             self.lines.push(")\n(else".to_string());
             self.forms(depth - 1, silent);
@@ -73,11 +73,11 @@ impl Writer<'_> {
         } else if self.functions > 0 && self.random.chance(self.calls) {
             let target = self.random.below(self.functions);
             self.lines
-                .push(format!("(call {mark} {target} {isolated} {loaded})"));
+                .push(format!("(call {mark} {target} {isolated} {max_load})"));
             return;
         } else {
             self.lines
-                .push(format!("(leaf {mark} {isolated} {loaded})"));
+                .push(format!("(leaf {mark} {isolated} {max_load})"));
             return;
         }
         self.lines.push(")".to_string());

@@ -27,11 +27,11 @@ extern "C" {
 #endif
 
 /* The version of this header, to be compared by #if: 10000 * major + 100 * minor + patch. The library carries none: take both from one dist/. */
-#define ROLSIPAY_VERSION 10000            /* 1.0.0 */
+#define ROLSIPAY_VERSION 10100            /* 1.1.0 */
 
 /* The most stack that a call takes, in bytes, whatever it is given; docs/MEMORY.md tells how it was measured. */
-#define ROLSIPAY_STACK_READ 198656        /* rolsipay_read */
-#define ROLSIPAY_STACK_CALL 79872         /* rolsipay_release, rolsipay_report and rolsipay_end, each */
+#define ROLSIPAY_STACK_READ 124928        /* rolsipay_read */
+#define ROLSIPAY_STACK_CALL 77824         /* rolsipay_release, rolsipay_report and rolsipay_end, each */
 
 /* The limits. Of a longer row only the first ROLSIPAY_LEAVES records are used. */
 #define ROLSIPAY_TEXT 65536               /* bytes of a plan's text */
@@ -75,7 +75,7 @@ typedef struct {
     uint64_t kind;     /* 0 leaf, 1 call, 2 loop, 3 if */
     uint64_t point;    /* 1 for a point, 0 for a silent leaf */
     uint64_t isolated; /* cost of a visit alone */
-    uint64_t loaded;   /* cost of a visit under load */
+    uint64_t max_load; /* cost of a visit under load */
     uint64_t detail;   /* bound of a loop, target of a call, else 0 */
     uint64_t other;    /* first leaf of an if's else part, else 0 */
     uint64_t after;    /* first leaf after the form */
@@ -88,10 +88,10 @@ typedef struct {
 /* What stands beside the row: 320 bytes. */
 typedef struct {
     uint64_t deadline;
-    uint64_t switching; /* switch cost */
-    uint64_t total;     /* largest isolated cost of a run */
-    uint64_t loaded;    /* largest cost of a run under load */
-    uint64_t stretch;   /* of the release */
+    uint64_t switching;      /* switch cost */
+    uint64_t total;          /* largest isolated cost of a run */
+    uint64_t max_load_total; /* largest cost of a run under load */
+    uint64_t stretch;        /* of the release */
     size_t leaves;
     size_t functions;
     uint64_t bounds[ROLSIPAY_FUNCTIONS + 1];

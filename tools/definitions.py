@@ -7,11 +7,11 @@ from dataclasses import dataclass, field
 
 LIBRARY, LANGUAGE = ("mathlib.", "lib.", "Prim.", "native."), {"Type", "Unit", "⊥", "¬", "×"}
 KEYWORDS = set("abbrev unfoldable pub data record module where → : = ; _ bool u8 u64 usize i64".split())
-RUST_KINDS = {"struct": "record", "enum": "data", "type": "function"}
+RUST_KINDS = {"struct": "record", "enum": "data", "type": "function", "const": "function"}
 HEAD = re.compile(r"((?:abbrev |unfoldable |pub )*)(data |record |module )?(\S+)")
-USE = re.compile(r"(?:ghost )?use (\S+?)(?:\.\{(.*)\}| as (\S+));?")
+USE = re.compile(r"(?:ghost |pub )?use (\S+?)(?:\.\{(.*)\}| as (\S+));?")
 MODULE = re.compile(r"Rattle·(\w+)(?:·\w+)?\.(specs|proofs)\.(declared\.)?(.+?)(?:\.the-variants)?")
-TYPE = re.compile(r"((?:^(?://|#\[)[^\n]*\n)*)^(?:pub )?(struct|enum|type) (\w+) (?:\{\n|= )(.*?)(?:^\}|;$)", re.M | re.S)
+TYPE = re.compile(r"((?:^(?://|#\[)[^\n]*\n)*)^(?:pub )?(struct|enum|type|const) (\w+)(?:: \w+)? (?:\{\n|= )(.*?)(?:^\}|;$)", re.M | re.S)
 
 
 def fail(why):
@@ -23,8 +23,8 @@ def text_of(path):
 
 
 def tokens(lines):
-    """The words and brackets, without quoted texts."""
-    bare = re.sub(r'"[^"]*"', " ", " ".join(lines))
+    """The words and brackets, without quoted texts and the marks around a name of the code."""
+    bare = re.sub(r'"[^"]*"|[«»]', lambda found: " " * (found.group()[0] == '"'), " ".join(lines))
     return re.sub(r"([(){};]|\.(?=\s|$))", r" \1 ", bare).split()
 
 
@@ -76,17 +76,21 @@ class Definition:
 
 @dataclass(eq=False)
 class Source:
-    """A file: its definitions in order, what its names are, and what it imports, by name or as a whole module."""
+    """A file: its definitions in order, what its names are, and what it imports, by name or as a whole module; `handed` are the names that it hands on."""
     path: str
     definitions: list = field(default_factory=list)
     names: dict = field(default_factory=dict)
     imports: dict = field(default_factory=dict)
     aliases: dict = field(default_factory=dict)
+    handed: dict = field(default_factory=dict)
 
     def use(self, line):
         path, names, alias = (USE.fullmatch(line) or fail(f"{self.path}: not understood: {line}")).groups()
         self.aliases.update({alias: path} if alias else {})
-        self.imports.update((spelling, (path, name)) for name in (names or "").split(", ") for spelling in spellings(name))
+        pairs = [name.partition(" as ")[::2] for name in (names or "").split(", ")]
+        found = {spelling: (path, name) for name, other in pairs for spelling in spellings(other or name)}
+        self.imports.update(found)
+        self.handed.update(found if line.startswith("pub ") else {})
 
     def closed(self):
         """A name is that of a definition, or else of the types that have such a constructor."""
@@ -111,7 +115,7 @@ def load(path):
             above = above + 1 if line else 0
             continue
         (modifiers, kind, name), words = HEAD.match(line).groups(), tokens([line])
-        if line.startswith("use "):
+        if line.startswith(("use ", "pub use ")):
             source.use(line)
         elif modifiers or kind or words[mark(words):][:1] == [":"]:
             current = Definition(source, name, (kind or "function").strip(), above, [[line]], indent, tuple(modules), section)
@@ -126,7 +130,7 @@ def load(path):
 
 @functools.cache
 def load_rust(path):
-    """The structs, enums and type names of a source file, each member as its name, a colon and its types."""
+    """The structs, enums, type names and constants of a source file, each member as its name, a colon and its types."""
     source, text = Source(path), text_of(path)
     for line in re.findall(r"^ghost use .*$", text, re.M):
         source.use(line)
@@ -135,9 +139,9 @@ def load_rust(path):
     for above, kind, name, body in TYPE.findall(text):
         lines = [line.strip() for line in body.splitlines()]
         members = [re.findall(r"[A-Za-z_](?:\w|::)*", line.removeprefix("pub ")) for line in lines if not line.startswith("//")]
-        chunks = [["{", "}"], *([" ".join([words[0], ":", *words[1:]])] for words in members)]
+        inside = [["{", "}"], *([" ".join([*words[:1], ":", *words[1:]])] for words in members)]
         comments = above.count("\n") + len(lines) - len(members)
-        source.definitions.append(Definition(source, name, RUST_KINDS[kind], comments, [[" ".join(members[0])]] if kind == "type" else chunks))
+        source.definitions.append(Definition(source, name, RUST_KINDS[kind], comments, [[" ".join(members[0])]] if kind in ("type", "const") else inside))
     return source.closed()
 
 
@@ -147,6 +151,8 @@ def look(path, name):
         return [f"{path} {name}"]
     crate, folder, declared, rest = (MODULE.fullmatch(path) or fail(f"not a module: {path}")).groups()
     source = load_rust(f"crates/{crate}/src/lib.rt") if declared else load(f"crates/{crate}/{folder}/{rest.replace('.', '/')}.antt")
+    if not declared and name in source.handed:
+        return look(*source.handed[name])
     return source.names.get(rest if declared else name) or fail(f"{source.path}: no definition of {name}")
 
 

@@ -91,8 +91,8 @@ impl Structure<'_> {
 /// Whether point, costs, level and end of a leaf are right, whatever its kind.
 fn placed(leaf: &Leaf, at: usize, to: usize, level: u64) -> bool {
     leaf.point <= 1
-        && leaf.isolated <= leaf.loaded
-        && leaf.loaded <= MOST_COST
+        && leaf.isolated <= leaf.max_load
+        && leaf.max_load <= MOST_COST
         && leaf.level == level
         && level <= MOST_LEVEL
         && leaf.after > at as u64
@@ -114,7 +114,7 @@ fn derived(row: &[Leaf], head: &Head) -> bool {
     match derive(columns, &head.bounds, head.functions) {
         Some(derived) => {
             derived.total == head.total
-                && derived.loaded == head.loaded
+                && derived.max_load_total == head.max_load_total
                 && derived.stretch == head.stretch
                 && derived.totals == head.totals
         }

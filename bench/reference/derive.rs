@@ -61,7 +61,7 @@ impl Columns for Compared<'_> {
 
 pub struct Derived {
     pub total: u64,
-    pub loaded: u64,
+    pub max_load_total: u64,
     pub stretch: u64,
     pub totals: [u64; FUNCTIONS],
 }
@@ -69,7 +69,7 @@ pub struct Derived {
 #[derive(Clone, Copy, Default)]
 struct Sums {
     isolated: u64,
-    loaded: u64,
+    max_load: u64,
 }
 
 /// What comes behind a form: the tail there, and the largest cost under load up to the next point or the end.
@@ -105,7 +105,7 @@ struct Deriving<'a, C> {
     /// The largest silence behind a call of each function.
     behind: [u64; FUNCTIONS],
     /// The cost of a round under load, of each loop.
-    loaded_turns: [u64; LEAVES],
+    max_load_turns: [u64; LEAVES],
     /// The forms of the sequences being walked back, each from the place of its first on.
     order: [u16; LEAVES],
 }
@@ -121,7 +121,7 @@ impl<C: Columns> Deriving<'_, C> {
         while at < to {
             let form = self.sums_of_form(at);
             sums.isolated = (sums.isolated + form.isolated).min(HELD);
-            sums.loaded = (sums.loaded + form.loaded).min(HELD);
+            sums.max_load = (sums.max_load + form.max_load).min(HELD);
             at = self.after(at);
         }
         sums
@@ -129,22 +129,22 @@ impl<C: Columns> Deriving<'_, C> {
 
     fn sums_of_form(&mut self, at: usize) -> Sums {
         let leaf = &self.columns.row()[at];
-        let (isolated, loaded, detail) = (leaf.isolated, leaf.loaded, leaf.detail);
+        let (isolated, max_load, detail) = (leaf.isolated, leaf.max_load, leaf.detail);
         let (other, after) = (leaf.other as usize, leaf.after as usize);
         let mut turn = 0;
         let inside = match leaf.kind {
             LEAF => Sums::default(),
             CALL => Sums {
                 isolated: self.totals[detail as usize],
-                loaded: self.loads[detail as usize],
+                max_load: self.loads[detail as usize],
             },
             LOOP => {
                 let body = self.sums(at + 1, after);
                 turn = isolated + body.isolated;
-                self.loaded_turns[at] = loaded + body.loaded;
+                self.max_load_turns[at] = max_load + body.max_load;
                 Sums {
                     isolated: detail * turn,
-                    loaded: detail * (loaded + body.loaded),
+                    max_load: detail * (max_load + body.max_load),
                 }
             }
             _ => {
@@ -152,14 +152,14 @@ impl<C: Columns> Deriving<'_, C> {
                 let second = self.sums(other, after);
                 Sums {
                     isolated: first.isolated.max(second.isolated),
-                    loaded: first.loaded.max(second.loaded),
+                    max_load: first.max_load.max(second.max_load),
                 }
             }
         };
         self.columns.turn(at, turn);
         Sums {
             isolated: (isolated + inside.isolated).min(HELD),
-            loaded: (loaded + inside.loaded).min(HELD),
+            max_load: (max_load + inside.max_load).min(HELD),
         }
     }
 
@@ -190,19 +190,19 @@ impl<C: Columns> Deriving<'_, C> {
         let inside = match leaf.kind {
             LEAF => 0,
             CALL => self.loads[leaf.detail as usize],
-            LOOP => leaf.detail * self.loaded_turns[at],
+            LOOP => leaf.detail * self.max_load_turns[at],
             _ => {
                 let first = self.quiet(at + 1, leaf.other as usize);
                 let second = self.quiet(leaf.other as usize, leaf.after as usize);
                 return Quiet {
-                    hit: leaf.loaded + first.hit.max(second.hit),
-                    pass: first.pass.max(second.pass).map(|pass| leaf.loaded + pass),
+                    hit: leaf.max_load + first.hit.max(second.hit),
+                    pass: first.pass.max(second.pass).map(|pass| leaf.max_load + pass),
                 };
             }
         };
         Quiet {
             hit: 0,
-            pass: Some(leaf.loaded + inside),
+            pass: Some(leaf.max_load + inside),
         }
     }
 
@@ -223,16 +223,16 @@ impl<C: Columns> Deriving<'_, C> {
 
     fn back_over_form(&mut self, at: usize, behind: Behind) -> Behind {
         let leaf = &self.columns.row()[at];
-        let (point, loaded) = (leaf.point == 1, leaf.loaded);
+        let (point, max_load) = (leaf.point == 1, leaf.max_load);
         let (tail, next, unseen) = match leaf.kind {
             LEAF => (leaf.isolated + behind.tail, behind.silence, behind.silence),
             CALL => self.back_over_call(at, behind),
             LOOP => self.back_over_loop(at, behind),
             _ => self.back_over_if(at, behind),
         };
-        let stretch = if point { loaded + next } else { 0 };
+        let stretch = if point { max_load + next } else { 0 };
         self.columns.tail_and_stretch(at, tail, stretch);
-        let silence = if point { 0 } else { loaded + unseen };
+        let silence = if point { 0 } else { max_load + unseen };
         Behind { tail, silence }
     }
 
@@ -256,7 +256,7 @@ impl<C: Columns> Deriving<'_, C> {
             silence: 0,
         };
         let body = self.back(at + 1, after, round);
-        let unseen = detail * self.loaded_turns[at] + behind.silence;
+        let unseen = detail * self.max_load_turns[at] + behind.silence;
         (tail, behind.silence.max(body.silence), unseen)
     }
 
@@ -282,10 +282,10 @@ impl<C: Columns> Deriving<'_, C> {
             let (from, to) = self.span(function);
             let sums = self.sums(from, to);
             self.totals[function] = sums.isolated;
-            self.loads[function] = sums.loaded;
+            self.loads[function] = sums.max_load;
         }
-        let (total, loaded) = (self.totals[functions - 1], self.loads[functions - 1]);
-        if total > MOST_TIME || loaded > MOST_TIME || !self.columns.same() {
+        let (total, max_load_total) = (self.totals[functions - 1], self.loads[functions - 1]);
+        if total > MOST_TIME || max_load_total > MOST_TIME || !self.columns.same() {
             return None;
         }
         for function in 0..functions {
@@ -299,7 +299,7 @@ impl<C: Columns> Deriving<'_, C> {
         }
         self.columns.same().then_some(Derived {
             total,
-            loaded,
+            max_load_total,
             stretch: self.quiet[functions - 1].before(0),
             totals: self.totals,
         })
@@ -319,7 +319,7 @@ pub fn derive<C: Columns>(
         loads: [0; FUNCTIONS],
         quiet: [Quiet::default(); FUNCTIONS],
         behind: [0; FUNCTIONS],
-        loaded_turns: [0; LEAVES],
+        max_load_turns: [0; LEAVES],
         order: [0; LEAVES],
     };
     deriving.whole(functions)

@@ -11,7 +11,7 @@ pub struct Block {
     pub point: bool,
     pub detail: u64,
     pub isolated: u64,
-    pub loaded: u64,
+    pub max_load: u64,
 }
 
 pub enum Line {
@@ -74,7 +74,7 @@ impl Rest<'_> {
             CALL | LOOP => self.field()?,
             _ => 0,
         };
-        let (isolated, loaded) = (self.field()?, self.field()?);
+        let (isolated, max_load) = (self.field()?, self.field()?);
         if matches!(kind, LEAF | CALL) && !self.skip(b")") {
             return None;
         }
@@ -83,7 +83,7 @@ impl Rest<'_> {
             point,
             detail,
             isolated,
-            loaded,
+            max_load,
         }))
     }
 

@@ -23,7 +23,7 @@ const EMPTY: Leaf = Leaf {
     kind: 0,
     point: 0,
     isolated: 0,
-    loaded: 0,
+    max_load: 0,
     detail: 0,
     other: 0,
     after: 0,
@@ -69,13 +69,13 @@ impl Reader<'_> {
             LOOP => (1..=MOST_ROUNDS).contains(&block.detail),
             _ => true,
         };
-        if !detail_fits || block.isolated > MOST_COST || block.loaded > MOST_COST {
+        if !detail_fits || block.isolated > MOST_COST || block.max_load > MOST_COST {
             return Err(RANGE);
         }
         if self.head.leaves == self.room {
             return Err(COUNT);
         }
-        if block.loaded < block.isolated {
+        if block.max_load < block.isolated {
             return Err(LOAD);
         }
         let mut height = level;
@@ -120,7 +120,7 @@ impl Reader<'_> {
             kind: block.kind,
             point: block.point.into(),
             isolated: block.isolated,
-            loaded: block.loaded,
+            max_load: block.max_load,
             detail: block.detail,
             other,
             after: self.head.leaves as u64,
@@ -207,7 +207,7 @@ impl Reader<'_> {
         let row = Written(&mut self.row[..self.head.leaves]);
         let derived = derive(row, &self.head.bounds, self.head.functions).ok_or(LONG)?;
         self.head.total = derived.total;
-        self.head.loaded = derived.loaded;
+        self.head.max_load_total = derived.max_load_total;
         self.head.stretch = derived.stretch;
         self.head.totals = derived.totals;
         Ok(())

@@ -92,7 +92,7 @@ begin
       return;
    end if;
    Ada.Text_IO.Put_Line
-     ("task " & Shown (Head.Total) & " " & Shown (Head.Loaded) & " " & Shown (Head.Deadline) & " " & Shown (Head.Switching));
+     ("task " & Shown (Head.Total) & " " & Shown (Head.Max_Load_Total) & " " & Shown (Head.Deadline) & " " & Shown (Head.Switching));
    Run ("m1 m4 m5", (0, 0, 1, 9, 1, 33, 1, 50, 1, 64, 1, 64));
    Run ("m2", (0, 0, 1, 28));
    Run ("m2", (0, 0, 1, 29));

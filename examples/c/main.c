@@ -36,7 +36,7 @@ int main(int argc, char **argv)
         printf("refused %" PRIu64 " %" PRIu64 "\n", ruling.number, ruling.line);
         return 1;
     }
-    printf("task %" PRIu64 " %" PRIu64 " %" PRIu64 " %" PRIu64 "\n", head.total, head.loaded, head.deadline, head.switching);
+    printf("task %" PRIu64 " %" PRIu64 " %" PRIu64 " %" PRIu64 "\n", head.total, head.max_load_total, head.deadline, head.switching);
     PLAY("m1 m4 m5", m1_m4_m5);
     PLAY("m2", m2_goes);
     PLAY("m2", m2_suspends);

@@ -1,64 +1,27 @@
 //! What is changed in tables and states, and calls to make on them.
 
+use lent::calls::Call;
+use lent::places;
+use lent::state::State;
 use reference::composed::Composed;
-use reference::gen::{self, Random};
+use reference::gen::Random;
 use reference::numbers::Numbers;
 use reference::plan::Plan;
-use reference::table::Table;
+use reference::table::{Table, PARTS};
 
-use super::library::Call;
-use super::places;
-use super::state::State;
-
-/// What a number is set to: one more, one less, 0, a random one, the largest,
-/// and one of those that stand in tables and states.
-pub fn others(random: &mut Random, old: u64) -> [u64; 6] {
-    [
-        old.wrapping_add(1),
-        old.wrapping_sub(1),
-        0,
-        random.next(),
-        u64::MAX,
-        random.below(20),
-    ]
-}
-
-pub fn other(random: &mut Random, old: u64) -> u64 {
-    let all = others(random, old);
-    random.pick(&all)
-}
-
-/// The lists of a table, the head last.
-pub fn parts(table: &mut Table) -> [&mut Vec<u64>; 5] {
-    [
-        &mut table.row,
-        &mut table.turns,
-        &mut table.tails,
-        &mut table.stretches,
-        &mut table.head,
-    ]
-}
-
-/// Changes one number of a table.
+/// Changes one number of a table, if the part that is picked has some.
 pub fn change_one(random: &mut Random, table: &mut Table) {
-    let list = &mut *parts(table)[random.index(5)];
-    if !list.is_empty() {
-        let at = random.index(list.len());
-        list[at] = other(random, list[at]);
+    let part = random.index(PARTS);
+    if let Some(at) = table.place(random, part) {
+        let number = table.number(at);
+        *number = random.other(*number);
     }
 }
 
-/// Lists longer than the plan needs: what is behind it is free.
-pub fn lengthen(random: &mut Random, table: &mut Table) {
-    for list in table.lists_mut() {
-        let more = random.pick(&[0, 0, 1, 8, 9]);
-        list.extend((0..more).map(|_| random.next()));
-    }
-}
-
-pub fn small_plan(random: &mut Random) -> Plan {
-    let shape = gen::small_shape(random);
-    gen::valid_plan(random, shape)
+/// Puts so many records behind the plan's own: what they hold is free.
+pub fn lengthen(random: &mut Random, table: &mut Table, more: usize) {
+    let behind = (0..more).map(|_| std::array::from_fn(|_| random.next()));
+    table.row.extend(behind);
 }
 
 /// A call that a state like this one often accepts.

@@ -2,9 +2,10 @@
 //! number can make the table of another accepted plan, or the state of another
 //! place.
 
+use lent::tally::{Met, Tally};
+
 use super::damaged_states;
 use super::damaged_tables;
-use super::tally::{Met, Tally};
 
 pub fn compare_all(tally: &mut Tally) {
     tally.met = Met::default();

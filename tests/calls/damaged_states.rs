@@ -1,6 +1,11 @@
 //! States with numbers changed, stacks at which no run stands, idle states, and
 //! states on the tables of other plans.
 
+use lent::calls::Call;
+use lent::law;
+use lent::places::{self, Standings};
+use lent::state::{Frame, State, EARLIER, LEAVES, LEVEL, RUNNING, STATE, SUSPENDED};
+use lent::tally::Tally;
 use reference::composed::Composed;
 use reference::gen::{self, Random, Shape};
 use reference::listed::Listed;
@@ -8,13 +13,8 @@ use reference::numbers::Numbers;
 use reference::plan::{self, Form, Kind, Plan};
 use reference::table::{self, Table};
 
-use super::damage::{any_call, fitting_call, other, others, small_plan, some_state};
+use super::damage::{any_call, fitting_call, some_state};
 use super::deep;
-use super::law;
-use super::library::Call;
-use super::places::{self, Standings};
-use super::state::{Frame, State, EARLIER, LEAVES, LEVEL, RUNNING, STATE, SUSPENDED};
-use super::tally::Tally;
 
 /// The most runs of a plan whose runs are listed.
 const MOST_RUNS: usize = 300;
@@ -42,7 +42,7 @@ impl<'a> Small<'a> {
     /// Makes a call on any state; what is wanted is read off the list of runs.
     fn call(&self, tally: &mut Tally, group: &str, state: &State, call: Call) {
         let place = self.standings.by_runs(state);
-        let wanted = law::reply(&self.listed, place, state, call);
+        let wanted = law::outcome(&self.listed, place, state, call);
         tally.call(group, &self.table, state, call, &wanted);
     }
 
@@ -69,7 +69,7 @@ fn every_number_of_state(tally: &mut Tally, random: &mut Random, small: &Small) 
             true => call,
             false => any_call(random, small.listed.plan(), &state),
         };
-        for new in others(random, state.0[at]) {
+        for new in random.others(state.0[at]) {
             let mut changed = state.clone();
             changed.0[at] = new;
             let group = format!("{} {new} in place of {}", State::name(at), state.0[at]);
@@ -82,7 +82,7 @@ fn states(tally: &mut Tally) {
     let mut random = Random::new(86);
     let (mut plans, mut standings) = (0, 0);
     while plans < 250 {
-        let plan = small_plan(&mut random);
+        let plan = gen::small_plan(&mut random);
         let Some(small) = Small::new(&plan) else {
             continue;
         };
@@ -158,8 +158,7 @@ fn large_states(tally: &mut Tally) {
     let mut random = Random::new(88);
     let mut plans: Vec<Plan> = deep::plans().into_iter().map(|(_, plan)| plan).collect();
     for _ in 0..40 {
-        let shape = gen::large_shape(&mut random);
-        plans.push(gen::valid_plan(&mut random, shape));
+        plans.push(gen::large_plan(&mut random));
     }
     for plan in &plans {
         let composed = Composed::new(plan);
@@ -173,7 +172,7 @@ fn large_states(tally: &mut Tally) {
             let up = random.index(level + 2);
             let any = random.index(STATE);
             let at = random.pick(&[LEVEL, LEAVES + up, EARLIER + up, any]);
-            state.0[at] = other(&mut random, state.0[at]);
+            state.0[at] = random.other(state.0[at]);
             let wanted = law::on_plan(&composed, &state, call);
             tally.call("a large plan, state changed", &table, &state, call, &wanted);
         }
@@ -184,7 +183,7 @@ fn large_states(tally: &mut Tally) {
 fn idle_states(tally: &mut Tally) {
     let mut random = Random::new(89);
     for _ in 0..3_000 {
-        let plan = small_plan(&mut random);
+        let plan = gen::small_plan(&mut random);
         let composed = Composed::new(&plan);
         let table = table::table(&composed);
         let mut state = places::some_state(&mut random, &composed);
@@ -253,7 +252,7 @@ fn near_plan(random: &mut Random, plan: &Plan) -> Plan {
 fn moved_states(tally: &mut Tally) {
     let mut random = Random::new(90);
     for _ in 0..3_000 {
-        let plan = small_plan(&mut random);
+        let plan = gen::small_plan(&mut random);
         let composed = Composed::new(&plan);
         let reports = random.index(12);
         let state = reached(&mut random, &composed, reports);
@@ -262,7 +261,7 @@ fn moved_states(tally: &mut Tally) {
         }
         for roll in 0..6 {
             let moved = match roll {
-                0 => small_plan(&mut random),
+                0 => gen::small_plan(&mut random),
                 _ => near_plan(&mut random, &plan),
             };
             if plan::read(&plan::text(&moved), 512).is_err() {

@@ -1,51 +1,44 @@
-//! Tables with numbers changed or cut off, and memory that is too short.
+//! Tables with numbers changed, or records cut off.
 
+use lent::law;
 use reference::composed::Composed;
-use reference::gen::Random;
+use reference::gen::{self, Random};
 use reference::plan::Plan;
 use reference::table;
 
-use super::damage::{any_call, change_one, fitting_call, others, parts, small_plan, some_state};
+use super::damage::{any_call, change_one, fitting_call, some_state};
 use super::deep;
-use super::law;
-#[cfg(not(face))]
-use super::library::{self, Call, Memory, SHORT, WHOLE};
-use super::state::State;
-use super::tally::Tally;
-
-/// Names of the lists of a table, the head last.
-const PARTS: [&str; 5] = ["row", "turns", "tails", "stretches", "head"];
+use lent::state::State;
+use lent::tally::Tally;
 
 /// Every number of a table changed, with an idle and a running state.
 fn every_number_of_table(tally: &mut Tally, random: &mut Random, plan: &Plan) {
     let composed = Composed::new(plan);
     let mut table = table::table(&composed);
-    for (which, name) in PARTS.iter().enumerate() {
-        for at in 0..parts(&mut table)[which].len() {
-            let old = parts(&mut table)[which][at];
-            for new in others(random, old) {
-                parts(&mut table)[which][at] = new;
-                let state = match random.chance(30) {
-                    true => State::fresh(),
-                    false => some_state(random, &composed),
-                };
-                let call = match random.chance(80) {
-                    true => fitting_call(random, &composed, &state),
-                    false => any_call(random, plan, &state),
-                };
-                let wanted = law::on_table(&table, &state, call);
-                let group = format!("{name}[{at}] {new} in place of {old}");
-                tally.call(&group, &table, &state, call, &wanted);
-            }
-            parts(&mut table)[which][at] = old;
+    for at in 0..table.count() {
+        let old = *table.number(at);
+        for new in random.others(old) {
+            *table.number(at) = new;
+            let state = match random.chance(30) {
+                true => State::fresh(),
+                false => some_state(random, &composed),
+            };
+            let call = match random.chance(80) {
+                true => fitting_call(random, &composed, &state),
+                false => any_call(random, plan, &state),
+            };
+            let wanted = law::on_table(&table, &state, call);
+            let group = format!("{} {new} in place of {old}", table.name(at));
+            tally.call(&group, &table, &state, call, &wanted);
         }
+        *table.number(at) = old;
     }
 }
 
 fn tables(tally: &mut Tally) {
     let mut random = Random::new(84);
     for _ in 0..80 {
-        let plan = small_plan(&mut random);
+        let plan = gen::small_plan(&mut random);
         every_number_of_table(tally, &mut random, &plan);
     }
     for (name, plan) in deep::plans() {
@@ -62,55 +55,26 @@ fn tables(tally: &mut Tally) {
     }
 }
 
-/// Lists of a table cut off: it is that of no plan any more.
-fn shorter_tables(tally: &mut Tally) {
+/// Rows cut off: the table is that of no plan any more.
+fn shorter_rows(tally: &mut Tally) {
     let mut random = Random::new(85);
-    for _ in 0..200 {
-        let plan = small_plan(&mut random);
+    for _ in 0..800 {
+        let plan = gen::small_plan(&mut random);
         let composed = Composed::new(&plan);
         let table = table::table(&composed);
-        for which in 0..4 {
-            for cut in [1, 8, usize::MAX] {
-                let mut shorter = table.clone();
-                let list = &mut *parts(&mut shorter)[which];
-                list.truncate(list.len().saturating_sub(cut));
-                let state = some_state(&mut random, &composed);
-                let call = fitting_call(&mut random, &composed, &state);
-                let wanted = law::on_table(&shorter, &state, call);
-                tally.call("a list cut off", &shorter, &state, call, &wanted);
-            }
-        }
-    }
-}
-
-/// Memory that is one number short is not touched.
-#[cfg(not(face))]
-fn short_memory(tally: &mut Tally) {
-    let mut random = Random::new(91);
-    let plan = small_plan(&mut random);
-    let composed = Composed::new(&plan);
-    let table = table::table(&composed);
-    let state = some_state(&mut random, &composed);
-    for part in 0..WHOLE.len() {
-        for short in [WHOLE[part] - 1, 1, 0] {
-            let mut lent = WHOLE;
-            lent[part] = short;
-            for call in [Call::Release, fitting_call(&mut random, &composed, &state)] {
-                let numbers = call.numbers(&mut random);
-                let before = Memory::new(&mut random, &state);
-                let mut after = before.clone();
-                let code = library::call_with(&table, &numbers, &mut after, lent);
-                tally.holds(code == SHORT && after == before, || {
-                    format!("{lent:?} numbers lent, not {WHOLE:?}")
-                });
-            }
+        let records = table.row.len();
+        for cut in [1, 8, records] {
+            let mut shorter = table.clone();
+            shorter.row.truncate(records.saturating_sub(cut));
+            let state = some_state(&mut random, &composed);
+            let call = fitting_call(&mut random, &composed, &state);
+            let wanted = law::on_table(&shorter, &state, call);
+            tally.call("a row cut off", &shorter, &state, call, &wanted);
         }
     }
 }
 
 pub fn compare_all(tally: &mut Tally) {
     tables(tally);
-    shorter_tables(tally);
-    #[cfg(not(face))]
-    short_memory(tally);
+    shorter_rows(tally);
 }

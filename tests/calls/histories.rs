@@ -1,6 +1,10 @@
 //! Random histories of calls on one state: small plans against the list of all
 //! their runs, large and deep ones against the compositional computation.
 
+use lent::calls::Call;
+use lent::law::{self, Outcome};
+use lent::state::{State, EARLIER, LEAVES, LEVEL, LEVELS, STATE, SUSPENDED};
+use lent::tally::{Met, Tally};
 use reference::calls::{Answer, Controller};
 use reference::composed::Composed;
 use reference::gen::{self, Random};
@@ -11,13 +15,9 @@ use reference::table::{self, Table};
 
 use super::damage;
 use super::deep;
-use super::law::{self, Reply};
-use super::library::Call;
-use super::state::{State, EARLIER, LEAVES, LEVEL, LEVELS, STATE, SUSPENDED};
-use super::tally::{Met, Tally};
 
 /// Small plans whose runs are listed, the most runs of one, and calls on each.
-const PLANS: usize = 8_000;
+const PLANS: usize = 8_100;
 const MOST_RUNS: usize = 500;
 const CALLS: usize = 40;
 
@@ -155,7 +155,7 @@ impl<'a, N: Numbers> History<'a, N> {
     }
 
     /// What the reference's controller gives; it is moved on.
-    fn wanted(&mut self, call: Call) -> Reply {
+    fn wanted(&mut self, call: Call) -> Outcome {
         let answer = match call {
             Call::Release => self.controller.release(),
             Call::Report(point, reading) => self.controller.report(point, reading),
@@ -171,7 +171,7 @@ impl<'a, N: Numbers> History<'a, N> {
                     .decided(self.controller.last_reading(), self.controller.suspended())
             }
         };
-        Reply { answer, state }
+        Outcome { answer, state }
     }
 
     /// Numbers that are never looked at, set to any: of an idle state all but the
@@ -195,7 +195,7 @@ impl<'a, N: Numbers> History<'a, N> {
         let mut state = self.state.clone();
         if random.chance(80) {
             let at = random.index(STATE);
-            state.0[at] = damage::other(random, state.0[at]);
+            state.0[at] = random.other(state.0[at]);
             let wanted = law::on_plan(self.composed, &state, call);
             tally.call(
                 "a history, state changed",
@@ -236,15 +236,15 @@ fn small_plans(tally: &mut Tally) -> usize {
     let mut random = Random::new(82);
     let (mut plans, mut highest) = (0, 0);
     while plans < PLANS {
-        let shape = gen::small_shape(&mut random);
-        let plan = gen::valid_plan(&mut random, shape);
+        let plan = gen::small_plan(&mut random);
         let Some(listed) = Listed::new(&plan, MOST_RUNS) else {
             continue;
         };
         plans += 1;
         let composed = Composed::new(&plan);
         let mut table = table::table(&listed);
-        damage::lengthen(&mut random, &mut table);
+        let more = random.pick(&[0, 0, 1, 8, 9]);
+        damage::lengthen(&mut random, &mut table, more);
         let mut history = History::new(&mut random, &listed, &composed, &table);
         history.play(tally, &mut random, CALLS);
         highest = highest.max(history.highest);
@@ -260,8 +260,7 @@ fn large_plans(tally: &mut Tally) -> usize {
         plans.extend([(plan.clone(), true), (plan, false)]);
     }
     for _ in 0..150 {
-        let shape = gen::large_shape(&mut random);
-        plans.push((gen::valid_plan(&mut random, shape), false));
+        plans.push((gen::large_plan(&mut random), false));
     }
     let mut highest = 0;
     for (plan, upward) in &plans {

@@ -2,6 +2,7 @@
 //! reading passes the deadline, no late mark is set, and the others run exactly
 //! while no release is open or the condition has held at every decision since.
 
+use lent::tally::Tally;
 use reference::composed::Composed;
 use reference::gen::{self, Random};
 use reference::numbers::Numbers;
@@ -9,12 +10,11 @@ use reference::plan::Plan;
 use reference::table;
 
 use super::deep;
-use super::tally::Tally;
 use super::world::{Met, World};
 
 /// Runs of small plans begun and, at least, ended; and how many of one plan follow
 /// each other.
-const RUNS: usize = 105_000;
+const RUNS: usize = 110_000;
 const ENDED: usize = 100_000;
 const OF_ONE_PLAN: usize = 10;
 
@@ -37,14 +37,12 @@ pub fn compare_all(tally: &mut Tally) {
     let mut random = Random::new(92);
     let (mut small, mut large) = (Met::default(), Met::default());
     while small.runs < RUNS {
-        let shape = gen::small_shape(&mut random);
-        let plan = gen::valid_plan(&mut random, shape);
+        let plan = gen::small_plan(&mut random);
         runs(tally, &mut random, &mut small, &plan, 60);
     }
     let mut plans: Vec<Plan> = deep::plans().into_iter().map(|(_, plan)| plan).collect();
-    for _ in 0..60 {
-        let shape = gen::large_shape(&mut random);
-        plans.push(gen::valid_plan(&mut random, shape));
+    for _ in 0..80 {
+        plans.push(gen::large_plan(&mut random));
     }
     for plan in &plans {
         runs(tally, &mut random, &mut large, plan, 100);

@@ -1,14 +1,14 @@
 //! The plans that document 01 works through: the worked lists of calls of the
 //! reference, m6 and m7, and the numbers of the state on the way, by hand.
 
+use lent::calls::{made, Call};
+use lent::state::State;
+use lent::tally::Tally;
 use reference::composed::Composed;
 use reference::plan;
-use reference::table::{self, Table, LOADED, TOTAL};
+use reference::records::STRETCH;
+use reference::table::{self, Table, MAX_LOAD_TOTAL, TOTAL};
 use reference::worked::{CASES, PLAN_A, PLAN_B, TWICE};
-
-use super::library::{self, Call, Memory};
-use super::state::State;
-use super::tally::Tally;
 
 fn of_text(text: &str) -> Table {
     let plan = plan::read(text.as_bytes(), 512);
@@ -35,15 +35,12 @@ pub fn calls_on(tally: &mut Tally, name: &str, table: &Table, lines: &[&str]) ->
     for line in lines {
         let (words, wanted) = line.split_once(" -> ").expect("a call and its answer");
         let call = call_of(words);
-        let mut memory = Memory::new(&mut tally.random, &state);
-        let numbers = call.numbers(&mut tally.random);
-        let code = library::call(table, &numbers, &mut memory);
-        let found = library::answer(memory.answer());
+        let mut after = state.clone();
+        let found = made(table, &mut after, call).and_then(|reply| reply.answer());
         let right = found.is_some_and(|answer| answer.line() == wanted);
-        tally.holds(code == 0 && right, || {
+        tally.holds(right, || {
             format!("{name}: {words} gives {found:?}, wanted {wanted}")
         });
-        let after = memory.state();
         let kept = !wanted.starts_with("refused") || after == state;
         tally.holds(kept, || {
             format!("{name}: {words} is refused and moves the state")
@@ -114,9 +111,10 @@ fn suspended(tally: &mut Tally) {
 
 fn plan_b(tally: &mut Tally) {
     let table = of_text(PLAN_B);
-    let totals = [table.head[TOTAL], table.head[LOADED]];
+    let totals = [table.head[TOTAL], table.head[MAX_LOAD_TOTAL]];
     tally.holds(totals == [15, 19], || "m6".to_string());
-    tally.holds(table.stretches == [4, 13, 2, 0, 2], || "m7".to_string());
+    let stretches = table.row.iter().map(|record| record[STRETCH]);
+    tally.holds(stretches.eq([4, 13, 2, 0, 2]), || "m7".to_string());
     let to_branch = ["release -> go 15 180 0", "report 1 0 -> go 15 167 0"];
     let by_else = ["report 4 0 -> go 4 189 0", "report 0 0 -> go 3 188 0"];
     let lines = [to_branch, by_else].concat();

@@ -2,17 +2,18 @@
 //! answers of its calls; table and state it only hands on. The run is picked as it
 //! goes, so that it can take the dearer way under load and alone.
 
+use lent::calls::{made, Call};
+use lent::law;
+use lent::state::State;
+use lent::tally::Tally;
 use reference::calls::{Answer, Word};
-use reference::composed::{function_totals, Composed, Cost, Place};
+use reference::composed::{Composed, Place};
 use reference::gen::Random;
 use reference::numbers::Numbers;
 use reference::plan::{text, Form, Kind, Plan};
 use reference::table::Table;
 
-use super::law;
-use super::library::{self, Call, Memory};
-use super::state::State;
-use super::tally::Tally;
+use super::habit::{dearer_parts, Habit};
 
 /// What runs met, so that nothing goes untried.
 #[derive(Default)]
@@ -51,37 +52,6 @@ struct Open {
     held: bool,
 }
 
-/// How a run goes.
-struct Habit {
-    /// Everything takes as long as it may; any time; nothing or as long as it
-    /// may.
-    ticks: u64,
-    /// How often, in a hundred, it takes the dearer way: under load while the
-    /// others run, alone while they do not.
-    dear: u64,
-    /// How often, in a hundred, a call that the rules refuse comes in between.
-    strays: u64,
-    /// Once so many visits were made, every loop is left.
-    long: usize,
-    /// It is broken off after so many.
-    most: usize,
-}
-
-impl Habit {
-    fn new(random: &mut Random, long: usize) -> Habit {
-        Habit {
-            ticks: random.below(3),
-            dear: random.pick(&[100, 100, 80, 0]),
-            strays: random.pick(&[0, 5, 20]),
-            long,
-            most: match random.chance(4) {
-                true => random.index(10),
-                false => 10 * long,
-            },
-        }
-    }
-}
-
 pub struct World<'a> {
     plan: &'a Plan,
     leaves: Vec<&'a Form>,
@@ -99,43 +69,6 @@ pub struct World<'a> {
     open: Option<Open>,
     habit: Habit,
     visits: usize,
-}
-
-/// The sum of these forms; on the way the ifs' dearer parts are noted.
-fn weigh(forms: &[Form], totals: &[u128], cost: Cost, dearer: &mut [[bool; 2]]) -> u128 {
-    let mut sum = 0;
-    for form in forms {
-        let own = u128::from(match cost {
-            Cost::Isolated => form.isolated,
-            Cost::Loaded => form.loaded,
-        });
-        sum += own;
-        sum += match &form.kind {
-            Kind::Leaf => 0,
-            Kind::Call(target) => totals[*target],
-            Kind::Loop(bound, body) => {
-                (weigh(body, totals, cost, dearer) + own) * u128::from(*bound)
-            }
-            Kind::If(then_part, else_part) => {
-                let by_then = weigh(then_part, totals, cost, dearer);
-                let by_else = weigh(else_part, totals, cost, dearer);
-                dearer[form.leaf][cost as usize] = by_then >= by_else;
-                by_then.max(by_else)
-            }
-        };
-    }
-    sum
-}
-
-fn dearer_parts(plan: &Plan) -> Vec<[bool; 2]> {
-    let mut dearer = vec![[false; 2]; plan.leaves().len()];
-    for cost in [Cost::Isolated, Cost::Loaded] {
-        let totals = function_totals(plan, cost);
-        for forms in &plan.functions {
-            weigh(forms, &totals, cost, &mut dearer);
-        }
-    }
-    dearer
 }
 
 /// A run that goes wrong, or is broken off, stops there.
@@ -193,11 +126,7 @@ impl<'a> World<'a> {
     /// The answer to a call on the state that the last call left.
     fn answer(&mut self, call: Call) -> Option<Answer> {
         self.met.calls += 1;
-        let mut memory = Memory::new(self.random, &self.state);
-        let numbers = call.numbers(self.random);
-        let code = library::call(self.table, &numbers, &mut memory);
-        self.state = memory.state();
-        library::answer(memory.answer()).filter(|_| code == 0)
+        made(self.table, &mut self.state, call)?.answer()
     }
 
     /// Claimed after each call.

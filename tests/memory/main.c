@@ -164,7 +164,7 @@ static void nested_row(uint64_t ifs, int otherwise)
 static void broken_tables(void)
 {
     write_nesting(&DEEPEST);
-    uint64_t *const changed[] = {&head.stretch, &head.loaded, &head.total, &row[0].stretch, &row[46].stretch, &row[46].tail, &row[46].turn, &row[46].level};
+    uint64_t *const changed[] = {&head.stretch, &head.max_load_total, &head.total, &row[0].stretch, &row[46].stretch, &row[46].tail, &row[46].turn, &row[46].level};
     for (size_t i = 0; i < sizeof changed / sizeof *changed; i++) {
         read_accepted("deepest");
         *changed[i] += 1;

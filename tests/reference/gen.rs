@@ -40,6 +40,24 @@ impl Random {
     pub fn pick<T: Copy>(&mut self, from: &[T]) -> T {
         from[self.index(from.len())]
     }
+
+    /// What a number is changed to: one more, one less, 0, a random one, the
+    /// largest, and one of those that stand in tables and states.
+    pub fn others(&mut self, old: u64) -> [u64; 6] {
+        [
+            old.wrapping_add(1),
+            old.wrapping_sub(1),
+            0,
+            self.next(),
+            u64::MAX,
+            self.below(20),
+        ]
+    }
+
+    pub fn other(&mut self, old: u64) -> u64 {
+        let all = self.others(old);
+        self.pick(&all)
+    }
 }
 
 /// What random plans are to look like.
@@ -292,6 +310,16 @@ pub fn valid_plan(random: &mut Random, mut shape: Shape) -> Plan {
         shape.leaves = (shape.leaves * 9 / 10).max(1);
         shape.cost = (shape.cost / 2).max(1);
     }
+}
+
+pub fn small_plan(random: &mut Random) -> Plan {
+    let shape = small_shape(random);
+    valid_plan(random, shape)
+}
+
+pub fn large_plan(random: &mut Random) -> Plan {
+    let shape = large_shape(random);
+    valid_plan(random, shape)
 }
 
 /// Adds the leaves visited in one random run of these forms.

@@ -8,6 +8,7 @@ pub mod composed;
 pub mod count;
 pub mod crossed;
 pub mod damage;
+pub mod edges;
 pub mod gen;
 pub mod lines;
 pub mod listed;

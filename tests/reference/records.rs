@@ -1,10 +1,24 @@
-//! The leaves of a plan as records of eight numbers, and what the reader gives
-//! beside them: where each function begins, and how high it reaches.
+//! The leaves of a plan as records, and where each function begins.
 
 use super::plan::{Form, Kind, Plan, MOST_FUNCTIONS};
 
-/// Numbers for each leaf.
-pub const RECORD: usize = 8;
+/// Where the numbers of a record stand: eight that the text decides (kind, point,
+/// C, M, bound or target, first leaf of the else part, first leaf after the form,
+/// level in its own function), and three that are derived.
+pub const KIND: usize = 0;
+pub const POINT: usize = 1;
+pub const ISOLATED: usize = 2;
+pub const MAX_LOAD: usize = 3;
+pub const DETAIL: usize = 4;
+pub const OTHER: usize = 5;
+pub const AFTER: usize = 6;
+pub const LEVEL: usize = 7;
+pub const TURN: usize = 8;
+pub const TAIL: usize = 9;
+pub const STRETCH: usize = 10;
+pub const RECORD: usize = 11;
+
+pub type Record = [u64; RECORD];
 
 fn count(forms: &[Form]) -> usize {
     forms
@@ -17,32 +31,33 @@ fn count(forms: &[Form]) -> usize {
         .sum()
 }
 
-/// For each leaf: kind, point, C, M, bound or target, first leaf of the else
-/// part, first leaf after the form, level in its own function.
-fn records(forms: &[Form], level: u64, into: &mut Vec<u64>) {
+/// The record of a form at this level of its function, what is derived left at 0.
+fn record(form: &Form, level: u64) -> Record {
+    let inner = form.leaf + 1;
+    let (kind, detail, other, after) = match &form.kind {
+        Kind::Leaf => (0, 0, 0, inner),
+        Kind::Call(target) => (1, *target as u64, 0, inner),
+        Kind::Loop(bound, body) => (2, *bound, 0, inner + count(body)),
+        Kind::If(then_part, else_part) => {
+            let other = inner + count(then_part);
+            (3, 0, other, other + count(else_part))
+        }
+    };
+    let mut record = [0; RECORD];
+    record[KIND] = kind;
+    record[POINT] = u64::from(form.point);
+    record[ISOLATED] = form.isolated;
+    record[MAX_LOAD] = form.loaded;
+    record[DETAIL] = detail;
+    record[OTHER] = other as u64;
+    record[AFTER] = after as u64;
+    record[LEVEL] = level;
+    record
+}
+
+fn records(forms: &[Form], level: u64, into: &mut Vec<Record>) {
     for form in forms {
-        let inner = form.leaf + 1;
-        let (kind, field, else_first, after) = match &form.kind {
-            Kind::Leaf => (0, 0, 0, inner),
-            Kind::Call(target) => (1, *target as u64, 0, inner),
-            Kind::Loop(bound, body) => (2, *bound, 0, inner + count(body)),
-            Kind::If(then_part, else_part) => {
-                let else_first = inner + count(then_part);
-                (3, 0, else_first, else_first + count(else_part))
-            }
-        };
-        let (c, m) = (form.isolated, form.loaded);
-        let numbers = [
-            kind,
-            u64::from(form.point),
-            c,
-            m,
-            field,
-            else_first as u64,
-            after as u64,
-            level,
-        ];
-        into.extend(numbers);
+        into.push(record(form, level));
         match &form.kind {
             Kind::Leaf | Kind::Call(_) => {}
             Kind::Loop(_, body) => records(body, level + 1, into),
@@ -54,12 +69,13 @@ fn records(forms: &[Form], level: u64, into: &mut Vec<u64>) {
     }
 }
 
-pub fn row(plan: &Plan) -> Vec<u64> {
-    let mut numbers = Vec::new();
+/// What the text decides of a plan's row.
+pub fn row(plan: &Plan) -> Vec<Record> {
+    let mut row = Vec::new();
     for forms in &plan.functions {
-        records(forms, 1, &mut numbers);
+        records(forms, 1, &mut row);
     }
-    numbers
+    row
 }
 
 /// The first leaf of each function and the leaf after the last one, 0 behind.
@@ -72,61 +88,34 @@ pub fn bounds(plan: &Plan) -> Vec<u64> {
     bounds
 }
 
-/// Greatest level of these lines, a call adding the height of what it calls.
-fn height(forms: &[Form], level: u64, called: &[u64]) -> u64 {
-    let of_form = |form: &Form| match &form.kind {
-        Kind::Leaf => level,
-        Kind::Call(target) => level + called[*target],
-        Kind::Loop(_, body) => level.max(height(body, level + 1, called)),
-        Kind::If(then_part, else_part) => {
-            let parts = height(then_part, level, called).max(height(else_part, level, called));
-            level.max(parts)
-        }
-    };
-    forms.iter().map(of_form).max().unwrap_or(0)
-}
-
-/// The height of each function, 0 behind the last.
-pub fn heights(plan: &Plan) -> Vec<u64> {
-    let mut heights = Vec::new();
-    for forms in &plan.functions {
-        heights.push(height(forms, 1, &heights));
-    }
-    heights.resize(MOST_FUNCTIONS, 0);
-    heights
-}
-
 /// The forms that the records from one leaf up to another stand for; None where
 /// the numbers do not nest.
-fn forms(row: &[u64], from: usize, to: usize) -> Option<Vec<Form>> {
+fn forms(row: &[Record], from: usize, to: usize) -> Option<Vec<Form>> {
     let mut all = Vec::new();
     let mut leaf = from;
     while leaf < to {
-        let record = row.chunks_exact(RECORD).nth(leaf)?;
-        let [kind, point, isolated, loaded, field, else_first, after, _] = record else {
-            return None;
-        };
+        let record = row.get(leaf)?;
         let inner = leaf + 1;
         let within = |number: u64, first: usize, last: usize| {
             let leaf = usize::try_from(number).ok()?;
             (first <= leaf && leaf <= last).then_some(leaf)
         };
-        let after = within(*after, inner, to)?;
-        let kind = match kind {
+        let after = within(record[AFTER], inner, to)?;
+        let kind = match record[KIND] {
             0 => Kind::Leaf,
-            1 => Kind::Call(usize::try_from(*field).ok()?),
-            2 => Kind::Loop(*field, forms(row, inner, after)?),
+            1 => Kind::Call(usize::try_from(record[DETAIL]).ok()?),
+            2 => Kind::Loop(record[DETAIL], forms(row, inner, after)?),
             3 => {
-                let middle = within(*else_first, inner, after)?;
+                let middle = within(record[OTHER], inner, after)?;
                 Kind::If(forms(row, inner, middle)?, forms(row, middle, after)?)
             }
             _ => return None,
         };
         all.push(Form {
             leaf,
-            point: *point == 1,
-            isolated: *isolated,
-            loaded: *loaded,
+            point: record[POINT] == 1,
+            isolated: record[ISOLATED],
+            loaded: record[MAX_LOAD],
             kind,
         });
         leaf = after;
@@ -137,7 +126,7 @@ fn forms(row: &[u64], from: usize, to: usize) -> Option<Vec<Form>> {
 /// The functions that a row stands for, so many between these bounds; None where
 /// the numbers are those of no plan. Numbers that the forms do not need are not
 /// looked at.
-pub fn functions(row: &[u64], bounds: &[u64], count: usize) -> Option<Vec<Vec<Form>>> {
+pub fn functions(row: &[Record], bounds: &[u64], count: usize) -> Option<Vec<Vec<Form>>> {
     let bound = |at: usize| usize::try_from(*bounds.get(at)?).ok();
     (0..count)
         .map(|function| forms(row, bound(function)?, bound(function + 1)?))

@@ -1,10 +1,13 @@
 //! The table of a plan as numbers, and whether a table is that of an accepted
 //! plan (refusal 11).
 
+use std::ops::Range;
+
 use super::composed::Composed;
+use super::gen::Random;
 use super::numbers::Numbers;
 use super::plan::{self, Plan, MOST_FUNCTIONS, MOST_LEAVES};
-use super::records::{self, RECORD};
+use super::records::{self, Record, POINT, RECORD, TAIL, TURN};
 
 /// Where the numbers of the head stand: D, T, both totals, the stretch of the
 /// release, how many leaves and functions there are, the bounds of the functions
@@ -12,7 +15,7 @@ use super::records::{self, RECORD};
 pub const DEADLINE: usize = 0;
 pub const SWITCH: usize = 1;
 pub const TOTAL: usize = 2;
-pub const LOADED: usize = 3;
+pub const MAX_LOAD_TOTAL: usize = 3;
 pub const STRETCH: usize = 4;
 pub const LEAVES: usize = 5;
 pub const FUNCTIONS: usize = 6;
@@ -20,63 +23,109 @@ pub const BOUNDS: usize = 7;
 pub const TOTALS: usize = BOUNDS + MOST_FUNCTIONS + 1;
 pub const HEAD: usize = TOTALS + MOST_FUNCTIONS;
 
-/// Numbers of the row and of a column where they have room for most leaves.
-pub const ROW: usize = MOST_LEAVES * RECORD;
-pub const COLUMN: usize = MOST_LEAVES;
+pub type Head = [u64; HEAD];
 
-/// The records of the leaves, three derived numbers for each leaf, and the head.
-/// A lent table may have more records and numbers behind those of its plan.
+/// The records of the leaves, and the head. A lent table may have more records
+/// behind those of its plan.
 #[derive(Clone, Debug, PartialEq, Eq)]
 pub struct Table {
-    pub row: Vec<u64>,
-    pub turns: Vec<u64>,
-    pub tails: Vec<u64>,
-    pub stretches: Vec<u64>,
-    pub head: Vec<u64>,
+    pub row: Vec<Record>,
+    pub head: Head,
 }
 
+/// Parts of a table: what the text decides of the row, each derived column, and the
+/// head last.
+pub const PARTS: usize = 5;
+
+/// Where the numbers of a part stand in a record; the head is none of them.
+pub const COLUMNS: [Range<usize>; PARTS - 1] = [
+    0..TURN,
+    TURN..TAIL,
+    TAIL..records::STRETCH,
+    records::STRETCH..RECORD,
+];
+
 impl Table {
-    /// The four lists that hold something for each leaf.
-    pub fn lists(&self) -> [&[u64]; 4] {
-        [&self.row, &self.turns, &self.tails, &self.stretches]
+    /// How many numbers it has; the row's stand before those of the head.
+    pub fn count(&self) -> usize {
+        self.row.len() * RECORD + HEAD
     }
 
-    pub fn lists_mut(&mut self) -> [&mut Vec<u64>; 4] {
-        [
-            &mut self.row,
-            &mut self.turns,
-            &mut self.tails,
-            &mut self.stretches,
-        ]
+    pub fn number(&mut self, at: usize) -> &mut u64 {
+        let row = self.row.as_flattened_mut();
+        match at.checked_sub(row.len()) {
+            None => &mut row[at],
+            Some(at) => &mut self.head[at],
+        }
     }
+
+    /// The name of a number, for messages.
+    pub fn name(&self, at: usize) -> String {
+        match at.checked_sub(self.row.len() * RECORD) {
+            None => format!("record {}[{}]", at / RECORD, at % RECORD),
+            Some(at) => format!("head[{at}]"),
+        }
+    }
+
+    /// Where some number of a part stands; None where there is none.
+    pub fn place(&self, random: &mut Random, part: usize) -> Option<usize> {
+        let records = self.row.len();
+        match COLUMNS.get(part) {
+            None => Some(records * RECORD + random.index(HEAD)),
+            Some(_) if records == 0 => None,
+            Some(columns) => {
+                let column = columns.start + random.index(columns.len());
+                Some(random.index(records) * RECORD + column)
+            }
+        }
+    }
+}
+
+/// The head of a plan with these totals, stretch of the release and totals of its
+/// functions; those of functions that it does not have are 0.
+pub fn head(plan: &Plan, numbers: [u64; 3], mut totals: Vec<u64>) -> Head {
+    totals.resize(MOST_FUNCTIONS, 0);
+    let leaves = plan.leaves().len() as u64;
+    let functions = plan.functions.len() as u64;
+    let all = [
+        &[plan.deadline, plan.switch],
+        &numbers[..],
+        &[leaves, functions],
+        &records::bounds(plan),
+        &totals,
+    ];
+    let all = all.concat().try_into();
+    all.expect("as many numbers as a head has")
 }
 
 pub fn table<N: Numbers>(numbers: &N) -> Table {
     let plan = numbers.plan();
-    let leaves = plan.leaves();
-    let column = |number: &dyn Fn(usize) -> u64| (0..leaves.len()).map(number).collect();
-    let mut totals: Vec<u64> = (0..plan.functions.len())
-        .map(|function| numbers.function_total(function))
-        .collect();
-    totals.resize(MOST_FUNCTIONS, 0);
-    let first = vec![
-        plan.deadline,
-        plan.switch,
+    let mut row = records::row(plan);
+    for (leaf, record) in row.iter_mut().enumerate() {
+        record[TURN] = numbers.turn(leaf);
+        record[TAIL] = numbers.tail(leaf);
+        if record[POINT] == 1 {
+            record[records::STRETCH] = numbers.stretch(leaf);
+        }
+    }
+    let first = [
         numbers.total(),
         numbers.max_load_total(),
         numbers.release_stretch(),
-        leaves.len() as u64,
-        plan.functions.len() as u64,
     ];
+    let functions = 0..plan.functions.len();
+    let totals = functions.map(|function| numbers.function_total(function));
+    Table {
+        row,
+        head: head(plan, first, totals.collect()),
+    }
+}
+
+/// The table of a plan whose costs are all 0: so is every derived number.
+pub fn costless(plan: &Plan) -> Table {
     Table {
         row: records::row(plan),
-        turns: column(&|leaf| numbers.turn(leaf)),
-        tails: column(&|leaf| numbers.tail(leaf)),
-        stretches: column(&|leaf| match leaves[leaf].1.point {
-            true => numbers.stretch(leaf),
-            false => 0,
-        }),
-        head: [first, records::bounds(plan), totals].concat(),
+        head: head(plan, [0; 3], Vec::new()),
     }
 }
 
@@ -115,8 +164,7 @@ pub fn finding(lent: &Table) -> Finding {
         Err((number, _)) => return Finding::Refused(number),
     };
     let own = table(&Composed::new(&plan));
-    let mut lists = lent.lists().into_iter().zip(own.lists());
-    match lent.head == own.head && lists.all(|(lent, own)| lent.starts_with(own)) {
+    match lent.head == own.head && lent.row.starts_with(&own.row) {
         true => Finding::Good,
         false => Finding::Differs,
     }

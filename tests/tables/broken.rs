@@ -2,29 +2,12 @@
 //! if the rule were not there. Only the rule itself can tell that they are bad.
 
 use reference::composed::Composed;
+use reference::edges;
 use reference::gen::{self, Random, Shape};
 use reference::plan::{
     Form, Kind, Plan, MOST_BOUND, MOST_COST, MOST_DEADLINE, MOST_FUNCTIONS, MOST_LEAVES,
 };
-use reference::records;
-use reference::table::{self, Table};
-
-use super::edges;
-
-/// The table of a plan whose costs are all 0: so is every derived number.
-pub fn costless(plan: &Plan) -> Table {
-    let leaves = plan.leaves().len();
-    let first = vec![plan.deadline, plan.switch, 0, 0, 0];
-    let counts = vec![leaves as u64, plan.functions.len() as u64];
-    let totals = vec![0; MOST_FUNCTIONS];
-    Table {
-        row: records::row(plan),
-        turns: vec![0; leaves],
-        tails: vec![0; leaves],
-        stretches: vec![0; leaves],
-        head: [first, counts, records::bounds(plan), totals].concat(),
-    }
-}
+use reference::table::{self, costless, Table};
 
 fn leaf(point: bool, kind: Kind) -> Form {
     Form {
@@ -148,8 +131,7 @@ fn change(forms: &mut [Form], leaf: usize, by: &dyn Fn(&mut Form)) {
 /// Rules 3, 5, 8 and 9 by one leaf of an accepted plan: a cost out of range, M
 /// below C, a report left out, a call left out.
 fn by_one_leaf(random: &mut Random) -> Table {
-    let shape = gen::small_shape(random);
-    let mut plan = gen::valid_plan(random, shape);
+    let mut plan = gen::small_plan(random);
     let leaf = random.index(plan.leaves().len().max(1));
     let way = random.below(5);
     let by = |form: &mut Form| match way {
@@ -171,8 +153,7 @@ fn by_one_leaf(random: &mut Random) -> Table {
 
 /// Rule 10 by totals at 2^40 and beside it.
 fn by_totals(random: &mut Random) -> Vec<Table> {
-    let shape = gen::small_shape(random);
-    let plan = gen::valid_plan(random, shape);
+    let plan = gen::small_plan(random);
     edges::topped(random, &plan)
         .into_iter()
         .map(|(_, plan, _)| table::table(&Composed::new(&plan)))

@@ -1,28 +1,41 @@
-//! Tables checked: those of accepted plans, the same with numbers changed, cut
-//! off or added, and those of plans that break a rule. The reference decides what
-//! is right: a changed number can make the table of another accepted plan.
+//! Calls on tables of accepted plans, on the same with numbers changed, cut off or
+//! added, and on those of plans that break a rule. The reference decides what is
+//! right: a changed number can make the table of another accepted plan.
 
+use lent::calls::Call;
+use lent::law;
+use lent::state::{State, LEVELS};
+use lent::tally::Tally;
 use reference::composed::Composed;
+use reference::edges;
 use reference::gen::{self, Random};
 use reference::plan::{self, Plan, MOST_LEAVES};
-use reference::table::{self, Finding, Table, COLUMN, FUNCTIONS, HEAD, LEAVES};
+use reference::table::{self, Finding, Table, COLUMNS, FUNCTIONS, LEAVES, PARTS, TOTAL};
 
 use super::broken;
-use super::edges;
-use super::library::{self, SHORT};
-use super::tally::Tally;
 
-/// Names of the lists of a table, the head last.
-const PARTS: [&str; 5] = ["row", "turns", "tails", "stretches", "head"];
-
-fn part(table: &mut Table, which: usize) -> &mut Vec<u64> {
-    match which {
-        0 => &mut table.row,
-        1 => &mut table.turns,
-        2 => &mut table.tails,
-        3 => &mut table.stretches,
-        _ => &mut table.head,
+/// Makes each call on a table, on a fresh state or on the one that a release on
+/// this table leaves.
+fn judge(tally: &mut Tally, group: &str, table: &Table) -> Finding {
+    let finding = table::finding(table);
+    let plan = table::plan_of(table).filter(|_| finding == Finding::Good);
+    let mut times = [0; LEVELS];
+    times[0] = table.head[TOTAL];
+    for call in [Call::Release, Call::Report(0, 0), Call::End(0)] {
+        let state = match tally.random.chance(50) {
+            true => State::fresh(),
+            false => State::released(&times, tally.random.chance(50)),
+        };
+        let wanted = law::on(plan.as_ref(), &state, call);
+        tally.call(group, table, &state, call, &wanted);
     }
+    finding
+}
+
+/// The same on a table that is known to be good.
+fn judge_good(tally: &mut Tally, group: &str, table: &Table) {
+    let finding = judge(tally, group, table);
+    tally.holds(finding == Finding::Good, || format!("{group} is good"));
 }
 
 fn of_plan(plan: &Plan) -> Table {
@@ -30,142 +43,124 @@ fn of_plan(plan: &Plan) -> Table {
 }
 
 fn small_table(random: &mut Random) -> Table {
-    let shape = gen::small_shape(random);
-    of_plan(&gen::valid_plan(random, shape))
+    of_plan(&gen::small_plan(random))
 }
 
-/// One number set to others: one more, one less, 0, a random one, the largest,
-/// and one of those that stand in tables.
-fn change_number(tally: &mut Tally, table: &mut Table, which: usize, at: usize) {
-    let old = part(table, which)[at];
-    let changed = [
-        old.wrapping_add(1),
-        old.wrapping_sub(1),
-        0,
-        tally.random.next(),
-        u64::MAX,
-        tally.random.below(20),
-    ];
-    for new in changed.into_iter().filter(|&new| new != old) {
-        part(table, which)[at] = new;
-        let group = format!("{}[{at}] {new} in place of {old}", PARTS[which]);
-        tally.table(&group, table);
+/// One number set to others.
+fn change_number(tally: &mut Tally, table: &mut Table, at: usize) {
+    let old = *table.number(at);
+    let others = tally.random.others(old);
+    for new in others.into_iter().filter(|&new| new != old) {
+        *table.number(at) = new;
+        let group = format!("{} {new} in place of {old}", table.name(at));
+        judge(tally, &group, table);
     }
-    part(table, which)[at] = old;
+    *table.number(at) = old;
 }
 
 /// Every number of small tables, and some of large ones.
-fn single_numbers(tally: &mut Tally) {
+pub fn single_numbers(tally: &mut Tally) {
     let mut random = Random::new(71);
     for _ in 0..400 {
         let mut table = small_table(&mut random);
-        let found = tally.table("an accepted plan's table", &table);
-        tally
-            .count
-            .holds(found == Finding::Good, "an accepted plan's table is good");
-        for which in 0..PARTS.len() {
-            for at in 0..part(&mut table, which).len() {
-                change_number(tally, &mut table, which, at);
-            }
+        judge_good(tally, "an accepted plan's table", &table);
+        for at in 0..table.count() {
+            change_number(tally, &mut table, at);
         }
     }
     let large = edges::largest().into_iter();
     let large = large.filter_map(|(_, text, _)| plan::read(&text, MOST_LEAVES).ok());
     for plan in large {
         let mut table = of_plan(&plan);
-        tally.table("a large plan's table", &table);
+        judge_good(tally, "a large plan's table", &table);
         for _ in 0..60 {
-            let which = random.index(PARTS.len());
-            let at = random.index(part(&mut table, which).len());
-            change_number(tally, &mut table, which, at);
+            let part = random.index(PARTS);
+            let at = table.place(&mut random, part);
+            change_number(tally, &mut table, at.expect("a leaf"));
         }
     }
 }
 
-/// Several numbers changed: some by little, some moved, whole records swapped.
-fn several_numbers(tally: &mut Tally) {
+/// Changes a number by little, sets it to a small one, or swaps it with another of
+/// its part.
+fn change_some(random: &mut Random, table: &mut Table) {
+    let part = random.pick(&[0, 0, 0, 1, 2, 3, 4]);
+    let places = (table.place(random, part), table.place(random, part));
+    let (Some(at), Some(other)) = places else {
+        return;
+    };
+    let number = *table.number(at);
+    let new = match random.below(4) {
+        0 => number.wrapping_add(1),
+        1 => number.wrapping_sub(1),
+        2 => std::mem::replace(table.number(other), number),
+        _ => random.below(4),
+    };
+    *table.number(at) = new;
+}
+
+pub fn several_numbers(tally: &mut Tally) {
     let mut random = Random::new(72);
     for _ in 0..1_500 {
         let table = small_table(&mut random);
         for _ in 0..12 {
             let mut changed = table.clone();
             for _ in 0..2 + random.index(3) {
-                let list = part(&mut changed, random.pick(&[0, 0, 0, 1, 2, 3, 4]));
-                if list.is_empty() {
-                    continue;
-                }
-                let (at, other) = (random.index(list.len()), random.index(list.len()));
-                match random.below(4) {
-                    0 => list[at] = list[at].wrapping_add(1),
-                    1 => list[at] = list[at].wrapping_sub(1),
-                    2 => list.swap(at, other),
-                    _ => list[at] = random.below(4),
-                }
+                change_some(&mut random, &mut changed);
             }
-            tally.table("several numbers changed", &changed);
+            judge(tally, "several numbers changed", &changed);
         }
     }
 }
 
-/// The lists of one table with the head of another, and the like.
-fn mixed_tables(tally: &mut Tally) {
+/// One part of a table as another one has it.
+pub fn mixed_tables(tally: &mut Tally) {
     let mut random = Random::new(73);
     for _ in 0..1_000 {
-        let (one, mut other) = (small_table(&mut random), small_table(&mut random));
-        for which in 0..PARTS.len() {
+        let (one, other) = (small_table(&mut random), small_table(&mut random));
+        for part in 0..PARTS {
             let mut mixed = one.clone();
-            part(&mut mixed, which).clone_from(part(&mut other, which));
-            tally.table("parts of two tables", &mixed);
+            match COLUMNS.get(part) {
+                None => mixed.head = other.head,
+                Some(columns) => {
+                    for (mixed, other) in mixed.row.iter_mut().zip(&other.row) {
+                        mixed[columns.clone()].copy_from_slice(&other[columns.clone()]);
+                    }
+                }
+            }
+            judge(tally, "parts of two tables", &mixed);
         }
     }
 }
 
-/// Lists longer than the plan needs, up to memory for most leaves and beyond it.
-fn longer_lists(tally: &mut Tally) {
+/// Rows longer than the plan needs, up to memory for most leaves and beyond it.
+fn longer_rows(tally: &mut Tally) {
     let mut random = Random::new(74);
     for _ in 0..300 {
         let mut table = small_table(&mut random);
-        for list in table.lists_mut() {
-            let more = random.pick(&[0, 1, 7, 8, 100, 9 * COLUMN]);
-            list.extend((0..more).map(|_| random.next()));
-        }
-        let found = tally.table("longer lists", &table);
-        tally
-            .count
-            .holds(found == Finding::Good, "what is behind the plan is free");
+        let more = random.pick(&[0, 1, 7, 8, 100, 9 * MOST_LEAVES]);
+        let behind = (0..more).map(|_| std::array::from_fn(|_| random.next()));
+        table.row.extend(behind);
+        judge_good(tally, "a table in a longer row", &table);
         table.head[LEAVES] += 1;
-        tally.table("longer lists, a leaf more", &table);
+        judge(tally, "a longer row, a leaf more", &table);
     }
 }
 
-/// Lists cut off.
-fn shorter_lists(tally: &mut Tally) {
+fn shorter_rows(tally: &mut Tally) {
     let mut random = Random::new(75);
-    for _ in 0..300 {
+    for _ in 0..1_200 {
         let table = small_table(&mut random);
-        for which in 0..PARTS.len() - 1 {
-            let length = part(&mut table.clone(), which).len();
-            for cut in [1, 2, 8, 9, length] {
-                let mut shorter = table.clone();
-                part(&mut shorter, which).truncate(length.saturating_sub(cut));
-                tally.table("a list cut off", &shorter);
-            }
+        let records = table.row.len();
+        for cut in [1, 2, 8, 9, records] {
+            let mut shorter = table.clone();
+            shorter.row.truncate(records.saturating_sub(cut));
+            judge(tally, "a row cut off", &shorter);
         }
     }
-    let table = small_table(&mut random);
-    for length in [0, 1, HEAD - 1] {
-        let mut shorter = table.clone();
-        shorter.head.truncate(length);
-        let answer = library::check(&shorter);
-        tally.count.holds(answer == SHORT, "a head cut off");
-    }
-    let mut longer = table.clone();
-    longer.head.push(random.next());
-    let answer = library::check(&longer);
-    tally.count.holds(answer == 1, "a head with more behind it");
 }
 
-/// Numbers of leaves and functions that the lists do not have.
+/// Numbers of leaves and functions that the row does not have.
 fn wrong_counts(tally: &mut Tally) {
     let mut random = Random::new(77);
     for _ in 0..300 {
@@ -182,36 +177,30 @@ fn wrong_counts(tally: &mut Tally) {
         ] {
             let mut changed = table.clone();
             changed.head[at] = number;
-            tally.table("leaves or functions that are not there", &changed);
+            judge(tally, "leaves or functions that are not there", &changed);
         }
     }
+}
+
+pub fn rows_and_counts(tally: &mut Tally) {
+    longer_rows(tally);
+    shorter_rows(tally);
+    wrong_counts(tally);
 }
 
 /// Plans that break one rule, with numbers that are right but for that.
-fn broken_rules(tally: &mut Tally) {
+pub fn broken_rules(tally: &mut Tally) {
     let mut random = Random::new(76);
+    let mut broken = [0; 11];
     for table in broken::tables(&mut random) {
-        let found = tally.table("a plan that may break a rule", &table);
-        if let Finding::Refused(number) = found {
-            tally.broken[number as usize] += 1;
+        let finding = judge(tally, "a plan that may break a rule", &table);
+        if let Finding::Refused(number) = finding {
+            broken[number as usize] += 1;
         }
     }
-    println!("tables bad for one rule alone: {:?}", &tally.broken[3..]);
-    let met = (3..=10).all(|number| tally.broken[number] > 0);
-    tally
-        .count
-        .holds(met, "each of the rules 3 to 10 alone makes a table bad");
-}
-
-pub fn compare_all(tally: &mut Tally) {
-    single_numbers(tally);
-    several_numbers(tally);
-    mixed_tables(tally);
-    longer_lists(tally);
-    shorter_lists(tally);
-    wrong_counts(tally);
-    broken_rules(tally);
-    println!("tables good: {}, bad: {}", tally.good, tally.bad);
-    let met = tally.good >= 1_000 && tally.bad >= 10_000;
-    tally.count.holds(met, "good tables and bad ones");
+    println!("  tables bad for one rule alone: {:?}", &broken[3..]);
+    let met = (3..=10).all(|number| broken[number] > 0);
+    tally.holds(met, || {
+        "each of the rules 3 to 10 alone makes a table bad".to_string()
+    });
 }

@@ -1,23 +1,29 @@
-//! The proved tables against the reference: every text read gives the reference's
-//! answer and every number of its table, nothing else in the lent memory changes,
-//! and a table is judged good exactly when an accepted plan has it.
+//! The delivered judging of tables against the reference: a call on any table is
+//! refused by 11 exactly where no accepted plan has the table.
 
 mod broken;
 mod checking;
-mod edges;
-mod library;
-#[cfg(mock)]
-mod mock;
-mod reading;
-mod tally;
 
-use reference::count::Count;
+use lent::tally::Tally;
+use lent::Part;
 
-use tally::Tally;
+const PARTS: &[Part] = &[
+    ("single numbers", checking::single_numbers),
+    ("several numbers", checking::several_numbers),
+    ("mixed tables", checking::mixed_tables),
+    ("rows and counts", checking::rows_and_counts),
+    ("broken rules", checking::broken_rules),
+    ("met", all_met),
+];
+
+fn all_met(tally: &mut Tally) {
+    let bad = tally.met.refusals[11];
+    let good = tally.met.calls - bad;
+    println!("  calls on good tables: {good}, on bad ones: {bad}");
+    let met = good >= 3_000 && bad >= 30_000;
+    tally.holds(met, || "good tables and bad ones".to_string());
+}
 
 fn main() {
-    let mut tally = Tally::new(Count::new(std::env::args().skip(1)));
-    reading::compare_all(&mut tally);
-    checking::compare_all(&mut tally);
-    tally.count.finish();
+    lent::run(PARTS)
 }

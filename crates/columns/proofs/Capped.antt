@@ -1,13 +1,17 @@
 -- Sums held at the ceiling: a part that is held already changes nothing. Assumes nothing.
 use mathlib.Core.Bool.{Bool, true, false}
 use mathlib.Core.Path.{_≡_, sym, ap, _∙_}
+use mathlib.Core.List.{List}
 use Prim.Native.Nat.{ℕ, zero, suc, _+_, _*_, _≤_, max}
 use native.Mathlib.Nat.{mul-le-mul, suc-mul, zero-mul}
 use native.Mathlib.Decide.{decLe}
 use native.Mathlib.Omega.{arith}
-use Rattle.model.specs.Plan.{Block}
+use lib.Dec.{eqb}
+use Rattle.model.specs.Plan.{Block, C, M}
+use Rattle.model.specs.Places.{pick}
 use Rattle.model.specs.Acceptance.{Costs}
-use Rattle.columns.specs.Sums.{limit, ceiling, cap, price}
+use Rattle.rows.specs.Rows.{field, block-at}
+use Rattle.columns.specs.Sums.{limit, ceiling, cap, IsCost, cost-in}
 
 pub cap-loop : (c n x : ℕ) → cap (c + n * (cap x + c)) ≡ cap (c + n * (x + c))
 cap-loop c zero x = omega (arith, zero-mul (cap x + c), zero-mul (x + c))
@@ -33,9 +37,20 @@ pub rounds-low : (b y : ℕ) → b ≤ 65535 → y ≤ limit → b * y ≤ 65535
 rounds-low b y hb hy = mul-le-mul hb hy
 
 -- A leaf's cost is within its range.
-pub price-le : (l : Bool) (b : Block) → Costs b → price l b ≤ 1048576
-price-le false b q = omega (arith, q .isolated-range)
-price-le true b q = omega (arith, q .max-load-range)
+pub cost-le : (c : ℕ) (b : Block) → Costs b → cost-in c b ≤ 1048576
+cost-le c b q = go (eqb c 2)
+  where
+    go : (t : Bool) → pick t C M b ≤ 1048576
+    go true = omega (arith, q .isolated-range)
+    go false = omega (arith, q .max-load-range)
+
+-- A field that holds a cost holds that of its block.
+pub cost-held : (w : List ℕ) (i c : ℕ) → IsCost c → field w i c ≡ cost-in c (block-at w i)
+cost-held w i c h =
+    elim (decLe c 2) [
+      | yes l ↦ let e : c ≡ 2 = omega (arith, h .0) in rw e
+      | no l ↦ let e : c ≡ 3 = omega (arith, h .1) in rw e
+    ]
 
 pub cap-both : (a a′ b b′ : ℕ) → cap a ≡ cap a′ → cap b ≡ cap b′ → cap (a + b) ≡ cap (a′ + b′)
 cap-both a a′ b b′ p q = omega arith

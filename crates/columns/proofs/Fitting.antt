@@ -8,112 +8,113 @@ use native.Mathlib.Decide.{decLt}
 use lib.ListN.{length, getD}
 use Rattle.model.specs.Plan.{C, Lines, close, leaf-line, call-line, loop-line, if-line}
 use Rattle.model.specs.Total.{tally}
-use Rattle.rows.specs.Rows.{field, end-at, Rep}
+use Rattle.rows.specs.Rows.{field, after-at, Rep, Piece}
 use Rattle.rows.specs.First.{rest}
 use Rattle.rows.proofs.Shape.{LoopAt, IfAt}
-use Rattle.columns.specs.Sums.{limit, lead, Laid}
-use Rattle.columns.specs.Columns.{column, front, turn, turn-rule, turns, rounds, tail-rule, Holds}
-use Rattle.columns.specs.Local.{Fits, Fits-first, Begins, Lent}
-use Rattle.columns.proofs.Sizes.{tally-split, after-laid, no-laid, loop-lead, round-le, round-back}
-use Rattle.columns.proofs.Stores.{holds-both}
-use Rattle.columns.proofs.Fronts.{column-split, front-fill, holds-rest, holds-loop, holds-if, loop-holds, if-holds}
+use Rattle.columns.specs.Sums.{limit, lead}
+use Rattle.columns.specs.Columns.{column-of, held-turn, turn-rule, turns, rounds, tail-rule, Contains}
+use Rattle.columns.specs.Private.{front, AsDerived, AsDerived-first, Begins}
+use Rattle.columns.specs.Local.{AllDerived}
+use Rattle.columns.proofs.Sizes.{tally-split, after-part, no-part, loop-lead, round-le, round-back}
+use Rattle.columns.proofs.Stores.{contains-both}
+use Rattle.columns.proofs.Fronts.{column-split, front-fill, contains-rest, contains-loop, contains-if, loop-holds, if-holds}
 use Rattle.columns.proofs.Summing.{loop-turn, if-turn}
 use Rattle.columns.proofs.Tailing.{loop-rounds, if-tail}
 
 -- The lines from i on are all that is left to walk of the lines l, which begin at `from`.
 pub record Walking (ts o u w : List ℕ) (left from i e s : ℕ) (l : Lines) : Type 0 where
-  pub more : Laid w left i e
-  pub back : Fits ts o u (more .part .lines) i s → Fits ts o u l from s
-  pub on : Fits ts o u l from s → Fits ts o u (more .part .lines) i s
+  pub more : Piece w left i e
+  pub back : AsDerived ts o u (more .part .lines) i s → AsDerived ts o u l from s
+  pub on : AsDerived ts o u l from s → AsDerived ts o u (more .part .lines) i s
 
 module _ (ts o u : List ℕ) where
   -- THE FORMS OF A SEQUENCE
 
   -- The first number of a column of tails is the total of the lines, with what follows them.
-  first-tail : (w : List ℕ) (v i e : ℕ) (l : Lines) (s : ℕ) → Rep w v i e l → i < e → Holds u i (column (tail-rule ts) l s) → getD u i 0 ≡ tally C ts l + s
-  unfolding Rep column Holds tally lead
+  first-tail : (w : List ℕ) (v i e : ℕ) (l : Lines) (s : ℕ) → Rep w v i e l → i < e → Contains u i (column-of (tail-rule ts) l s) → getD u i 0 ≡ tally C ts l + s
+  unfolding Rep column-of Contains tally lead
   first-tail w v i e close s r lt h = absurd (omega arith)
   first-tail w v i e (leaf-line b m) s r lt h = omega (arith, h .0)
   first-tail w v i e (call-line b f m) s r lt h = omega (arith, h .0)
   first-tail w v i e (loop-line b n body m) s r lt h = omega (arith, h .0)
   first-tail w v i e (if-line b t f m) s r lt h = omega (arith, h .0)
 
-  pub begins : {w : List ℕ} {left i e s x : ℕ} → Begins u i e s x → (p : Laid w left i e) → Fits ts o u (p .part .lines) i s
+  pub begins : {w : List ℕ} {left i e s x : ℕ} → Begins u i e s x → (p : Piece w left i e) → AsDerived ts o u (p .part .lines) i s
       → x ≡ tally C ts (p .part .lines) + s
   unfolding tally
   begins {w} {left} {i} {e} {s} {x} b p f =
       elim (decLt i e) [
         | yes lt ↦ b .there lt ∙ first-tail w (p .level) i e (p .part .lines) s (p .part .rep) lt (f .tails-are)
-        | no ge ↦ let le : e ≤ i = omega arith in omega (arith, b .none le, ap (tally C ts) (no-laid le p))
+        | no ge ↦ let le : e ≤ i = omega arith in omega (arith, b .none le, ap (tally C ts) (no-part le p))
       ]
 
   -- Lines fit exactly when the first form does, with what the others come to behind it, and the others do.
-  fits-split : {w : List ℕ} {left i e en s : ℕ} (lt : i < e) (p : Laid w left i e) → en ≡ end-at w i → Fits ts o u (p .part .lines) i s
-      → Fits-first ts o u (p .part .lines) i (tally C ts (rest (p .part .lines)) + s) × Fits ts o u (rest (p .part .lines)) en s
+  fits-split : {w : List ℕ} {left i e en s : ℕ} (lt : i < e) (p : Piece w left i e) → en ≡ after-at w i → AsDerived ts o u (p .part .lines) i s
+      → AsDerived-first ts o u (p .part .lines) i (tally C ts (rest (p .part .lines)) + s) × AsDerived ts o u (rest (p .part .lines)) en s
   fits-split {w} {left} {i} {e} {en} {s} lt p he f =
-      let a = holds-rest (turn-rule C ts) o 0 lt p he (f .turns-are) in
-      let b = holds-rest (tail-rule ts) u s lt p he (f .tails-are) in
+      let a = contains-rest (turn-rule C ts) o 0 lt p he (f .turns-are) in
+      let b = contains-rest (tail-rule ts) u s lt p he (f .tails-are) in
       let z = tally-split C ts (p .part .lines) in (
         record { turns-are = a .0; tails-are = b .0; small = omega (arith, z, f .small) },
         record { turns-are = a .1; tails-are = b .1; small = omega (arith, z, f .small) },
       )
 
-  fits-join : {w : List ℕ} {left i e en s x : ℕ} (lt : i < e) (p : Laid w left i e) → en ≡ end-at w i → x ≡ tally C ts (rest (p .part .lines)) + s
-      → Fits-first ts o u (p .part .lines) i x → Fits ts o u (rest (p .part .lines)) en s → Fits ts o u (p .part .lines) i s
+  fits-join : {w : List ℕ} {left i e en s x : ℕ} (lt : i < e) (p : Piece w left i e) → en ≡ after-at w i → x ≡ tally C ts (rest (p .part .lines)) + s
+      → AsDerived-first ts o u (p .part .lines) i x → AsDerived ts o u (rest (p .part .lines)) en s → AsDerived ts o u (p .part .lines) i s
   fits-join {w} {left} {i} {e} {en} {s} {x} lt p he hx f g =
       let l = p .part .lines in
       let y = tally C ts (rest l) + s in
-      let a : Holds u i (front (tail-rule ts) l y) = rw hx at (f .tails-are) in
+      let a : Contains u i (front (tail-rule ts) l y) = rw hx at (f .tails-are) in
       record {
         turns-are = rw (column-split (turn-rule C ts) l 0)
-            (holds-both (front (turn-rule C ts) l 0) (turns C ts (rest l)) o i en (front-fill (turn-rule C ts) lt p 0 he) (f .turns-are) (g .turns-are));
+            (contains-both (front (turn-rule C ts) l 0) (turns C ts (rest l)) o i en (front-fill (turn-rule C ts) lt p 0 he) (f .turns-are) (g .turns-are));
         tails-are = rw (column-split (tail-rule ts) l s)
-            (holds-both (front (tail-rule ts) l y) (column (tail-rule ts) (rest l) s) u i en (front-fill (tail-rule ts) lt p y he) a (g .tails-are));
+            (contains-both (front (tail-rule ts) l y) (column-of (tail-rule ts) (rest l) s) u i en (front-fill (tail-rule ts) lt p y he) a (g .tails-are));
         small = omega (arith, tally-split C ts l, f .small, hx);
       }
 
   -- No lines fit everywhere.
-  fits-none : {w : List ℕ} {left i e s : ℕ} → e ≤ i → s ≤ limit → (p : Laid w left i e) → Fits ts o u (p .part .lines) i s
-  unfolding column Holds tally
+  fits-none : {w : List ℕ} {left i e s : ℕ} → e ≤ i → s ≤ limit → (p : Piece w left i e) → AsDerived ts o u (p .part .lines) i s
+  unfolding column-of Contains tally
   fits-none {w} {left} {i} {e} {s} le low p =
-      subst (λ (l : Lines). Fits ts o u l i s) (sym (no-laid le p)) (record { turns-are = tt; tails-are = tt; small = omega arith })
+      subst (λ (l : Lines). AsDerived ts o u l i s) (sym (no-part le p)) (record { turns-are = tt; tails-are = tt; small = omega arith })
 
   -- The walk over the forms.
-  pub walk-start : {w : List ℕ} {left i e s : ℕ} (p : Laid w left i e) → Walking ts o u w left i i e s (p .part .lines)
+  pub walk-start : {w : List ℕ} {left i e s : ℕ} (p : Piece w left i e) → Walking ts o u w left i i e s (p .part .lines)
   walk-start p = record { more = p; back = λ f. f; on = λ f. f }
 
-  module _ {w : List ℕ} {left from i e en s x : ℕ} {l : Lines} (lt : i < e) (he : en ≡ end-at w i) (b : Begins u en e s x)
+  module _ {w : List ℕ} {left from i e en s x : ℕ} {l : Lines} (lt : i < e) (he : en ≡ after-at w i) (b : Begins u en e s x)
       (q : Walking ts o u w left from i e s l) where
-    pub walk-refuse : (Fits-first ts o u (q .more .part .lines) i x → ⊥) → Fits ts o u l from s → ⊥
+    pub walk-refuse : (AsDerived-first ts o u (q .more .part .lines) i x → ⊥) → AsDerived ts o u l from s → ⊥
     walk-refuse h f =
         let g = fits-split lt (q .more) he (q .on f) in
-        let z = begins b (after-laid lt (q .more) he) (g .1) in
+        let z = begins b (after-part lt (q .more) he) (g .1) in
         h (rw z (g .0))
 
-    pub walk-next : Fits-first ts o u (q .more .part .lines) i x → Walking ts o u w left from en e s l
+    pub walk-next : AsDerived-first ts o u (q .more .part .lines) i x → Walking ts o u w left from en e s l
     walk-next f =
         record {
-          more = after-laid lt (q .more) he;
-          back = λ g. q .back (fits-join lt (q .more) he (begins b (after-laid lt (q .more) he) g) f g);
+          more = after-part lt (q .more) he;
+          back = λ g. q .back (fits-join lt (q .more) he (begins b (after-part lt (q .more) he) g) f g);
           on = λ g. fits-split lt (q .more) he (q .on g) .1;
         }
 
-  pub walk-end : {w : List ℕ} {left from i e s : ℕ} {l : Lines} → e ≤ i → s ≤ limit → Walking ts o u w left from i e s l → Fits ts o u l from s
+  pub walk-end : {w : List ℕ} {left from i e s : ℕ} {l : Lines} → e ≤ i → s ≤ limit → Walking ts o u w left from i e s l → AsDerived ts o u l from s
   walk-end le low q = q .back (fits-none le low (q .more))
 
   -- THE FIRST FORM, BY KIND
 
-  heads : (w : List ℕ) (v i e : ℕ) (l : Lines) (x : ℕ) → Rep w v i e l → i < e → Fits-first ts o u l i x
-      → (getD o i 0 ≡ turn C ts l) × (getD u i 0 ≡ lead C ts l + x)
-  unfolding Rep front Holds
+  heads : (w : List ℕ) (v i e : ℕ) (l : Lines) (x : ℕ) → Rep w v i e l → i < e → AsDerived-first ts o u l i x
+      → (getD o i 0 ≡ held-turn C ts l) × (getD u i 0 ≡ lead C ts l + x)
+  unfolding Rep front Contains
   heads w v i e close x r lt f = absurd (omega arith)
   heads w v i e (leaf-line b m) x r lt f = (f .turns-are .0, f .tails-are .0)
   heads w v i e (call-line b g m) x r lt f = (f .turns-are .0, f .tails-are .0)
   heads w v i e (loop-line b n body m) x r lt f = (f .turns-are .0, f .tails-are .0)
   heads w v i e (if-line b t g m) x r lt f = (f .turns-are .0, f .tails-are .0)
 
-  no-round : (w : List ℕ) (v i e : ℕ) (l : Lines) → Rep w v i e l → i < e → (field w i 0 ≡ 2 → ⊥) → turn C ts l ≡ 0
-  unfolding Rep turn
+  no-round : (w : List ℕ) (v i e : ℕ) (l : Lines) → Rep w v i e l → i < e → (field w i 0 ≡ 2 → ⊥) → held-turn C ts l ≡ 0
+  unfolding Rep held-turn
   no-round w v i e close r lt k = absurd (omega arith)
   no-round w v i e (leaf-line b m) r lt k = refl
   no-round w v i e (call-line b g m) r lt k = refl
@@ -121,40 +122,40 @@ module _ (ts o u : List ℕ) where
   no-round w v i e (if-line b t g m) r lt k = refl
 
   flat : (w : List ℕ) (v i e : ℕ) (l : Lines) (x : ℕ) → Rep w v i e l → i < e → (field w i 0 ≡ 2 → ⊥) → (field w i 0 ≡ 3 → ⊥)
-      → getD o i 0 ≡ 0 → getD u i 0 ≡ lead C ts l + x → lead C ts l + x ≤ limit → Fits-first ts o u l i x
-  unfolding Rep front Holds turn
+      → getD o i 0 ≡ 0 → getD u i 0 ≡ lead C ts l + x → lead C ts l + x ≤ limit → AsDerived-first ts o u l i x
+  unfolding Rep front Contains held-turn
   flat w v i e close x r lt k2 k3 ho hu le = absurd (omega arith)
   flat w v i e (leaf-line b m) x r lt k2 k3 ho hu le = record { turns-are = (ho, tt); tails-are = (hu, tt); small = le }
   flat w v i e (call-line b g m) x r lt k2 k3 ho hu le = record { turns-are = (ho, tt); tails-are = (hu, tt); small = le }
   flat w v i e (loop-line b n body m) x r lt k2 k3 ho hu le = absurd (k2 (r .0 .0))
   flat w v i e (if-line b t g m) x r lt k2 k3 ho hu le = absurd (k3 (r .0 .0))
 
-  module _ {w : List ℕ} {left i e x : ℕ} (lt : i < e) (p : Laid w left i e) where
-    first-head : Fits-first ts o u (p .part .lines) i x → (getD o i 0 ≡ turn C ts (p .part .lines)) × (getD u i 0 ≡ lead C ts (p .part .lines) + x)
+  module _ {w : List ℕ} {left i e x : ℕ} (lt : i < e) (p : Piece w left i e) where
+    first-head : AsDerived-first ts o u (p .part .lines) i x → (getD o i 0 ≡ held-turn C ts (p .part .lines)) × (getD u i 0 ≡ lead C ts (p .part .lines) + x)
     first-head f = heads w (p .level) i e (p .part .lines) x (p .part .rep) lt f
 
     -- The tail is not below what follows the form, and within the limit.
-    pub first-within : Fits-first ts o u (p .part .lines) i x → (x ≤ getD u i 0) × (getD u i 0 ≤ limit)
+    pub first-within : AsDerived-first ts o u (p .part .lines) i x → (x ≤ getD u i 0) × (getD u i 0 ≤ limit)
     first-within f = (omega (arith, first-head f .1), omega (arith, first-head f .1, f .small))
 
     -- A form that is no loop has no round.
-    pub first-round : {v : ℕ} → v ≡ field w i 0 → (v ≡ 2 → ⊥) → Fits-first ts o u (p .part .lines) i x → getD o i 0 ≡ 0
+    pub first-round : {v : ℕ} → v ≡ field w i 0 → (v ≡ 2 → ⊥) → AsDerived-first ts o u (p .part .lines) i x → getD o i 0 ≡ 0
     first-round hv k f = first-head f .0 ∙ no-round w (p .level) i e (p .part .lines) (p .part .rep) lt (λ z. k (hv ∙ z))
 
     -- A leaf or a call.
     pub flat-first : {v : ℕ} → v ≡ field w i 0 → (v ≡ 2 → ⊥) → (v ≡ 3 → ⊥) → getD o i 0 ≡ 0 → (x ≤ getD u i 0) × (getD u i 0 ≤ limit)
-        → getD u i 0 - x ≡ lead C ts (p .part .lines) → Fits-first ts o u (p .part .lines) i x
+        → getD u i 0 - x ≡ lead C ts (p .part .lines) → AsDerived-first ts o u (p .part .lines) i x
     flat-first hv k2 k3 ho b d =
         flat w (p .level) i e (p .part .lines) x (p .part .rep) lt (λ z. k2 (hv ∙ z)) (λ z. k3 (hv ∙ z)) ho (omega (arith, b .0, d)) (omega (arith, b .0, b .1, d))
 
-    pub first-flat : Fits-first ts o u (p .part .lines) i x → getD u i 0 - x ≡ lead C ts (p .part .lines)
+    pub first-flat : AsDerived-first ts o u (p .part .lines) i x → getD u i 0 - x ≡ lead C ts (p .part .lines)
     first-flat f = omega (arith, first-head f .1)
 
   -- A loop: its tail, the sum of one round, and the body with what follows it in a first visit.
   module _ {w hs : List ℕ} {left v i x : ℕ} {l : Lines} (h : LoopAt w hs left v i l) where
     pub loop-first : {y : ℕ} → (x ≤ getD u i 0) × (getD u i 0 ≤ limit) → (getD o i 0 ≤ getD u i 0) × (getD u i 0 - x ≡ field w i 2 + field w i 4 * getD o i 0)
-        → Fits ts o u (h .body .lines) (i + 1) (getD u i 0 - getD o i 0) → y ≡ tally C ts (h .body .lines) + (getD u i 0 - getD o i 0) → getD u i 0 ≡ field w i 2 + y
-        → Fits-first ts o u l i x
+        → AsDerived ts o u (h .body .lines) (i + 1) (getD u i 0 - getD o i 0) → y ≡ tally C ts (h .body .lines) + (getD u i 0 - getD o i 0) → getD u i 0 ≡ field w i 2 + y
+        → AsDerived-first ts o u l i x
     loop-first {y} a d f hy ht =
         let c = field w i 2 in
         let body = tally C ts (h .body .lines) in
@@ -164,20 +165,20 @@ module _ (ts o u : List ℕ) where
         let el = loop-lead C ts h in
         let et : getD u i 0 ≡ lead C ts l + x = omega (arith, a .0, d .1, ep, el) in
         let ei : getD u i 0 - getD o i 0 ≡ rounds ts l x = omega (arith, loop-rounds ts x h, round-back n (body + c) (h .least), et, el, er) in
-        let eo : getD o i 0 ≡ turn C ts l = omega (arith, er, f .small, loop-turn C ts h) in
+        let eo : getD o i 0 ≡ held-turn C ts l = omega (arith, er, f .small, loop-turn C ts h) in
         record {
           turns-are = loop-holds (turn-rule C ts) o 0 h eo (f .turns-are);
           tails-are = loop-holds (tail-rule ts) u x h et (rw ei at (f .tails-are));
           small = omega (arith, et, a .1);
         }
 
-    module _ (f : Fits-first ts o u l i x) where
+    module _ (f : AsDerived-first ts o u l i x) where
       tail-is : getD u i 0 ≡ lead C ts l + x
-      tail-is = holds-loop (tail-rule ts) u x h (f .tails-are) .0
+      tail-is = contains-loop (tail-rule ts) u x h (f .tails-are) .0
 
       turn-is : getD o i 0 ≡ tally C ts (h .body .lines) + field w i 2
       turn-is =
-          let z = holds-loop (turn-rule C ts) o 0 h (f .turns-are) .0 in
+          let z = contains-loop (turn-rule C ts) o 0 h (f .turns-are) .0 in
           omega (arith, z, loop-turn C ts h, f .small, loop-lead C ts h, round-le (field w i 4) (tally C ts (h .body .lines)) (field w i 2) (h .least))
 
       pub first-rounds : (getD o i 0 ≤ getD u i 0) × (getD u i 0 - x ≡ field w i 2 + field w i 4 * getD o i 0)
@@ -188,7 +189,7 @@ module _ (ts o u : List ℕ) where
           let ep : n * getD o i 0 ≡ n * (body + c) = ap (λ (z : ℕ). n * z) turn-is in
           (omega (arith, tail-is, turn-is, loop-lead C ts h, round-le n body c (h .least)), omega (arith, tail-is, ep, loop-lead C ts h))
 
-      pub first-body : Fits ts o u (h .body .lines) (i + 1) (getD u i 0 - getD o i 0)
+      pub first-body : AsDerived ts o u (h .body .lines) (i + 1) (getD u i 0 - getD o i 0)
       first-body =
           let c = field w i 2 in
           let body = tally C ts (h .body .lines) in
@@ -196,8 +197,8 @@ module _ (ts o u : List ℕ) where
           let back = round-back n (body + c) (h .least) in
           let ei : rounds ts l x ≡ getD u i 0 - getD o i 0 = omega (arith, loop-rounds ts x h, back, tail-is, loop-lead C ts h, turn-is) in
           record {
-            turns-are = holds-loop (turn-rule C ts) o 0 h (f .turns-are) .1;
-            tails-are = rw ei at (holds-loop (tail-rule ts) u x h (f .tails-are) .1);
+            turns-are = contains-loop (turn-rule C ts) o 0 h (f .turns-are) .1;
+            tails-are = rw ei at (contains-loop (tail-rule ts) u x h (f .tails-are) .1);
             small = omega (arith, f .small, tail-is, turn-is, first-rounds .0);
           }
 
@@ -206,8 +207,8 @@ module _ (ts o u : List ℕ) where
 
   -- An if: its tail, and both parts with what follows it.
   module _ {w hs : List ℕ} {left v i mid x : ℕ} {l : Lines} (h : IfAt w hs left v i l) (hm : mid ≡ field w i 5) where
-    pub if-first : {a b m : ℕ} → getD o i 0 ≡ 0 → getD u i 0 ≤ limit → Fits ts o u (h .then .lines) (i + 1) x → Fits ts o u (h .else .lines) mid x
-        → a ≡ tally C ts (h .then .lines) + x → b ≡ tally C ts (h .else .lines) + x → m ≡ max a b → getD u i 0 ≡ field w i 2 + m → Fits-first ts o u l i x
+    pub if-first : {a b m : ℕ} → getD o i 0 ≡ 0 → getD u i 0 ≤ limit → AsDerived ts o u (h .then .lines) (i + 1) x → AsDerived ts o u (h .else .lines) mid x
+        → a ≡ tally C ts (h .then .lines) + x → b ≡ tally C ts (h .else .lines) + x → m ≡ max a b → getD u i 0 ≡ field w i 2 + m → AsDerived-first ts o u l i x
     if-first ho low f g ha hb hm′ ht =
         let et = ht ∙ if-tail ts x h refl ha hb hm′ in
         record {
@@ -216,7 +217,7 @@ module _ (ts o u : List ℕ) where
           small = omega (arith, et, low);
         }
 
-    module _ (f : Fits-first ts o u l i x) where
+    module _ (f : AsDerived-first ts o u l i x) where
       if-small : (tally C ts (h .then .lines) + x ≤ limit) × (tally C ts (h .else .lines) + x ≤ limit)
       if-small =
           let z = if-tail ts x h refl refl refl refl in
@@ -226,25 +227,25 @@ module _ (ts o u : List ℕ) where
           go : (c a b d : ℕ) → c + max a b ≡ d → d ≤ limit → (a ≤ limit) × (b ≤ limit)
           go c a b d e le = (omega arith, omega arith)
 
-      pub first-then : Fits ts o u (h .then .lines) (i + 1) x
+      pub first-then : AsDerived ts o u (h .then .lines) (i + 1) x
       first-then =
           record {
-            turns-are = holds-if (turn-rule C ts) o 0 h hm (f .turns-are) .0;
-            tails-are = holds-if (tail-rule ts) u x h hm (f .tails-are) .0;
+            turns-are = contains-if (turn-rule C ts) o 0 h hm (f .turns-are) .0;
+            tails-are = contains-if (tail-rule ts) u x h hm (f .tails-are) .0;
             small = if-small .0;
           }
 
-      pub first-else : Fits ts o u (h .else .lines) mid x
+      pub first-else : AsDerived ts o u (h .else .lines) mid x
       first-else =
           record {
-            turns-are = holds-if (turn-rule C ts) o 0 h hm (f .turns-are) .1;
-            tails-are = holds-if (tail-rule ts) u x h hm (f .tails-are) .1;
+            turns-are = contains-if (turn-rule C ts) o 0 h hm (f .turns-are) .1;
+            tails-are = contains-if (tail-rule ts) u x h hm (f .tails-are) .1;
             small = if-small .1;
           }
 
   -- The tail of an if that fits.
-  pub first-either : {w hs : List ℕ} {left left′ v i e x : ℕ} (lt : i < e) (p : Laid w left i e) (h : IfAt w hs left′ v i (p .part .lines)) {a b m : ℕ}
-      → Fits-first ts o u (p .part .lines) i x → a ≡ tally C ts (h .then .lines) + x → b ≡ tally C ts (h .else .lines) + x → m ≡ max a b
+  pub first-either : {w hs : List ℕ} {left left′ v i e x : ℕ} (lt : i < e) (p : Piece w left i e) (h : IfAt w hs left′ v i (p .part .lines)) {a b m : ℕ}
+      → AsDerived-first ts o u (p .part .lines) i x → a ≡ tally C ts (h .then .lines) + x → b ≡ tally C ts (h .else .lines) + x → m ≡ max a b
       → getD u i 0 ≡ field w i 2 + m
   first-either {x = x} lt p h f ha hb hm = first-head lt p f .1 ∙ sym (if-tail ts x h refl ha hb hm)
 
@@ -258,21 +259,21 @@ settled-on ts {n} {f} {h} a b e g l r =
 
 -- The columns of the function f fit, and its total is exact.
 abbrev pub Right : List ℕ → List ℕ → List ℕ → List ℕ → (ℕ → Lines) → ℕ → Type 0
-Right ts o u starts F f = Fits ts o u (F f) (getD starts f 0) 0 × (getD ts f 0 ≡ tally C ts (F f))
+Right ts o u starts F f = AsDerived ts o u (F f) (getD starts f 0) 0 × (getD ts f 0 ≡ tally C ts (F f))
 
 module _ (ts o u starts : List ℕ) (F : ℕ → Lines) where
   pub right-on : {f h : ℕ} → ((g : ℕ) → g < f → Right ts o u starts F g) → Right ts o u starts F f → h ≡ f + 1 → (g : ℕ) → g < h → Right ts o u starts F g
   right-on {f} {h} a b e g l = elim (decLt g f) [ yes lt ↦ a g lt | no ge ↦ let z : g ≡ f = omega arith in rw z b ]
 
   -- All functions are right exactly when the lent numbers are theirs.
-  pub lent-right : {n : ℕ} → Lent F starts n ts o u → (f : ℕ) → f < n → Right ts o u starts F f
-  lent-right q f lt =
+  pub derived-right : {n : ℕ} → AllDerived F starts n ts o u → (f : ℕ) → f < n → Right ts o u starts F f
+  derived-right q f lt =
       let e = q .exact in
       (record { turns-are = e .rounds f lt; tails-are = q .tails f lt; small = omega (arith, e .total f lt, e .small f lt) }, e .total f lt)
 
-  pub right-lent : {n : ℕ} → ((f : ℕ) → f < n → Right ts o u starts F f) → ((f : ℕ) → n ≤ f → f < 16 → getD ts f 0 ≡ 0)
-      → getD starts n 0 ≤ length o → getD starts n 0 ≤ length u → Lent F starts n ts o u
-  right-lent a b lo lu =
+  pub right-derived : {n : ℕ} → ((f : ℕ) → f < n → Right ts o u starts F f) → ((f : ℕ) → n ≤ f → f < 16 → getD ts f 0 ≡ 0)
+      → getD starts n 0 ≤ length o → getD starts n 0 ≤ length u → AllDerived F starts n ts o u
+  right-derived a b lo lu =
       record {
         exact =
             record {

@@ -6,17 +6,17 @@ use native.Mathlib.Omega.{arith}
 use lib.ListN.{length, getD, set, length-append}
 use lib.Seq.{sets}
 use Rattle.model.specs.Plan.{Block, Lines, close, leaf-line, call-line, loop-line, if-line}
-use Rattle.rows.specs.Rows.{field, end-at, block-at, Rep}
+use Rattle.rows.specs.Rows.{field, after-at, block-at, Rep, Piece}
 use Rattle.rows.specs.First.{rest}
 use Rattle.rows.proofs.Shape.{LeafAt, CallAt, LoopAt, IfAt}
-use Rattle.columns.specs.Sums.{Laid}
-use Rattle.columns.specs.Columns.{Rule, column, front, Holds}
-use Rattle.columns.proofs.Sizes.{then-laid}
-use Rattle.columns.proofs.Stores.{sets-then, set-before, holds-append, holds-both}
+use Rattle.columns.specs.Columns.{Rule, column-of, Contains}
+use Rattle.columns.specs.Private.{front}
+use Rattle.columns.proofs.Sizes.{then-part}
+use Rattle.columns.proofs.Stores.{sets-then, set-before, contains-append, contains-both}
 
 module _ (u : Rule) where
-  pub column-split : (l : Lines) (s : ℕ) → column u l s ≡ front u l (u .next (rest l) s) ++ column u (rest l) s
-  unfolding column front rest
+  pub column-split : (l : Lines) (s : ℕ) → column-of u l s ≡ front u l (u .next (rest l) s) ++ column-of u (rest l) s
+  unfolding column-of front rest
   column-split close s = refl
   column-split (leaf-line b r) s = refl
   column-split (call-line b f r) s = refl
@@ -24,48 +24,48 @@ module _ (u : Rule) where
   column-split (if-line b t e r) s = simp append-assoc
 
   -- One number for each record.
-  pub column-fill : (w : List ℕ) (v i e : ℕ) (l : Lines) (s : ℕ) → Rep w v i e l → i + length (column u l s) ≡ e
-  unfolding Rep column
+  pub column-fill : (w : List ℕ) (v i e : ℕ) (l : Lines) (s : ℕ) → Rep w v i e l → i + length (column-of u l s) ≡ e
+  unfolding Rep column-of
   column-fill w v i e close s h = omega arith
-  column-fill w v i e (leaf-line b r) s h = omega (arith, column-fill w v (end-at w i) e r s (h .4))
-  column-fill w v i e (call-line b f r) s h = omega (arith, column-fill w v (end-at w i) e r s (h .4))
+  column-fill w v i e (leaf-line b r) s h = omega (arith, column-fill w v (after-at w i) e r s (h .4))
+  column-fill w v i e (call-line b f r) s h = omega (arith, column-fill w v (after-at w i) e r s (h .4))
   column-fill w v i e (loop-line b n body r) s h =
       let y = u .inner (loop-line b n body r) (u .next r s) in
       omega (
         arith,
-        column-fill w v (end-at w i) e r s (h .4),
-        column-fill w (suc v) (i + 1) (end-at w i) body y (h .3),
-        length-append (column u body y) (column u r s),
+        column-fill w v (after-at w i) e r s (h .4),
+        column-fill w (suc v) (i + 1) (after-at w i) body y (h .3),
+        length-append (column-of u body y) (column-of u r s),
       )
   column-fill w v i e (if-line b t f r) s h =
       let x = u .next r s in
       omega (
         arith,
-        column-fill w v (end-at w i) e r s (h .4),
+        column-fill w v (after-at w i) e r s (h .4),
         column-fill w v (i + 1) (field w i 5) t x (h .2),
-        column-fill w v (field w i 5) (end-at w i) f x (h .3),
-        length-append (column u t x) (column u f x ++ column u r s),
-        length-append (column u f x) (column u r s),
+        column-fill w v (field w i 5) (after-at w i) f x (h .3),
+        length-append (column-of u t x) (column-of u f x ++ column-of u r s),
+        length-append (column-of u f x) (column-of u r s),
       )
 
-  rep-fill : (w : List ℕ) (v i e : ℕ) (l : Lines) (x : ℕ) → Rep w v i e l → i < e → i + length (front u l x) ≡ end-at w i
+  rep-fill : (w : List ℕ) (v i e : ℕ) (l : Lines) (x : ℕ) → Rep w v i e l → i < e → i + length (front u l x) ≡ after-at w i
   unfolding Rep front
   rep-fill w v i e close x h lt = absurd (omega arith)
   rep-fill w v i e (leaf-line b r) x h lt = omega arith
   rep-fill w v i e (call-line b f r) x h lt = omega arith
-  rep-fill w v i e (loop-line b n body r) x h lt = omega (arith, column-fill w (suc v) (i + 1) (end-at w i) body (u .inner (loop-line b n body r) x) (h .3))
+  rep-fill w v i e (loop-line b n body r) x h lt = omega (arith, column-fill w (suc v) (i + 1) (after-at w i) body (u .inner (loop-line b n body r) x) (h .3))
   rep-fill w v i e (if-line b t f r) x h lt =
       omega (
         arith,
         column-fill w v (i + 1) (field w i 5) t x (h .2),
-        column-fill w v (field w i 5) (end-at w i) f x (h .3),
-        length-append (column u t x) (column u f x),
+        column-fill w v (field w i 5) (after-at w i) f x (h .3),
+        length-append (column-of u t x) (column-of u f x),
       )
 
-  pub laid-fill : {w : List ℕ} {left i e : ℕ} (p : Laid w left i e) (s : ℕ) → e ≡ i + length (column u (p .part .lines) s)
-  laid-fill {w} {left} {i} {e} p s = sym (column-fill w (p .level) i e (p .part .lines) s (p .part .rep))
+  pub part-fill : {w : List ℕ} {left i e : ℕ} (p : Piece w left i e) (s : ℕ) → e ≡ i + length (column-of u (p .part .lines) s)
+  part-fill {w} {left} {i} {e} p s = sym (column-fill w (p .level) i e (p .part .lines) s (p .part .rep))
 
-  pub front-fill : {w : List ℕ} {left i e en : ℕ} (lt : i < e) (p : Laid w left i e) (x : ℕ) → en ≡ end-at w i → en ≡ i + length (front u (p .part .lines) x)
+  pub front-fill : {w : List ℕ} {left i e en : ℕ} (lt : i < e) (p : Piece w left i e) (x : ℕ) → en ≡ after-at w i → en ≡ i + length (front u (p .part .lines) x)
   front-fill {w} {left} {i} {e} lt p x he = he ∙ sym (rep-fill w (p .level) i e (p .part .lines) x (p .part .rep) lt)
 
   -- What is written for the first form, by kind.
@@ -77,11 +77,11 @@ module _ (u : Rule) where
   unfolding front
   as-call l r b f x h = rw h
 
-  as-loop : (l body r : Lines) (b : Block) (n x : ℕ) → l ≡ loop-line b n body r → u .value l x ∷ column u body (u .inner l x) ≡ front u l x
+  as-loop : (l body r : Lines) (b : Block) (n x : ℕ) → l ≡ loop-line b n body r → u .value l x ∷ column-of u body (u .inner l x) ≡ front u l x
   unfolding front
   as-loop l body r b n x h = rw h
 
-  as-if : (l t e r : Lines) (b : Block) (x : ℕ) → l ≡ if-line b t e r → u .value l x ∷ (column u t x ++ column u e x) ≡ front u l x
+  as-if : (l t e r : Lines) (b : Block) (x : ℕ) → l ≡ if-line b t e r → u .value l x ∷ (column-of u t x ++ column-of u e x) ≡ front u l x
   unfolding front
   as-if l t e r b x h = rw h
 
@@ -102,72 +102,72 @@ module _ (u : Rule) where
   rep-plain o x y w v i e (if-line b t s r) h lt k2 k3 hy = absurd (k3 (h .0 .0))
 
   -- A leaf or a call.
-  pub plain-front : (o : List ℕ) (x : ℕ) {w : List ℕ} {left i e v y : ℕ} → i < e → (p : Laid w left i e) → v ≡ field w i 0 → (v ≡ 2 → ⊥) → (v ≡ 3 → ⊥)
+  pub plain-front : (o : List ℕ) (x : ℕ) {w : List ℕ} {left i e v y : ℕ} → i < e → (p : Piece w left i e) → v ≡ field w i 0 → (v ≡ 2 → ⊥) → (v ≡ 3 → ⊥)
       → y ≡ u .value (p .part .lines) x → set o i y ≡ sets o i (front u (p .part .lines) x)
   plain-front o x {w} {left} {i} {e} {v} {y} lt p hv v2 v3 hy =
       rep-plain o x y w (p .level) i e (p .part .lines) (p .part .rep) lt (λ a. v2 (hv ∙ a)) (λ a. v3 (hv ∙ a)) hy
 
   pub loop-front : (o : List ℕ) (x : ℕ) {w hs : List ℕ} {left v i : ℕ} {l : Lines} {o′ : List ℕ} {y z : ℕ} → (h : LoopAt w hs left v i l)
-      → y ≡ u .value l x → z ≡ u .inner l x → o′ ≡ sets o (i + 1) (column u (h .body .lines) z) → set o′ i y ≡ sets o i (front u l x)
+      → y ≡ u .value l x → z ≡ u .inner l x → o′ ≡ sets o (i + 1) (column-of u (h .body .lines) z) → set o′ i y ≡ sets o i (front u l x)
   loop-front o x {w} {hs} {left} {v} {i} {l} {o′} {y} {z} h hy hz ho =
       let b = h .body .lines in
-      set-before y (column u b z) o i (i + 1) ho refl ∙
-      ap (λ (a : ℕ). sets o i (a ∷ column u b z)) hy ∙
-      ap (λ (a : ℕ). sets o i (u .value l x ∷ column u b a)) hz ∙
+      set-before y (column-of u b z) o i (i + 1) ho refl ∙
+      ap (λ (a : ℕ). sets o i (a ∷ column-of u b z)) hy ∙
+      ap (λ (a : ℕ). sets o i (u .value l x ∷ column-of u b a)) hz ∙
       ap (λ (a : List ℕ). sets o i a) (as-loop l b (rest l) (block-at w i) (field w i 4) x (h .shape))
 
   pub if-front : (o : List ℕ) (x : ℕ) {w hs : List ℕ} {left v i mid : ℕ} {l : Lines} {o₁ o₂ : List ℕ} {y : ℕ} → (h : IfAt w hs left v i l) → mid ≡ field w i 5
-      → y ≡ u .value l x → o₁ ≡ sets o (i + 1) (column u (h .then .lines) x) → o₂ ≡ sets o₁ mid (column u (h .else .lines) x)
+      → y ≡ u .value l x → o₁ ≡ sets o (i + 1) (column-of u (h .then .lines) x) → o₂ ≡ sets o₁ mid (column-of u (h .else .lines) x)
       → set o₂ i y ≡ sets o i (front u l x)
   if-front o x {w} {hs} {left} {v} {i} {mid} {l} {o₁} {o₂} {y} h hm hy h₁ h₂ =
       let t = h .then .lines in
       let e = h .else .lines in
-      let a = sets-then (column u t x) (column u e x) o (i + 1) mid h₁ h₂ (laid-fill (then-laid hm h) x) in
-      set-before y (column u t x ++ column u e x) o i (i + 1) a refl ∙
-      ap (λ (z : ℕ). sets o i (z ∷ (column u t x ++ column u e x))) hy ∙
+      let a = sets-then (column-of u t x) (column-of u e x) o (i + 1) mid h₁ h₂ (part-fill (then-part hm h) x) in
+      set-before y (column-of u t x ++ column-of u e x) o i (i + 1) a refl ∙
+      ap (λ (z : ℕ). sets o i (z ∷ (column-of u t x ++ column-of u e x))) hy ∙
       ap (λ (z : List ℕ). sets o i z) (as-if l t e (rest l) (block-at w i) x (h .shape))
 
   -- What stands there already, by kind.
-  pub holds-rest : (o : List ℕ) (s : ℕ) {w : List ℕ} {left i e en : ℕ} (lt : i < e) (p : Laid w left i e) → en ≡ end-at w i
-      → Holds o i (column u (p .part .lines) s)
-      → Holds o i (front u (p .part .lines) (u .next (rest (p .part .lines)) s)) × Holds o en (column u (rest (p .part .lines)) s)
-  holds-rest o s {w} {left} {i} {e} {en} lt p he h =
+  pub contains-rest : (o : List ℕ) (s : ℕ) {w : List ℕ} {left i e en : ℕ} (lt : i < e) (p : Piece w left i e) → en ≡ after-at w i
+      → Contains o i (column-of u (p .part .lines) s)
+      → Contains o i (front u (p .part .lines) (u .next (rest (p .part .lines)) s)) × Contains o en (column-of u (rest (p .part .lines)) s)
+  contains-rest o s {w} {left} {i} {e} {en} lt p he h =
       let l = p .part .lines in
       let x = u .next (rest l) s in
-      holds-append (front u l x) (column u (rest l) s) o i en (rw (column-split l s) at h) (front-fill lt p x he)
+      contains-append (front u l x) (column-of u (rest l) s) o i en (rw (column-split l s) at h) (front-fill lt p x he)
 
-  pub holds-loop : (o : List ℕ) (x : ℕ) {w hs : List ℕ} {left v i : ℕ} {l : Lines} (h : LoopAt w hs left v i l) → Holds o i (front u l x)
-      → (getD o i 0 ≡ u .value l x) × Holds o (i + 1) (column u (h .body .lines) (u .inner l x))
-  unfolding Holds
-  holds-loop o x {w} {hs} {left} {v} {i} {l} h g =
+  pub contains-loop : (o : List ℕ) (x : ℕ) {w hs : List ℕ} {left v i : ℕ} {l : Lines} (h : LoopAt w hs left v i l) → Contains o i (front u l x)
+      → (getD o i 0 ≡ u .value l x) × Contains o (i + 1) (column-of u (h .body .lines) (u .inner l x))
+  unfolding Contains
+  contains-loop o x {w} {hs} {left} {v} {i} {l} h g =
       let e = as-loop l (h .body .lines) (rest l) (block-at w i) (field w i 4) x (h .shape) in
       let k = rw (sym e) at g in
       let j : suc i ≡ i + 1 = omega arith in
       (k .0, rw j at (k .1))
 
-  pub holds-if : (o : List ℕ) (x : ℕ) {w hs : List ℕ} {left v i mid : ℕ} {l : Lines} (h : IfAt w hs left v i l) → mid ≡ field w i 5 → Holds o i (front u l x)
-      → Holds o (i + 1) (column u (h .then .lines) x) × Holds o mid (column u (h .else .lines) x)
-  unfolding Holds
-  holds-if o x {w} {hs} {left} {v} {i} {mid} {l} h hm g =
+  pub contains-if : (o : List ℕ) (x : ℕ) {w hs : List ℕ} {left v i mid : ℕ} {l : Lines} (h : IfAt w hs left v i l) → mid ≡ field w i 5 → Contains o i (front u l x)
+      → Contains o (i + 1) (column-of u (h .then .lines) x) × Contains o mid (column-of u (h .else .lines) x)
+  unfolding Contains
+  contains-if o x {w} {hs} {left} {v} {i} {mid} {l} h hm g =
       let e = as-if l (h .then .lines) (h .else .lines) (rest l) (block-at w i) x (h .shape) in
       let k = rw (sym e) at g in
       let j : suc i ≡ i + 1 = omega arith in
-      holds-append (column u (h .then .lines) x) (column u (h .else .lines) x) o (i + 1) mid (rw j at (k .1)) (laid-fill (then-laid hm h) x)
+      contains-append (column-of u (h .then .lines) x) (column-of u (h .else .lines) x) o (i + 1) mid (rw j at (k .1)) (part-fill (then-part hm h) x)
 
   -- The same the other way: a form's numbers, from the first one and those of the parts.
   pub loop-holds : (o : List ℕ) (x : ℕ) {w hs : List ℕ} {left v i : ℕ} {l : Lines} (h : LoopAt w hs left v i l) → getD o i 0 ≡ u .value l x
-      → Holds o (i + 1) (column u (h .body .lines) (u .inner l x)) → Holds o i (front u l x)
-  unfolding Holds
+      → Contains o (i + 1) (column-of u (h .body .lines) (u .inner l x)) → Contains o i (front u l x)
+  unfolding Contains
   loop-holds o x {w} {hs} {left} {v} {i} {l} h a g =
       let e = as-loop l (h .body .lines) (rest l) (block-at w i) (field w i 4) x (h .shape) in
       let j : i + 1 ≡ suc i = omega arith in
-      subst (λ (xs : List ℕ). Holds o i xs) e (a, rw j at g)
+      subst (λ (xs : List ℕ). Contains o i xs) e (a, rw j at g)
 
   pub if-holds : (o : List ℕ) (x : ℕ) {w hs : List ℕ} {left v i mid : ℕ} {l : Lines} (h : IfAt w hs left v i l) → mid ≡ field w i 5 → getD o i 0 ≡ u .value l x
-      → Holds o (i + 1) (column u (h .then .lines) x) → Holds o mid (column u (h .else .lines) x) → Holds o i (front u l x)
-  unfolding Holds
+      → Contains o (i + 1) (column-of u (h .then .lines) x) → Contains o mid (column-of u (h .else .lines) x) → Contains o i (front u l x)
+  unfolding Contains
   if-holds o x {w} {hs} {left} {v} {i} {mid} {l} h hm a f g =
       let e = as-if l (h .then .lines) (h .else .lines) (rest l) (block-at w i) x (h .shape) in
       let j : i + 1 ≡ suc i = omega arith in
-      let b = holds-both (column u (h .then .lines) x) (column u (h .else .lines) x) o (i + 1) mid (laid-fill (then-laid hm h) x) f g in
-      subst (λ (xs : List ℕ). Holds o i xs) e (a, rw j at b)
+      let b = contains-both (column-of u (h .then .lines) x) (column-of u (h .else .lines) x) o (i + 1) mid (part-fill (then-part hm h) x) f g in
+      subst (λ (xs : List ℕ). Contains o i xs) e (a, rw j at b)

@@ -1,6 +1,5 @@
 -- Functions one after the other: where they lie, and their totals. Plain mathematics: no code is named here. Assumes nothing.
 use mathlib.Core.Path.{_≡_, refl, sym, ap, _∙_}
-use mathlib.Core.Bool.{Bool}
 use mathlib.Core.List.{List, [], _∷_}
 use Prim.Native.Nat.{ℕ, zero, suc, _+_, _-_, _≤_, _<_}
 use native.Mathlib.Nat.{not-suc-le-zero}
@@ -11,14 +10,17 @@ use lib.Seq.{sets, length-sets, getD-set-same, getD-set-other, getD-append-seam}
 use Rattle.model.specs.Plan.{Block, Lines, close, leaf-line, call-line, loop-line, if-line}
 use Rattle.model.specs.Total.{tally}
 use Rattle.model.proofs.Targets.{Below}
-use Rattle.rows.specs.Rows.{Rules}
+use Rattle.rows.specs.Rows.{Rules, Piece}
 use Rattle.rows.proofs.Shape.{rep-le}
-use Rattle.columns.specs.Sums.{limit, ceiling, cap, price, Under, Laid}
-use Rattle.columns.specs.Columns.{column, turn, turn-rule, turns, Holds}
-use Rattle.columns.specs.Whole.{Funs, known, Measured, Exact}
+use Rattle.rows.specs.Plans.{Plan-of, lines-of}
+use Rattle.rows.proofs.Plans.{plan-rep, plan-rules, heights-before, heights-count, plan-inside}
+use Rattle.columns.specs.Sums.{limit, ceiling, cap}
+use Rattle.columns.specs.Private.{Under}
+use Rattle.columns.specs.Columns.{column-of, held-turn, turn-rule, turns, Contains}
+use Rattle.columns.specs.Whole.{known, Measured, Exact}
 use Rattle.columns.proofs.Capped.{cap-low, cap-both, cap-more, cap-rounds}
-use Rattle.columns.proofs.Stores.{sets-below, holds-sets, holds-same}
-use Rattle.columns.proofs.Fronts.{laid-fill}
+use Rattle.columns.proofs.Stores.{sets-below, contains-sets, contains-same}
+use Rattle.columns.proofs.Fronts.{part-fill}
 
 -- Lines that keep the rules call only functions before their own.
 pub rules-below : (hs : List ℕ) (left v : ℕ) (l : Lines) → Rules hs left v l → Below (length hs) l
@@ -40,7 +42,7 @@ module _ (k : Block → ℕ) (ts us : List ℕ) (n : ℕ) where
   tally-same e (if-line y t s r) b = let d = tally-same e t (b .0) in let c = tally-same e s (b .1) in let x = tally-same e r (b .2) in cc
 
   pub turns-same : ((j : ℕ) → j < n → getD ts j 0 ≡ getD us j 0) → (l : Lines) → Below n l → turns k ts l ≡ turns k us l
-  unfolding column turn Below
+  unfolding column-of held-turn Below
   turns-same e close b = refl
   turns-same e (leaf-line y r) b = ap (λ (z : List ℕ). 0 ∷ z) (turns-same e r b)
   turns-same e (call-line y f r) b = ap (λ (z : List ℕ). 0 ∷ z) (turns-same e r (b .1))
@@ -75,15 +77,15 @@ known-at k F (suc n) f h =
           rw i (rw (j ∙ i) at (getD-append-seam (known k F n) t [] 0))
     ]
 
-module _ {w starts : List ℕ} {n : ℕ} (v : Funs w starts n) where
+module _ {w starts : List ℕ} {n : ℕ} (v : Plan-of w starts n) where
   abbrev start : ℕ → ℕ
   start f = getD starts f 0
 
-  abbrev pub fun-laid : (f : ℕ) → f < n → Laid w 62 (getD starts f 0) (getD starts (f + 1) 0)
-  fun-laid f lt = record { heights = v .heights f; level = 1; part = record { lines = v .lines f; rep = v .rep f lt; rules = v .rules f lt } }
+  abbrev pub fun-part : (f : ℕ) → f < n → Piece w 62 (getD starts f 0) (getD starts (f + 1) 0)
+  fun-part f lt = record { heights = heights-before v f; level = 1; part = record { lines = lines-of v f; rep = plan-rep {k = f} v lt; rules = plan-rules v f lt } }
 
-  pub fun-below : (f : ℕ) → f < n → Below f (v .lines f)
-  fun-below f lt = rw (v .before f lt) at (rules-below (v .heights f) 62 1 (v .lines f) (v .rules f lt))
+  pub fun-below : (f : ℕ) → f < n → Below f (lines-of v f)
+  fun-below f lt = rw (heights-count v f lt) at (rules-below (heights-before v f) 62 1 (lines-of v f) (plan-rules v f lt))
 
   in-order : (d f g : ℕ) → f + d ≡ g → f < g → g ≤ n → start (f + 1) ≤ start g
   in-order zero f g e h l = absurd (omega arith)
@@ -91,7 +93,7 @@ module _ {w starts : List ℕ} {n : ℕ} (v : Funs w starts n) where
       elim (decLt (f + 1) g) [
         | yes lt ↦
             let a : start (f + 1 + 1) ≤ start g = in-order d (f + 1) g (omega arith) lt l in
-            omega (arith, a, rep-le w 1 (start (f + 1)) (start (f + 1 + 1)) (v .lines (f + 1)) (v .rep (f + 1) (omega arith)))
+            omega (arith, a, rep-le w 1 (start (f + 1)) (start (f + 1 + 1)) (lines-of v (f + 1)) (plan-rep {k = f + 1} v (omega arith)))
         | no ge ↦ let i : f + 1 ≡ g = omega arith in rw i (omega arith)
       ]
 
@@ -100,13 +102,13 @@ module _ {w starts : List ℕ} {n : ℕ} (v : Funs w starts n) where
   fun-order f g h l = in-order (g - f) f g (omega arith) h l
 
 -- The first f functions are measured, and the totals behind them are 0.
-pub record Measuring (l : Bool) (w starts : List ℕ) (n f : ℕ) (ts o : List ℕ) : Type 0 where
+pub record Measuring (k : Block → ℕ) (w starts : List ℕ) (n f : ℕ) (ts o : List ℕ) : Type 0 where
   pub under : Under ceiling ts
   pub long : length ts ≡ 16
   pub wide : length o ≡ 512
   pub behind : (g : ℕ) → f ≤ g → getD ts g 0 ≡ 0
-  pub right : (v : Funs w starts n) (g : ℕ) → g < f → getD ts g 0 ≡ cap (tally (price l) (known (price l) (v .lines) g) (v .lines g))
-  pub rounds : (v : Funs w starts n) (g : ℕ) → g < f → Holds o (getD starts g 0) (turns (price l) ts (v .lines g))
+  pub right : (v : Plan-of w starts n) (g : ℕ) → g < f → getD ts g 0 ≡ cap (tally k (known k (lines-of v) g) (lines-of v g))
+  pub rounds : (v : Plan-of w starts n) (g : ℕ) → g < f → Contains o (getD starts g 0) (turns k ts (lines-of v g))
 
 pub zeros-at : (k g : ℕ) → _≡_ {A = ℕ} (getD (replicate k 0) g 0) 0
 zeros-at zero g = refl
@@ -116,7 +118,7 @@ zeros-at (suc k) (suc g) = zeros-at k g
 pub zeros-under : (m k : ℕ) → Under m (replicate k 0)
 zeros-under m k j = omega (arith, zeros-at k j)
 
-pub measure-start : {l : Bool} {w starts : List ℕ} {n : ℕ} (o : List ℕ) → length o ≡ 512 → Measuring l w starts n 0 (replicate 16 0) o
+pub measure-start : {k : Block → ℕ} {w starts : List ℕ} {n : ℕ} (o : List ℕ) → length o ≡ 512 → Measuring k w starts n 0 (replicate 16 0) o
 measure-start o h =
     record {
       under = zeros-under ceiling 16;
@@ -134,40 +136,39 @@ under-set m (x ∷ a) zero v h k (suc j) = k (suc j)
 under-set m (x ∷ a) (suc f) v h k zero = k 0
 under-set m (x ∷ a) (suc f) v h k (suc j) = under-set m a f v h (λ i. k (suc i)) j
 
-pub measure-next : {l : Bool} {w starts : List ℕ} {n f t : ℕ} {ts o o′ : List ℕ} → f < n → n ≤ 16 → Funs w starts n → t ≤ ceiling
-    → ((p : Laid w 62 (getD starts f 0) (getD starts (f + 1) 0)) → t ≡ cap (tally (price l) ts (p .part .lines)))
-    → ((p : Laid w 62 (getD starts f 0) (getD starts (f + 1) 0)) → o′ ≡ sets o (getD starts f 0) (turns (price l) ts (p .part .lines)))
-    → Measuring l w starts n f ts o → Measuring l w starts n (f + 1) (set ts f t) o′
-measure-next {l} {w} {starts} {n} {f} {t} {ts} {o} {o′} lt few v₀ le ht ho q =
-    let k = price l in
+pub measure-next : {k : Block → ℕ} {w starts : List ℕ} {n f t : ℕ} {ts o o′ : List ℕ} → f < n → n ≤ 16 → Plan-of w starts n → t ≤ ceiling
+    → ((p : Piece w 62 (getD starts f 0) (getD starts (f + 1) 0)) → t ≡ cap (tally k ts (p .part .lines)))
+    → ((p : Piece w 62 (getD starts f 0) (getD starts (f + 1) 0)) → o′ ≡ sets o (getD starts f 0) (turns k ts (p .part .lines)))
+    → Measuring k w starts n f ts o → Measuring k w starts n (f + 1) (set ts f t) o′
+measure-next {k} {w} {starts} {n} {f} {t} {ts} {o} {o′} lt few v₀ le ht ho q =
     let s = getD starts f 0 in
     let same : (g j : ℕ) → g ≤ f → j < g → getD ts j 0 ≡ getD (set ts f t) j 0 = λ g j a b. sym (getD-set-other ts f j t 0 (omega arith)) in
     record {
       under = under-set ceiling ts f t le (q .under);
       long = length-set ts f t ∙ q .long;
-      wide = ap length (ho (fun-laid v₀ f lt)) ∙ length-sets o s (turns k ts (v₀ .lines f)) ∙ q .wide;
+      wide = ap length (ho (fun-part v₀ f lt)) ∙ length-sets o s (turns k ts (lines-of v₀ f)) ∙ q .wide;
       behind = λ g i. getD-set-other ts f g t 0 (omega arith) ∙ q .behind g (omega arith);
       right = λ v g i. elim (decLt g f) [
         | yes h ↦ getD-set-other ts f g t 0 (omega arith) ∙ q .right v g h
         | no h ↦
             let e : g ≡ f = omega arith in
-            let F = v .lines in
-            rw e (getD-set-same ts f t 0 (omega (arith, q .long)) ∙ ht (fun-laid v f lt) ∙
+            let F = lines-of v in
+            rw e (getD-set-same ts f t 0 (omega (arith, q .long)) ∙ ht (fun-part v f lt) ∙
             tally-held k ts (known k F f) f (λ j m. ap (λ (y : ℕ). cap y) (q .right v j m) ∙ held (tally k (known k F j) (F j)) ∙ ap (λ (y : ℕ). cap y) (sym (known-at k F f j m)))
             (F f) (fun-below v f lt))
       ];
       rounds = λ v g i. elim (decLt g f) [
         | yes h ↦
-            let x = turns-same k ts (set ts f t) g (λ j m. same g j (omega arith) m) (v .lines g) (fun-below v g (omega arith)) in
-            rw x at (holds-same (turns k ts (v .lines g)) o o′ (getD starts g 0)
-            (λ j m. ap (λ (y : List ℕ). getD y j 0) (ho (fun-laid v f lt)) ∙
-            sets-below (turns k ts (v .lines f)) o s j (omega (arith, laid-fill (turn-rule k ts) (fun-laid v g (omega arith)) 0, fun-order v g f h (omega arith))))
+            let x = turns-same k ts (set ts f t) g (λ j m. same g j (omega arith) m) (lines-of v g) (fun-below v g (omega arith)) in
+            rw x at (contains-same (turns k ts (lines-of v g)) o o′ (getD starts g 0)
+            (λ j m. ap (λ (y : List ℕ). getD y j 0) (ho (fun-part v f lt)) ∙
+            sets-below (turns k ts (lines-of v f)) o s j (omega (arith, part-fill (turn-rule k ts) (fun-part v g (omega arith)) 0, fun-order v g f h (omega arith))))
             (q .rounds v g h))
         | no h ↦
             let e : g ≡ f = omega arith in
-            let x = turns-same k ts (set ts f t) f (λ j m. same f j (omega arith) m) (v .lines f) (fun-below v f lt) in
-            let y = holds-sets (turns k ts (v .lines f)) o s (omega (arith, laid-fill (turn-rule k ts) (fun-laid v f lt) 0, v .inside f lt .1, q .wide)) in
-            let z : Holds o′ s (turns k ts (v .lines f)) = rw (ho (fun-laid v f lt)) y in
+            let x = turns-same k ts (set ts f t) f (λ j m. same f j (omega arith) m) (lines-of v f) (fun-below v f lt) in
+            let y = contains-sets (turns k ts (lines-of v f)) o s (omega (arith, part-fill (turn-rule k ts) (fun-part v f lt) 0, plan-inside v f lt .1, q .wide)) in
+            let z : Contains o′ s (turns k ts (lines-of v f)) = rw (ho (fun-part v f lt)) y in
             rw e (rw x at z)
       ];
     }
@@ -175,19 +176,18 @@ measure-next {l} {w} {starts} {n} {f} {t} {ts} {o} {o′} lt few v₀ le ht ho q
     held : (x : ℕ) → cap (cap x) ≡ cap x
     held x = omega arith
 
-pub measured : {l : Bool} {w starts : List ℕ} {n f : ℕ} {ts o : List ℕ} → n ≤ f → Measuring l w starts n f ts o → (v : Funs w starts n) → Measured l (v .lines) starts n ts o
-measured {l} {w} {starts} {n} {f} le q v =
+pub measured : {k : Block → ℕ} {w starts : List ℕ} {n f : ℕ} {ts o : List ℕ} → n ≤ f → Measuring k w starts n f ts o → (v : Plan-of w starts n) → Measured k (lines-of v) starts n ts o
+measured {k} {w} {starts} {n} {f} le q v =
     record {
-      totals = λ g h. q .right v g (omega arith) ∙ ap (λ (y : ℕ). cap y) (sym (known-at (price l) (v .lines) n g h));
+      totals = λ g h. q .right v g (omega arith) ∙ ap (λ (y : ℕ). cap y) (sym (known-at k (lines-of v) n g h));
       rounds = λ g h. q .rounds v g (omega arith);
     }
 
 -- Totals that are not over the limit are exact.
-pub measured-exact : {l : Bool} {w starts : List ℕ} {n : ℕ} {ts o : List ℕ} (v : Funs w starts n) → Measured l (v .lines) starts n ts o
-    → ((f : ℕ) → f < n → getD ts f 0 ≤ limit) → Exact l (v .lines) starts n ts o
-measured-exact {l} {w} {starts} {n} {ts} {o} v q low =
-    let k = price l in
-    let F = v .lines in
+pub measured-exact : {k : Block → ℕ} {w starts : List ℕ} {n : ℕ} {ts o : List ℕ} (v : Plan-of w starts n) → Measured k (lines-of v) starts n ts o
+    → ((f : ℕ) → f < n → getD ts f 0 ≤ limit) → Exact k (lines-of v) starts n ts o
+measured-exact {k} {w} {starts} {n} {ts} {o} v q low =
+    let F = lines-of v in
     let total : (f : ℕ) → f < n → getD ts f 0 ≡ tally k (known k F f) (F f) = λ f h.
     q .totals f h ∙ cap-low (getD (known k F n) f 0) (omega (arith, q .totals f h, low f h)) ∙ known-at k F n f h in
     record {

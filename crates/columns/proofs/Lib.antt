@@ -8,11 +8,11 @@ pub mod Readiness
 pub mod Backing
 pub mod Tailing
 pub mod Fitting
-pub mod Hushing
+pub mod Silences
 pub mod Widening
 pub mod Functions
 pub mod Driving
-pub mod Painting
+pub mod Written
 pub mod Looking
 pub mod Known
 pub mod Reading

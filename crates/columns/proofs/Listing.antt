@@ -8,10 +8,9 @@ use native.Mathlib.Omega.{arith}
 use lib.ListN.{length, getD, set, length-set}
 use lib.Seq.{getD-set-same, getD-set-other}
 use Rattle.model.specs.Plan.{Lines}
-use Rattle.rows.specs.Rows.{end-at, Rep, Rules}
+use Rattle.rows.specs.Rows.{after-at, Rep, Rules, Piece}
 use Rattle.rows.proofs.Shape.{rep-rest, rules-rest, ends}
-use Rattle.columns.specs.Sums.{Laid}
-use Rattle.columns.specs.Order.{sibling, later, Kept, Listed}
+use Rattle.columns.specs.Private.{sibling, later, Kept, Listed}
 
 -- The lines after the first k forms lie where form number k begins.
 pub rep-later : (w : List ℕ) (v i e k : ℕ) (l : Lines) → Rep w v i e l → ((j : ℕ) → j < k → sibling w i j < e) → Rep w v (sibling w i k) e (later k l)
@@ -24,8 +23,8 @@ unfolding later
 rules-later hs left v zero l h = h
 rules-later hs left v (suc k) l h = rules-rest hs left v (later k l) (rules-later hs left v k l h)
 
-abbrev pub later-laid : {w : List ℕ} {left i e : ℕ} (k : ℕ) {x : ℕ} → ((j : ℕ) → j < k → sibling w i j < e) → x ≡ sibling w i k → Laid w left i e → Laid w left x e
-later-laid {w} {left} {i} {e} k lt hx p =
+abbrev pub later-part : {w : List ℕ} {left i e : ℕ} (k : ℕ) {x : ℕ} → ((j : ℕ) → j < k → sibling w i j < e) → x ≡ sibling w i k → Piece w left i e → Piece w left x e
+later-part {w} {left} {i} {e} k lt hx p =
     record {
       heights = p .heights;
       level = p .level;
@@ -60,15 +59,15 @@ list-start o le =
       kept = record { long = refl; same = λ j h. refl };
     }
 
-pub list-next : {w : List ℕ} {left i e n x en : ℕ} {o o₀ : List ℕ} → x < e → e ≤ 512 → length o₀ ≡ 512 → en ≡ end-at w x → Laid w left i e → Listing w i e n x o o₀
+pub list-next : {w : List ℕ} {left i e n x en : ℕ} {o o₀ : List ℕ} → x < e → e ≤ 512 → length o₀ ≡ 512 → en ≡ after-at w x → Piece w left i e → Listing w i e n x o o₀
     → (x < en) × Listing w i e (n + 1) en (set o (i + n) x) o₀
 unfolding sibling
 list-next {w} {left} {i} {e} {n} {x} {en} {o} {o₀} lt few long he p q =
-    let g = ends lt (later-laid n (q .inside) (q .at) p .part) in
+    let g = ends lt (later-part n (q .inside) (q .at) p .part) in
     let room : i + n < length o = omega (arith, q .past, q .kept .long) in (
       omega (arith, g),
       record {
-        at = rw add-one (he ∙ ap (end-at w) (q .at));
+        at = rw add-one (he ∙ ap (after-at w) (q .at));
         low = omega (arith, g);
         past = omega (arith, g, q .past);
         inside = λ k h. elim (decLt k n) [ yes l ↦ q .inside k l | no l ↦ let e : k ≡ n = omega arith in rw e (rw (q .at) at lt) ];

@@ -14,11 +14,11 @@ use Rattle.model.specs.Total.{tally}
 use Rattle.model.specs.Tail.{tail, mine}
 use Rattle.model.specs.Places.{pick}
 use Rattle.model.specs.Static.{line-silence, shown, line-stretch}
-use Rattle.rows.specs.Rows.{field, end-at, block-at, Rep, Rules}
+use Rattle.rows.specs.Rows.{field, after-at, block-at, Rep, Rules}
 use Rattle.columns.specs.Sums.{limit, cap, lead}
-use Rattle.columns.specs.Columns.{Rule, column, turn, turn-rule, turns, round-sum, rounds, tail-rule, Holds}
+use Rattle.columns.specs.Columns.{Rule, column-of, held-turn, turn-rule, turns, round-sum, rounds, tail-rule, Contains}
 use Rattle.columns.proofs.Sizes.{round-le}
-use Rattle.columns.specs.Stretches.{marked, here, stretch-rule}
+use Rattle.columns.specs.Stretches.{leaf-stretch, first-stretch, stretch-rule}
 use Rattle.columns.proofs.Stores.{sets-below}
 use Rattle.columns.proofs.Fronts.{column-fill}
 
@@ -68,20 +68,20 @@ sets-look (v ∷ vs) o i x h l u =
     ]
 
 module _ (u : Rule) where
-  pub fill-of : (w : List ℕ) (v i e : ℕ) (l : Lines) (s : ℕ) → Rep w v i e l → e ≡ i + length (column u l s)
+  pub fill-of : (w : List ℕ) (v i e : ℕ) (l : Lines) (s : ℕ) → Rep w v i e l → e ≡ i + length (column-of u l s)
   fill-of w v i e l s h = sym (column-fill u w v i e l s h)
 
   -- A loop, and an if: the column of the parts.
   look-loop : (x : ℕ) (w : List ℕ) (v i e : ℕ) (body : Lines) (y : ℕ) (vs : List ℕ) → Rep w v (i + 1) e body
-      → look (suc i) x (column u body y ++ vs) ≡ max (look (i + 1) x (column u body y)) (look e x vs)
+      → look (suc i) x (column-of u body y ++ vs) ≡ max (look (i + 1) x (column-of u body y)) (look e x vs)
   look-loop x w v i e body y vs h =
       let j : i + 1 ≡ suc i = omega arith in
-      rw j (look-append (column u body y) vs (suc i) e x (omega (arith, fill-of w v (i + 1) e body y h)))
+      rw j (look-append (column-of u body y) vs (suc i) e x (omega (arith, fill-of w v (i + 1) e body y h)))
 
   look-if : (x : ℕ) (w : List ℕ) (v i m e : ℕ) (t f : Lines) (y : ℕ) (vs : List ℕ) → Rep w v (i + 1) m t → Rep w v m e f
-      → look (suc i) x (column u t y ++ (column u f y ++ vs)) ≡ max (look (i + 1) x (column u t y)) (max (look m x (column u f y)) (look e x vs))
+      → look (suc i) x (column-of u t y ++ (column-of u f y ++ vs)) ≡ max (look (i + 1) x (column-of u t y)) (max (look m x (column-of u f y)) (look e x vs))
   look-if x w v i m e t f y vs h k =
-      look-loop x w v i m t y (column u f y ++ vs) h ∙ ap (λ (z : ℕ). max (look (i + 1) x (column u t y)) z) (look-append (column u f y) vs m e x (fill-of w v m e f y k))
+      look-loop x w v i m t y (column-of u f y ++ vs) h ∙ ap (λ (z : ℕ). max (look (i + 1) x (column-of u t y)) z) (look-append (column-of u f y) vs m e x (fill-of w v m e f y k))
 
 add-assoc : (a b c : ℕ) → a + b + c ≡ a + (b + c)
 add-assoc a b c = omega arith
@@ -90,38 +90,38 @@ mine-at : (w : List ℕ) (i x : ℕ) {a c : ℕ} (b : Block) → b ≡ block-at 
 mine-at w i x {a} {c} b e h = ap (λ (y : Block). pick (eqb (y .number) x) a 0) e ∙ ap (λ (y : ℕ). pick (eqb i x) y 0) h
 
 -- The tail of the leaf x is what stands at x.
-pub tail-look : (ts : List ℕ) (x : ℕ) (w : List ℕ) (v i e : ℕ) (l : Lines) (s : ℕ) → Rep w v i e l → tail ts x l s ≡ look i x (column (tail-rule ts) l s)
-unfolding tail look column Rep tally lead rounds
+pub tail-look : (ts : List ℕ) (x : ℕ) (w : List ℕ) (v i e : ℕ) (l : Lines) (s : ℕ) → Rep w v i e l → tail ts x l s ≡ look i x (column-of (tail-rule ts) l s)
+unfolding tail look column-of Rep tally lead rounds
 tail-look ts x w v i e close s h = refl
 tail-look ts x w v i e (leaf-line b r) s h =
-    let j : end-at w i ≡ suc i = omega arith in
-    let y = rw j at (tail-look ts x w v (end-at w i) e r s (h .4)) in
+    let j : after-at w i ≡ suc i = omega arith in
+    let y = rw j at (tail-look ts x w v (after-at w i) e r s (h .4)) in
     rw (mine-at w i x b (h .0 .1) (add-assoc (C b) (tally C ts r) s), y)
 tail-look ts x w v i e (call-line b f r) s h =
-    let j : end-at w i ≡ suc i = omega arith in
-    let y = rw j at (tail-look ts x w v (end-at w i) e r s (h .4)) in
+    let j : after-at w i ≡ suc i = omega arith in
+    let y = rw j at (tail-look ts x w v (after-at w i) e r s (h .4)) in
     rw (mine-at w i x b (h .0 .1) (add-assoc (C b + getD ts f 0) (tally C ts r) s), y)
 tail-look ts x w v i e (loop-line b n body r) s h =
     let k = C b + (n - 1) * (tally C ts body + C b) in
-    let z = tail-look ts x w v (end-at w i) e r s (h .4) in
-    let y = tail-look ts x w (suc v) (i + 1) (end-at w i) body (k + (tally C ts r + s)) (h .3) in
-    let u = look-loop (tail-rule ts) x w (suc v) i (end-at w i) body (k + (tally C ts r + s)) (column (tail-rule ts) r s) (h .3) in
+    let z = tail-look ts x w v (after-at w i) e r s (h .4) in
+    let y = tail-look ts x w (suc v) (i + 1) (after-at w i) body (k + (tally C ts r + s)) (h .3) in
+    let u = look-loop (tail-rule ts) x w (suc v) i (after-at w i) body (k + (tally C ts r + s)) (column-of (tail-rule ts) r s) (h .3) in
     rw (mine-at w i x b (h .0 .1) (add-assoc (C b + n * (tally C ts body + C b)) (tally C ts r) s), add-assoc k (tally C ts r) s, y, z, u)
 tail-look ts x w v i e (if-line b t f r) s h =
     let c = tally C ts r + s in
-    let z = tail-look ts x w v (end-at w i) e r s (h .4) in
+    let z = tail-look ts x w v (after-at w i) e r s (h .4) in
     let y₁ = tail-look ts x w v (i + 1) (field w i 5) t c (h .2) in
-    let y₂ = tail-look ts x w v (field w i 5) (end-at w i) f c (h .3) in
-    let u = look-if (tail-rule ts) x w v i (field w i 5) (end-at w i) t f c (column (tail-rule ts) r s) (h .2) (h .3) in
+    let y₂ = tail-look ts x w v (field w i 5) (after-at w i) f c (h .3) in
+    let u = look-if (tail-rule ts) x w v i (field w i 5) (after-at w i) t f c (column-of (tail-rule ts) r s) (h .2) (h .3) in
     rw (mine-at w i x b (h .0 .1) (add-assoc (C b + max (tally C ts t) (tally C ts f)) (tally C ts r) s), y₁, y₂, z, u)
 
 -- What stands in a row, read at x.
-pub holds-look : (vs o : List ℕ) (i x : ℕ) → Holds o i vs → i ≤ x → x < i + length vs → getD o x 0 ≡ look i x vs
-unfolding look Holds
-holds-look [] o i x h l u = absurd (omega arith)
-holds-look (v ∷ vs) o i x h l u =
+pub contains-look : (vs o : List ℕ) (i x : ℕ) → Contains o i vs → i ≤ x → x < i + length vs → getD o x 0 ≡ look i x vs
+unfolding look Contains
+contains-look [] o i x h l u = absurd (omega arith)
+contains-look (v ∷ vs) o i x h l u =
     elim (decLt i x) [
-      | yes lt ↦ omega (arith, holds-look vs o (suc i) x (h .1) (omega arith) (omega arith), at-else i x v (omega arith))
+      | yes lt ↦ omega (arith, contains-look vs o (suc i) x (h .1) (omega arith) (omega arith), at-else i x v (omega arith))
       | no ge ↦
           let e : i ≡ x = omega arith in
           let b : getD o x 0 ≡ v = rw (← e) (h .0) in
@@ -138,62 +138,62 @@ at-zero i x y = go (eqb i x)
 -- The exact sum of one round of the loop x is what stands at x.
 pub turn-look : (k : Block → ℕ) (ts hs : List ℕ) (left x : ℕ) (w : List ℕ) (v i e : ℕ) (l : Lines) → Rep w v i e l → Rules hs left v l → tally k ts l ≤ limit
     → round-sum k ts x l ≡ look i x (turns k ts l)
-unfolding round-sum look column turn tally Rep Rules
+unfolding round-sum look column-of held-turn tally Rep Rules
 turn-look k ts hs left x w v i e close h r le = refl
 turn-look k ts hs left x w v i e (leaf-line b r) h q le =
-    let j : end-at w i ≡ suc i = omega arith in
-    let y = rw j at (turn-look k ts hs left x w v (end-at w i) e r (h .4) (q .2) (omega arith)) in
+    let j : after-at w i ≡ suc i = omega arith in
+    let y = rw j at (turn-look k ts hs left x w v (after-at w i) e r (h .4) (q .2) (omega arith)) in
     y ∙ at-zero i x (look (suc i) x (turns k ts r))
 turn-look k ts hs left x w v i e (call-line b f r) h q le =
-    let j : end-at w i ≡ suc i = omega arith in
-    let y = rw j at (turn-look k ts hs left x w v (end-at w i) e r (h .4) (q .4) (omega arith)) in
+    let j : after-at w i ≡ suc i = omega arith in
+    let y = rw j at (turn-look k ts hs left x w v (after-at w i) e r (h .4) (q .4) (omega arith)) in
     y ∙ at-zero i x (look (suc i) x (turns k ts r))
 turn-look k ts hs left x w v i e (loop-line b n body r) h q le =
     let g = round-le n (tally k ts body) (k b) (q .1) in
     let c : cap (tally k ts body) ≡ tally k ts body = omega arith in
-    let y = turn-look k ts hs (left - 1) x w (suc v) (i + 1) (end-at w i) body (h .3) (q .5) (omega arith) in
-    let z = turn-look k ts hs left x w v (end-at w i) e r (h .4) (q .6) (omega arith) in
-    let u = look-loop (turn-rule k ts) x w (suc v) i (end-at w i) body 0 (turns k ts r) (h .3) in
+    let y = turn-look k ts hs (left - 1) x w (suc v) (i + 1) (after-at w i) body (h .3) (q .5) (omega arith) in
+    let z = turn-look k ts hs left x w v (after-at w i) e r (h .4) (q .6) (omega arith) in
+    let u = look-loop (turn-rule k ts) x w (suc v) i (after-at w i) body 0 (turns k ts r) (h .3) in
     let m : mine x b (k b + tally k ts body) ≡ pick (eqb i x) (k b + tally k ts body) 0 = mine-at w i x b (h .0 .1) refl in
     rw (u, c, y, z, m)
 turn-look k ts hs left x w v i e (if-line b t f r) h q le =
     let y₁ = turn-look k ts hs (left - 2) x w v (i + 1) (field w i 5) t (h .2) (q .3) (omega arith) in
-    let y₂ = turn-look k ts hs (left - 2) x w v (field w i 5) (end-at w i) f (h .3) (q .4) (omega arith) in
-    let z = turn-look k ts hs left x w v (end-at w i) e r (h .4) (q .5) (omega arith) in
-    let u = look-if (turn-rule k ts) x w v i (field w i 5) (end-at w i) t f 0 (turns k ts r) (h .2) (h .3) in
+    let y₂ = turn-look k ts hs (left - 2) x w v (field w i 5) (after-at w i) f (h .3) (q .4) (omega arith) in
+    let z = turn-look k ts hs left x w v (after-at w i) e r (h .4) (q .5) (omega arith) in
+    let u = look-if (turn-rule k ts) x w v i (field w i 5) (after-at w i) t f 0 (turns k ts r) (h .2) (h .3) in
     rw (u, y₁, y₂, z) (at-zero i x _)
 
-shown-at : (x : ℕ) (w : List ℕ) (i s : ℕ) (b : Block) → b ≡ block-at w i → shown x b s ≡ pick (eqb i x) (marked b s) 0
-shown-at x w i s b e = rw e (go (eqb (field w i 1) 1) (eqb i x))
+shown-at : (k : Block → ℕ) (x : ℕ) (w : List ℕ) (i s : ℕ) (b : Block) → b ≡ block-at w i → shown k x b s ≡ pick (eqb i x) (leaf-stretch k b s) 0
+shown-at k x w i s b e = rw e (go (eqb (field w i 1) 1) (eqb i x))
   where
-    go : (p t : Bool) → pick p (pick t (field w i 3 + s) 0) 0 ≡ pick t (pick p (field w i 3 + s) 0) 0
+    go : (p t : Bool) → pick p (pick t (k (block-at w i) + s) 0) 0 ≡ pick t (pick p (k (block-at w i) + s) 0) 0
     go true true = refl
     go true false = refl
     go false true = refl
     go false false = refl
 
 -- The static stretch of the point x is what stands at x.
-pub stretch-look : (ms : List ℕ) (q : ℕ → ℕ → ℕ) (x : ℕ) (w : List ℕ) (v i e : ℕ) (l : Lines) (s : ℕ) → Rep w v i e l
-    → line-stretch ms q x l s ≡ look i x (column (stretch-rule ms q) l s)
-unfolding line-stretch look column here Rep
-stretch-look ms q x w v i e close s h = refl
-stretch-look ms q x w v i e (leaf-line b r) s h =
-    let j : end-at w i ≡ suc i = omega arith in
-    let y = rw j at (stretch-look ms q x w v (end-at w i) e r s (h .4)) in
-    rw (shown-at x w i (line-silence ms r s) b (h .0 .1), y)
-stretch-look ms q x w v i e (call-line b f r) s h =
-    let j : end-at w i ≡ suc i = omega arith in
-    let y = rw j at (stretch-look ms q x w v (end-at w i) e r s (h .4)) in
-    rw (shown-at x w i (q f (line-silence ms r s)) b (h .0 .1), y)
-stretch-look ms q x w v i e (loop-line b n body r) s h =
-    let y = stretch-look ms q x w (suc v) (i + 1) (end-at w i) body 0 (h .3) in
-    let z = stretch-look ms q x w v (end-at w i) e r s (h .4) in
-    let u = look-loop (stretch-rule ms q) x w (suc v) i (end-at w i) body 0 (column (stretch-rule ms q) r s) (h .3) in
-    rw (shown-at x w i (max (line-silence ms r s) (line-silence ms body 0)) b (h .0 .1), y, z, u)
-stretch-look ms q x w v i e (if-line b t f r) s h =
-    let c = line-silence ms r s in
-    let y₁ = stretch-look ms q x w v (i + 1) (field w i 5) t c (h .2) in
-    let y₂ = stretch-look ms q x w v (field w i 5) (end-at w i) f c (h .3) in
-    let z = stretch-look ms q x w v (end-at w i) e r s (h .4) in
-    let u = look-if (stretch-rule ms q) x w v i (field w i 5) (end-at w i) t f c (column (stretch-rule ms q) r s) (h .2) (h .3) in
-    rw (shown-at x w i (max (line-silence ms t c) (line-silence ms f c)) b (h .0 .1), y₁, y₂, z, u)
+pub stretch-look : (k : Block → ℕ) (ms : List ℕ) (q : ℕ → ℕ → ℕ) (x : ℕ) (w : List ℕ) (v i e : ℕ) (l : Lines) (s : ℕ) → Rep w v i e l
+    → line-stretch k ms q x l s ≡ look i x (column-of (stretch-rule k ms q) l s)
+unfolding line-stretch look column-of first-stretch Rep
+stretch-look k ms q x w v i e close s h = refl
+stretch-look k ms q x w v i e (leaf-line b r) s h =
+    let j : after-at w i ≡ suc i = omega arith in
+    let y = rw j at (stretch-look k ms q x w v (after-at w i) e r s (h .4)) in
+    rw (shown-at k x w i (line-silence k ms r s) b (h .0 .1), y)
+stretch-look k ms q x w v i e (call-line b f r) s h =
+    let j : after-at w i ≡ suc i = omega arith in
+    let y = rw j at (stretch-look k ms q x w v (after-at w i) e r s (h .4)) in
+    rw (shown-at k x w i (q f (line-silence k ms r s)) b (h .0 .1), y)
+stretch-look k ms q x w v i e (loop-line b n body r) s h =
+    let y = stretch-look k ms q x w (suc v) (i + 1) (after-at w i) body 0 (h .3) in
+    let z = stretch-look k ms q x w v (after-at w i) e r s (h .4) in
+    let u = look-loop (stretch-rule k ms q) x w (suc v) i (after-at w i) body 0 (column-of (stretch-rule k ms q) r s) (h .3) in
+    rw (shown-at k x w i (max (line-silence k ms r s) (line-silence k ms body 0)) b (h .0 .1), y, z, u)
+stretch-look k ms q x w v i e (if-line b t f r) s h =
+    let c = line-silence k ms r s in
+    let y₁ = stretch-look k ms q x w v (i + 1) (field w i 5) t c (h .2) in
+    let y₂ = stretch-look k ms q x w v (field w i 5) (after-at w i) f c (h .3) in
+    let z = stretch-look k ms q x w v (after-at w i) e r s (h .4) in
+    let u = look-if (stretch-rule k ms q) x w v i (field w i 5) (after-at w i) t f c (column-of (stretch-rule k ms q) r s) (h .2) (h .3) in
+    rw (shown-at k x w i (max (line-silence k ms t c) (line-silence k ms f c)) b (h .0 .1), y₁, y₂, z, u)

@@ -7,10 +7,10 @@ use native.Mathlib.Omega.{arith}
 use lib.ListN.{getD}
 use Rattle.model.specs.Plan.{Block, Lines, close, leaf-line, call-line, loop-line, if-line}
 use Rattle.model.specs.Total.{tally}
-use Rattle.rows.specs.Rows.{field, end-at, block-at, Rep}
+use Rattle.rows.specs.Rows.{field, after-at, block-at, Rep, Piece}
 use Rattle.rows.specs.First.{rest}
 use Rattle.rows.proofs.Shape.{LeafAt, CallAt, LoopAt, IfAt, if-at, after, no-lines, body-in, then-in, else-in}
-use Rattle.columns.specs.Sums.{lead, Laid}
+use Rattle.columns.specs.Sums.{lead}
 
 pub tally-split : (k : Block → ℕ) (ts : List ℕ) (l : Lines) → tally k ts l ≡ lead k ts l + tally k ts (rest l)
 unfolding tally lead rest
@@ -21,20 +21,20 @@ tally-split k ts (loop-line b n body r) = refl
 tally-split k ts (if-line b t e r) = refl
 
 -- The lines inside, and after the first form.
-abbrev pub body-laid : {w hs : List ℕ} {left l i en : ℕ} {ls : Lines} → en ≡ end-at w i → LoopAt w hs left l i ls → Laid w (left - 1) (i + 1) en
-body-laid {w} {hs} {left} {l} he h = record { heights = hs; level = suc l; part = body-in he h }
+abbrev pub body-part : {w hs : List ℕ} {left l i en : ℕ} {ls : Lines} → en ≡ after-at w i → LoopAt w hs left l i ls → Piece w (left - 1) (i + 1) en
+body-part {w} {hs} {left} {l} he h = record { heights = hs; level = suc l; part = body-in he h }
 
-abbrev pub then-laid : {w hs : List ℕ} {left l i mid : ℕ} {ls : Lines} → mid ≡ field w i 5 → IfAt w hs left l i ls → Laid w (left - 2) (i + 1) mid
-then-laid {w} {hs} {left} {l} hm h = record { heights = hs; level = l; part = then-in hm h }
+abbrev pub then-part : {w hs : List ℕ} {left l i mid : ℕ} {ls : Lines} → mid ≡ field w i 5 → IfAt w hs left l i ls → Piece w (left - 2) (i + 1) mid
+then-part {w} {hs} {left} {l} hm h = record { heights = hs; level = l; part = then-in hm h }
 
-abbrev pub else-laid : {w hs : List ℕ} {left l i mid en : ℕ} {ls : Lines} → mid ≡ field w i 5 → en ≡ end-at w i → IfAt w hs left l i ls → Laid w (left - 2) mid en
-else-laid {w} {hs} {left} {l} hm he h = record { heights = hs; level = l; part = else-in hm he h }
+abbrev pub else-part : {w hs : List ℕ} {left l i mid en : ℕ} {ls : Lines} → mid ≡ field w i 5 → en ≡ after-at w i → IfAt w hs left l i ls → Piece w (left - 2) mid en
+else-part {w} {hs} {left} {l} hm he h = record { heights = hs; level = l; part = else-in hm he h }
 
-abbrev pub after-laid : {w : List ℕ} {left i e en : ℕ} → i < e → (p : Laid w left i e) → en ≡ end-at w i → Laid w left en e
-after-laid lt p he = record { heights = p .heights; level = p .level; part = after lt (p .part) he }
+abbrev pub after-part : {w : List ℕ} {left i e en : ℕ} → i < e → (p : Piece w left i e) → en ≡ after-at w i → Piece w left en e
+after-part lt p he = record { heights = p .heights; level = p .level; part = after lt (p .part) he }
 
-pub no-laid : {w : List ℕ} {left i e : ℕ} → e ≤ i → (p : Laid w left i e) → p .part .lines ≡ close
-no-laid le p = no-lines le (p .part)
+pub no-part : {w : List ℕ} {left i e : ℕ} → e ≤ i → (p : Piece w left i e) → p .part .lines ≡ close
+no-part le p = no-lines le (p .part)
 
 -- The first form's total, by kind.
 module _ (k : Block → ℕ) (ts : List ℕ) where
@@ -74,7 +74,7 @@ low-kind w v i e (call-line b f r) h lt k = omega arith
 low-kind w v i e (loop-line b n body r) h lt k = omega arith
 low-kind w v i e (if-line b t s r) h lt k = absurd (k (h .0 .0))
 
-module _ {w : List ℕ} {left i e : ℕ} (lt : i < e) (p : Laid w left i e) where
+module _ {w : List ℕ} {left i e : ℕ} (lt : i < e) (p : Piece w left i e) where
   pub kind-low : {v : ℕ} → v ≡ field w i 0 → (v ≡ 3 → ⊥) → field w i 0 < 3
   kind-low hv v3 = low-kind w (p .level) i e (p .part .lines) (p .part .rep) lt (λ x. v3 (hv ∙ x))
 

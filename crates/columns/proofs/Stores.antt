@@ -6,7 +6,7 @@ use native.Mathlib.Nat.{not-suc-le-zero, le-of-suc-le-suc}
 use native.Mathlib.Omega.{arith}
 use lib.ListN.{length, getD, set, length-set}
 use lib.Seq.{sets, getD-set-same, getD-set-other}
-use Rattle.columns.specs.Columns.{Holds}
+use Rattle.columns.specs.Columns.{Contains}
 
 pub sets-behind : (xs ys l : List ℕ) (a i : ℕ) → i ≡ a + length xs → sets (sets l a xs) i ys ≡ sets l a (xs ++ ys)
 sets-behind [] ys l a i e = let e′ : i ≡ a = omega arith in rw e′
@@ -42,16 +42,16 @@ pub set-before : (v : ℕ) (ys l : List ℕ) (i j : ℕ) {l′ : List ℕ} → l
 set-before v ys l i j p e = sets-before (v ∷ []) ys l i j p refl e
 
 -- What stands in a row, by parts.
-pub holds-append : (xs ys o : List ℕ) (i j : ℕ) → Holds o i (xs ++ ys) → j ≡ i + length xs → Holds o i xs × Holds o j ys
-unfolding Holds
-holds-append [] ys o i j h e = let e′ : j ≡ i = omega arith in (tt, rw e′ h)
-holds-append (x ∷ xs) ys o i j h e = let r = holds-append xs ys o (suc i) j (h .1) (omega arith) in ((h .0, r .0), r .1)
+pub contains-append : (xs ys o : List ℕ) (i j : ℕ) → Contains o i (xs ++ ys) → j ≡ i + length xs → Contains o i xs × Contains o j ys
+unfolding Contains
+contains-append [] ys o i j h e = let e′ : j ≡ i = omega arith in (tt, rw e′ h)
+contains-append (x ∷ xs) ys o i j h e = let r = contains-append xs ys o (suc i) j (h .1) (omega arith) in ((h .0, r .0), r .1)
 
 -- Numbers that stand one after the other stand there together.
-pub holds-both : (xs ys o : List ℕ) (i j : ℕ) → j ≡ i + length xs → Holds o i xs → Holds o j ys → Holds o i (xs ++ ys)
-unfolding Holds
-holds-both [] ys o i j e h k = let z : j ≡ i = omega arith in rw z at k
-holds-both (x ∷ xs) ys o i j e h k = (h .0, holds-both xs ys o (suc i) j (omega arith) (h .1) k)
+pub contains-both : (xs ys o : List ℕ) (i j : ℕ) → j ≡ i + length xs → Contains o i xs → Contains o j ys → Contains o i (xs ++ ys)
+unfolding Contains
+contains-both [] ys o i j e h k = let z : j ≡ i = omega arith in rw z at k
+contains-both (x ∷ xs) ys o i j e h k = (h .0, contains-both xs ys o (suc i) j (omega arith) (h .1) k)
 
 -- Stores read back, and stores elsewhere.
 pub sets-below : (vs o : List ℕ) (i x : ℕ) → x < i → getD (sets o i vs) x 0 ≡ getD o x 0
@@ -62,15 +62,15 @@ pub sets-above : (vs o : List ℕ) (i x : ℕ) → i + length vs ≤ x → getD 
 sets-above [] o i x h = refl
 sets-above (v ∷ vs) o i x h = sets-above vs (set o i v) (suc i) x (omega arith) ∙ getD-set-other o i x v 0 (omega arith)
 
-pub holds-sets : (xs o : List ℕ) (i : ℕ) → i + length xs ≤ length o → Holds (sets o i xs) i xs
-unfolding Holds
-holds-sets [] o i h = tt
-holds-sets (x ∷ xs) o i h = (
+pub contains-sets : (xs o : List ℕ) (i : ℕ) → i + length xs ≤ length o → Contains (sets o i xs) i xs
+unfolding Contains
+contains-sets [] o i h = tt
+contains-sets (x ∷ xs) o i h = (
   sets-below xs (set o i x) (suc i) i (omega arith) ∙ getD-set-same o i x 0 (omega arith),
-  holds-sets xs (set o i x) (suc i) (omega (arith, length-set o i x)),
+  contains-sets xs (set o i x) (suc i) (omega (arith, length-set o i x)),
 )
 
-pub holds-same : (xs o o′ : List ℕ) (i : ℕ) → ((j : ℕ) → j < i + length xs → getD o′ j 0 ≡ getD o j 0) → Holds o i xs → Holds o′ i xs
-unfolding Holds
-holds-same [] o o′ i e h = tt
-holds-same (x ∷ xs) o o′ i e h = (e i (omega arith) ∙ h .0, holds-same xs o o′ (suc i) (λ j l. e j (omega arith)) (h .1))
+pub contains-same : (xs o o′ : List ℕ) (i : ℕ) → ((j : ℕ) → j < i + length xs → getD o′ j 0 ≡ getD o j 0) → Contains o i xs → Contains o′ i xs
+unfolding Contains
+contains-same [] o o′ i e h = tt
+contains-same (x ∷ xs) o o′ i e h = (e i (omega arith) ∙ h .0, contains-same xs o o′ (suc i) (λ j l. e j (omega arith)) (h .1))

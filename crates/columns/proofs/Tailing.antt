@@ -1,6 +1,5 @@
 -- Tails, form by form. Plain mathematics: no code is named here. Assumes nothing.
 use mathlib.Core.Path.{_≡_, ap}
-use mathlib.Core.Bool.{false}
 use mathlib.Core.List.{List}
 use Prim.Native.Nat.{ℕ, suc, _+_, _-_, _*_, _≤_, _<_, max}
 use native.Mathlib.Omega.{arith}
@@ -11,8 +10,8 @@ use Rattle.rows.specs.Rows.{field, block-at}
 use Rattle.rows.specs.First.{rest}
 use Rattle.rows.proofs.Shape.{LoopAt, IfAt}
 use Rattle.columns.specs.Sums.{limit, lead}
-use Rattle.columns.specs.Columns.{rounds, Ready}
-use Rattle.columns.specs.Order.{later}
+use Rattle.columns.specs.Columns.{rounds}
+use Rattle.columns.specs.Private.{Ready, later}
 use Rattle.columns.proofs.Sizes.{tally-split, loop-lead, if-lead, round-back}
 use Rattle.columns.proofs.Readiness.{ready-turn}
 
@@ -23,9 +22,9 @@ unfolding rounds
 loop-rounds ts x h = ap (λ u. rounds ts u x) (h .shape)
 
 -- The same, where t is the tail of the loop.
-module _ {w ts o : List ℕ} {left i e x : ℕ} (lt : i < e) (z : Ready false w ts o left i e x) where
-  pub loop-behind : {hs : List ℕ} {v t : ℕ} (h : LoopAt w hs left v i (z .laid .part .lines)) → t ≡ lead C ts (z .laid .part .lines) + x
-      → (t - getD o i 0 ≡ rounds ts (z .laid .part .lines) x) × (tally C ts (h .body .lines) + (t - getD o i 0) ≤ limit) × (getD o i 0 ≤ t)
+module _ {w ts o : List ℕ} {left i e x : ℕ} (lt : i < e) (z : Ready C w ts o left i e x) where
+  pub loop-behind : {hs : List ℕ} {v t : ℕ} (h : LoopAt w hs left v i (z .forms .part .lines)) → t ≡ lead C ts (z .forms .part .lines) + x
+      → (t - getD o i 0 ≡ rounds ts (z .forms .part .lines) x) × (tally C ts (h .body .lines) + (t - getD o i 0) ≤ limit) × (getD o i 0 ≤ t)
   loop-behind {hs} {v} {t} h ht =
       let c = C (block-at w i) in
       let y = tally C ts (h .body .lines) in

@@ -2,75 +2,49 @@
 // whatever the nesting: sums are noted once for each loop, and siblings are walked from the last to the first, with what follows them at hand.
 // Lent totals, turns and tails are tested where they stand, from the first leaf to the last.
 ghost use mathlib.Core.Path.{_≡_};
-ghost use mathlib.Core.Bool.{true, false};
 ghost use mathlib.Core.List.{[], _∷_};
 ghost use Prim.Native.Nat.{ℕ, _+_, _-_, _*_, _≤_, _<_};
 ghost use lib.ListN.{length, getD};
 ghost use lib.Seq.{sets};
 ghost use Rattle.model.specs.Plan.{C, M};
 ghost use Rattle.model.specs.Total.{tally};
-ghost use Rattle.rows.specs.Rows.{field, block-at};
-ghost use Rattle.columns.specs.Sums.{limit, ceiling, cap, price, lead, Under, Laid};
-ghost use Rattle.columns.specs.Columns.{column, front, turn-rule, turns, tail-rule, Sized, Ready};
-ghost use Rattle.columns.specs.Order.{Kept, Listed};
+ghost use Rattle.rows.specs.Rows.{field, block-at, Piece};
+ghost use Rattle.columns.specs.Sums.{limit, ceiling, cap, IsCost, cost-in, lead};
+ghost use Rattle.columns.specs.Private.{Under, front, Sized, Ready, Kept, Listed, silence-of, IsSilence, WithinLimit, first-silence, head-at, follow-first, AsDerived, AsDerived-first, Begins};
+ghost use Rattle.columns.specs.Columns.{column-of, turn-rule, turns, tail-rule};
 ghost use Rattle.model.specs.Places.{pick, bit};
 ghost use Rattle.model.specs.Static.{line-silence};
-ghost use Rattle.columns.specs.Quiet.{heard, Hush, Low, hushed, head-at};
-ghost use Rattle.columns.specs.Stretches.{marked, stretch-rule, raise, raised, lifted};
-ghost use Rattle.columns.specs.Whole.{Funs, Measured, Costed, Summed, painted, tailed};
+ghost use Rattle.columns.specs.Stretches.{leaf-stretch, stretch-rule, follow, follow-calls};
+ghost use Rattle.columns.specs.Whole.{Measured, Summed, SummedBoth, stretches-written, tails-written};
 ghost use Rattle.rows.specs.Answers.{Says};
-ghost use Rattle.columns.specs.Local.{Fits, Fits-first, Begins, Lent};
+ghost use Rattle.rows.specs.Plans.{Plan-of, lines-of};
+ghost use Rattle.columns.specs.Local.{AllDerived};
+use rows::AFTER;
+use rows::CALL;
+use rows::CEILING;
+use rows::DETAIL;
+use rows::IF;
+use rows::INNER_BRACKETS;
+use rows::ISOLATED;
+use rows::KIND;
+use rows::LEAF;
+use rows::LIMIT;
+use rows::LOOP;
+use rows::MAX_FUNCTIONS;
+use rows::MAX_LOAD;
+use rows::OTHER;
+use rows::POINT;
 use rows::after;
 use rows::get;
 use rows::index;
 use rows::larger;
 
-// The fields of a record.
-const KIND: usize = 0;
-
-const POINT: usize = 1;
-
-const COST: usize = 2;
-
-const LOAD: usize = 3;
-
-const NUMBER: usize = 4;
-
-const ELSE: usize = 5;
-
-const END: usize = 6;
-
-// Its kinds.
-const LEAF: u64 = 0;
-
-const CALL: u64 = 1;
-
-const LOOP: u64 = 2;
-
-const IF: u64 = 3;
-
-// How many brackets may open at once inside a function.
-const BRACKETS: usize = 62;
-
-// Sums are held at 2^41.
-const CEILING: u64 = 2199023255552;
-
-// No total of an accepted plan is over 2^40.
-const LIMIT: u64 = 1099511627776;
-
-// The most functions.
-const FUNCTIONS: usize = 16;
-
-// The cost of the record i that a sum counts.
-fn cost(row: &[u64], i: usize, load: bool) -> u64
-    requires { ⌜ i * 8 + 8 ≤ length (now row) ⌝ }
-    ensures { λ r. ⌜ r ≡ price load (block-at (now (row .entry)) i) ⌝ }
+// The cost of the record i, in this field of it.
+fn cost(row: &[u64], i: usize, column: usize) -> u64
+    requires { ⌜ (i * 8 + 8 ≤ length (now row)) × IsCost column ⌝ }
+    ensures { λ r. ⌜ r ≡ cost-in column (block-at (now (row .entry)) i) ⌝ }
 {
-    if load {
-        get(row, i, LOAD)
-    } else {
-        get(row, i, COST)
-    }
+    get(row, i, column)
 }
 
 // The number x, held at the ceiling.
@@ -91,7 +65,7 @@ fn looped(c: u64, b: u64, body: u64) -> u64
 // The total of the form at i, the first of those from i up to `to`, held at the ceiling. Writes the sums of the rounds of its loops.
 fn sum_form(
     row: &[u64],
-    load: bool,
+    column: usize,
     i: usize,
     to: usize,
     left: usize,
@@ -99,33 +73,33 @@ fn sum_form(
     turn: &mut [u64; 512],
 ) -> u64
     requires { ⌜ i < to ⌝ }
-    requires { ⌜ (to * 8 ≤ length (now row)) × (to ≤ 512) × Under ceiling (now sums) ⌝ }
-    requires { ⌜ Laid (now row) left i to ⌝ }
+    requires { ⌜ (to * 8 ≤ length (now row)) × (to ≤ 512) × Under ceiling (now sums) × IsCost column ⌝ }
+    requires { ⌜ Piece (now row) left i to ⌝ }
     ensures { λ r. ⌜ r ≤ ceiling ⌝ }
-    ensures { λ r. ⌜ ((p : Laid (now (row .entry)) left i to) → r ≡ cap (lead (price load) (now (sums .entry)) (p .part .lines))) ⌝ }
-    ensures { λ _. ⌜ ((p : Laid (now (row .entry)) left i to)
-        → now (turn .exit) ≡ sets (now (turn .entry)) i (front (turn-rule (price load) (now (sums .entry))) (p .part .lines) 0)) ⌝ }
+    ensures { λ r. ⌜ ((p : Piece (now (row .entry)) left i to) → r ≡ cap (lead (cost-in column) (now (sums .entry)) (p .part .lines))) ⌝ }
+    ensures { λ _. ⌜ ((p : Piece (now (row .entry)) left i to)
+        → now (turn .exit) ≡ sets (now (turn .entry)) i (front (turn-rule (cost-in column) (now (sums .entry))) (p .part .lines) 0)) ⌝ }
 {
     let kind = get(row, i, KIND);
-    let c = cost(row, i, load);
+    let c = cost(row, i, column);
     if kind == LEAF {
         turn[i] = 0;
         return c;
     }
     if kind == CALL {
         turn[i] = 0;
-        let f = index(row, i, NUMBER);
+        let f = index(row, i, DETAIL);
         return clip(c + sums[f]);
     }
-    let end = index(row, i, END);
+    let end = index(row, i, AFTER);
     if kind == LOOP {
-        let body = sum_block(row, load, i + 1, end, left - 1, sums, turn);
+        let body = sum_block(row, column, i + 1, end, left - 1, sums, turn);
         turn[i] = c + body;
-        return looped(c, get(row, i, NUMBER), body);
+        return looped(c, get(row, i, DETAIL), body);
     }
-    let mid = index(row, i, ELSE);
-    let a = sum_block(row, load, i + 1, mid, left - 2, sums, turn);
-    let b = sum_block(row, load, mid, end, left - 2, sums, turn);
+    let mid = index(row, i, OTHER);
+    let a = sum_block(row, column, i + 1, mid, left - 2, sums, turn);
+    let b = sum_block(row, column, mid, end, left - 2, sums, turn);
     turn[i] = 0;
     clip(c + larger(a, b))
 }
@@ -133,24 +107,24 @@ fn sum_form(
 // The total of the forms from `from` up to `to`, held at the ceiling. Writes the sums of the rounds of their loops.
 fn sum_block(
     row: &[u64],
-    load: bool,
+    column: usize,
     from: usize,
     to: usize,
     left: usize,
     sums: &[u64; 16],
     turn: &mut [u64; 512],
 ) -> u64
-    requires { ⌜ (to * 8 ≤ length (now row)) × (to ≤ 512) × Under ceiling (now sums) ⌝ }
-    requires { ⌜ Laid (now row) left from to ⌝ }
+    requires { ⌜ (to * 8 ≤ length (now row)) × (to ≤ 512) × Under ceiling (now sums) × IsCost column ⌝ }
+    requires { ⌜ Piece (now row) left from to ⌝ }
     ensures { λ r. ⌜ r ≤ ceiling ⌝ }
-    ensures { λ r. ⌜ ((p : Laid (now (row .entry)) left from to) → r ≡ cap (tally (price load) (now (sums .entry)) (p .part .lines))) ⌝ }
-    ensures { λ _. ⌜ ((p : Laid (now (row .entry)) left from to)
-        → now (turn .exit) ≡ sets (now (turn .entry)) from (turns (price load) (now (sums .entry)) (p .part .lines))) ⌝ }
+    ensures { λ r. ⌜ ((p : Piece (now (row .entry)) left from to) → r ≡ cap (tally (cost-in column) (now (sums .entry)) (p .part .lines))) ⌝ }
+    ensures { λ _. ⌜ ((p : Piece (now (row .entry)) left from to)
+        → now (turn .exit) ≡ sets (now (turn .entry)) from (turns (cost-in column) (now (sums .entry)) (p .part .lines))) ⌝ }
 {
     let mut acc: u64 = 0;
     let mut i = from;
     while i < to {
-        let x = sum_form(row, load, i, to, left, sums, turn);
+        let x = sum_form(row, column, i, to, left, sums, turn);
         acc = clip(acc + x);
         i = after(row, i);
     }
@@ -160,7 +134,7 @@ fn sum_block(
 // Lists the first leaf of each form from `from` up to `to`, in text order, from seq[from] on, and returns how many there are.
 fn list(row: &[u64], from: usize, to: usize, seq: &mut [usize; 512]) -> usize
     requires { ⌜ (to * 8 ≤ length (now row)) × (to ≤ 512) × (length (now seq) ≡ 512) ⌝ }
-    requires { ⌜ ((left : ℕ) × Laid (now row) left from to) ⌝ }
+    requires { ⌜ ((left : ℕ) × Piece (now row) left from to) ⌝ }
     ensures { λ r. ⌜ Listed (now (row .entry)) from to r (now (seq .exit)) ⌝ }
     ensures { λ _. ⌜ Kept from (now (seq .entry)) (now (seq .exit)) ⌝ }
 {
@@ -177,28 +151,28 @@ fn list(row: &[u64], from: usize, to: usize, seq: &mut [usize; 512]) -> usize
 // The total of the leaf, call or loop at i, the first of those from i up to `to`.
 fn weight(
     row: &[u64],
-    load: bool,
+    column: usize,
     i: usize,
     to: usize,
     left: usize,
     sums: &[u64; 16],
     turn: &[u64; 512],
 ) -> u64
-    requires { ⌜ (i < to) × (to * 8 ≤ length (now row)) × (to ≤ 512) × (field (now row) i 0 < 3) ⌝ }
-    requires { ⌜ Ready load (now row) (now sums) (now turn) left i to 0 ⌝ }
-    ensures { λ r. ⌜ ((p : Ready load (now (row .entry)) (now (sums .entry)) (now (turn .entry)) left i to 0)
-        → r ≡ lead (price load) (now (sums .entry)) (p .laid .part .lines)) ⌝ }
+    requires { ⌜ (i < to) × (to * 8 ≤ length (now row)) × (to ≤ 512) × (field (now row) i 0 < 3) × IsCost column ⌝ }
+    requires { ⌜ Ready (cost-in column) (now row) (now sums) (now turn) left i to 0 ⌝ }
+    ensures { λ r. ⌜ ((p : Ready (cost-in column) (now (row .entry)) (now (sums .entry)) (now (turn .entry)) left i to 0)
+        → r ≡ lead (cost-in column) (now (sums .entry)) (p .forms .part .lines)) ⌝ }
 {
     let kind = get(row, i, KIND);
-    let c = cost(row, i, load);
+    let c = cost(row, i, column);
     if kind == LEAF {
         return c;
     }
     if kind == CALL {
-        let f = index(row, i, NUMBER);
+        let f = index(row, i, DETAIL);
         return c + sums[f];
     }
-    c + get(row, i, NUMBER) * turn[i]
+    c + get(row, i, DETAIL) * turn[i]
 }
 
 // Writes the tail of each leaf of the form at i, the first of those from i up to `to`, where e follows the form; returns the tail of i.
@@ -215,26 +189,26 @@ fn tail_form(
 ) -> u64
     requires { ⌜ i < to ⌝ }
     requires { ⌜ (to * 8 ≤ length (now row)) × (to ≤ 512) × (length (now seq) ≡ 512) ⌝ }
-    requires { ⌜ Ready false (now row) (now sums) (now turn) left i to e ⌝ }
-    ensures { λ r. ⌜ ((p : Ready false (now (row .entry)) (now (sums .entry)) (now (turn .entry)) left i to e)
-        → r ≡ lead C (now (sums .entry)) (p .laid .part .lines) + e) ⌝ }
-    ensures { λ _. ⌜ ((p : Ready false (now (row .entry)) (now (sums .entry)) (now (turn .entry)) left i to e)
-        → now (out .exit) ≡ sets (now (out .entry)) i (front (tail-rule (now (sums .entry))) (p .laid .part .lines) e)) ⌝ }
+    requires { ⌜ Ready C (now row) (now sums) (now turn) left i to e ⌝ }
+    ensures { λ r. ⌜ ((p : Ready C (now (row .entry)) (now (sums .entry)) (now (turn .entry)) left i to e)
+        → r ≡ lead C (now (sums .entry)) (p .forms .part .lines) + e) ⌝ }
+    ensures { λ _. ⌜ ((p : Ready C (now (row .entry)) (now (sums .entry)) (now (turn .entry)) left i to e)
+        → now (out .exit) ≡ sets (now (out .entry)) i (front (tail-rule (now (sums .entry))) (p .forms .part .lines) e)) ⌝ }
     ensures { λ _. ⌜ Kept (i + 1) (now (seq .entry)) (now (seq .exit)) ⌝ }
 {
     let kind = get(row, i, KIND);
     if kind == IF {
-        let end = index(row, i, END);
-        let mid = index(row, i, ELSE);
+        let end = index(row, i, AFTER);
+        let mid = index(row, i, OTHER);
         let a = tail_block(row, i + 1, mid, left - 2, sums, turn, e, seq, out);
         let b = tail_block(row, mid, end, left - 2, sums, turn, e, seq, out);
-        let t = get(row, i, COST) + larger(a, b);
+        let t = get(row, i, ISOLATED) + larger(a, b);
         out[i] = t;
         return t;
     }
-    let t = weight(row, false, i, to, left, sums, turn) + e;
+    let t = weight(row, ISOLATED, i, to, left, sums, turn) + e;
     if kind == LOOP {
-        let end = index(row, i, END);
+        let end = index(row, i, AFTER);
         tail_block(row, i + 1, end, left - 1, sums, turn, t - turn[i], seq, out);
         out[i] = t;
         return t;
@@ -256,11 +230,11 @@ fn tail_block(
     out: &mut [u64; 512],
 ) -> u64
     requires { ⌜ (to * 8 ≤ length (now row)) × (to ≤ 512) × (length (now seq) ≡ 512) ⌝ }
-    requires { ⌜ Sized false (now row) (now sums) (now turn) left from to e ⌝ }
-    ensures { λ r. ⌜ ((p : Sized false (now (row .entry)) (now (sums .entry)) (now (turn .entry)) left from to e)
-        → r ≡ tally C (now (sums .entry)) (p .laid .part .lines) + e) ⌝ }
-    ensures { λ _. ⌜ ((p : Sized false (now (row .entry)) (now (sums .entry)) (now (turn .entry)) left from to e)
-        → now (out .exit) ≡ sets (now (out .entry)) from (column (tail-rule (now (sums .entry))) (p .laid .part .lines) e)) ⌝ }
+    requires { ⌜ Sized C (now row) (now sums) (now turn) left from to e ⌝ }
+    ensures { λ r. ⌜ ((p : Sized C (now (row .entry)) (now (sums .entry)) (now (turn .entry)) left from to e)
+        → r ≡ tally C (now (sums .entry)) (p .forms .part .lines) + e) ⌝ }
+    ensures { λ _. ⌜ ((p : Sized C (now (row .entry)) (now (sums .entry)) (now (turn .entry)) left from to e)
+        → now (out .exit) ≡ sets (now (out .entry)) from (column-of (tail-rule (now (sums .entry))) (p .forms .part .lines) e)) ⌝ }
     ensures { λ _. ⌜ Kept from (now (seq .entry)) (now (seq .exit)) ⌝ }
 {
     let mut n = list(row, from, to, seq);
@@ -274,16 +248,16 @@ fn tail_block(
 }
 
 // A silent stretch as a function of what follows: `hit` at a point inside; `pass` and what follows, if `free`.
-struct Quiet {
+struct SilentSum {
     hit: u64,
     pass: u64,
     free: bool,
 }
 
 // The stretch where s follows.
-fn apply(q: Quiet, s: u64) -> u64
-    requires { ⌜ Low q × (s ≤ limit) ⌝ }
-    ensures { λ r. ⌜ r ≡ heard q s ⌝ }
+fn apply(q: SilentSum, s: u64) -> u64
+    requires { ⌜ WithinLimit q × (s ≤ limit) ⌝ }
+    ensures { λ r. ⌜ r ≡ silence-of q s ⌝ }
 {
     if q.free {
         larger(q.hit, q.pass + s)
@@ -293,38 +267,38 @@ fn apply(q: Quiet, s: u64) -> u64
 }
 
 // The silence x, and then y.
-fn onto(x: Quiet, y: Quiet) -> Quiet
-    requires { ⌜ Low x × Low y ⌝ }
-    ensures { λ r. ⌜ ((f : ℕ → ℕ) (g : ℕ → ℕ) (a : ℕ) (b : ℕ) → Hush x f a → Hush y g b → Hush r (λ s. f (g s)) (a + b)) ⌝ }
+fn onto(x: SilentSum, y: SilentSum) -> SilentSum
+    requires { ⌜ WithinLimit x × WithinLimit y ⌝ }
+    ensures { λ r. ⌜ ((f : ℕ → ℕ) (g : ℕ → ℕ) (a : ℕ) (b : ℕ) → IsSilence x f a → IsSilence y g b → IsSilence r (λ s. f (g s)) (a + b)) ⌝ }
 {
     if x.free {
         let hit = larger(x.hit, x.pass + y.hit);
         let pass = x.pass + y.pass;
         let free = y.free;
-        Quiet { hit, pass, free }
+        SilentSum { hit, pass, free }
     } else {
         x
     }
 }
 
 // A visit of m, and then the longer of x and y.
-fn either(m: u64, x: Quiet, y: Quiet) -> Quiet
-    requires { ⌜ (m ≤ 1048576) × Low x × Low y ⌝ }
-    ensures { λ r. ⌜ ((f : ℕ → ℕ) (g : ℕ → ℕ) (a : ℕ) (b : ℕ) → Hush x f a → Hush y g b
-        → Hush r (λ s. m + Prim.Native.Nat.max (f s) (g s)) (m + Prim.Native.Nat.max a b)) ⌝ }
+fn either(m: u64, x: SilentSum, y: SilentSum) -> SilentSum
+    requires { ⌜ (m ≤ 1048576) × WithinLimit x × WithinLimit y ⌝ }
+    ensures { λ r. ⌜ ((f : ℕ → ℕ) (g : ℕ → ℕ) (a : ℕ) (b : ℕ) → IsSilence x f a → IsSilence y g b
+        → IsSilence r (λ s. m + Prim.Native.Nat.max (f s) (g s)) (m + Prim.Native.Nat.max a b)) ⌝ }
 {
     let hit = m + larger(x.hit, y.hit);
     if x.free {
         if y.free {
             let pass = m + larger(x.pass, y.pass);
-            return Quiet {
+            return SilentSum {
                 hit,
                 pass,
                 free: true,
             };
         }
         let pass = m + x.pass;
-        return Quiet {
+        return SilentSum {
             hit,
             pass,
             free: true,
@@ -332,26 +306,27 @@ fn either(m: u64, x: Quiet, y: Quiet) -> Quiet
     }
     let pass = m + y.pass;
     let free = y.free;
-    Quiet { hit, pass, free }
+    SilentSum { hit, pass, free }
 }
 
 // The silence of the form at i, the first of those from i up to `to`.
-fn hush_form(
+fn silence_form(
     row: &[u64],
+    column: usize,
     i: usize,
     to: usize,
     left: usize,
     sums: &[u64; 16],
     turn: &[u64; 512],
-) -> Quiet
+) -> SilentSum
     requires { ⌜ i < to ⌝ }
-    requires { ⌜ (to * 8 ≤ length (now row)) × (to ≤ 512) ⌝ }
-    requires { ⌜ Ready true (now row) (now sums) (now turn) left i to 0 ⌝ }
-    ensures { λ r. ⌜ ((p : Ready true (now (row .entry)) (now (sums .entry)) (now (turn .entry)) left i to 0)
-        → Hush r (λ s. hushed (now (sums .entry)) (p .laid .part .lines) s) (lead M (now (sums .entry)) (p .laid .part .lines))) ⌝ }
+    requires { ⌜ (to * 8 ≤ length (now row)) × (to ≤ 512) × IsCost column ⌝ }
+    requires { ⌜ Ready (cost-in column) (now row) (now sums) (now turn) left i to 0 ⌝ }
+    ensures { λ r. ⌜ ((p : Ready (cost-in column) (now (row .entry)) (now (sums .entry)) (now (turn .entry)) left i to 0)
+        → IsSilence r (λ s. first-silence (cost-in column) (now (sums .entry)) (p .forms .part .lines) s) (lead (cost-in column) (now (sums .entry)) (p .forms .part .lines))) ⌝ }
 {
     if get(row, i, POINT) == 1 {
-        return Quiet {
+        return SilentSum {
             hit: 0,
             pass: 0,
             free: false,
@@ -359,14 +334,14 @@ fn hush_form(
     }
     let kind = get(row, i, KIND);
     if kind == IF {
-        let end = index(row, i, END);
-        let mid = index(row, i, ELSE);
-        let x = hush_block(row, i + 1, mid, left - 2, sums, turn);
-        let y = hush_block(row, mid, end, left - 2, sums, turn);
-        return either(get(row, i, LOAD), x, y);
+        let end = index(row, i, AFTER);
+        let mid = index(row, i, OTHER);
+        let x = silence_block(row, column, i + 1, mid, left - 2, sums, turn);
+        let y = silence_block(row, column, mid, end, left - 2, sums, turn);
+        return either(cost(row, i, column), x, y);
     }
-    let pass = weight(row, true, i, to, left, sums, turn);
-    Quiet {
+    let pass = weight(row, column, i, to, left, sums, turn);
+    SilentSum {
         hit: 0,
         pass,
         free: true,
@@ -374,20 +349,21 @@ fn hush_form(
 }
 
 // The silence of the forms from `from` up to `to`.
-fn hush_block(
+fn silence_block(
     row: &[u64],
+    column: usize,
     from: usize,
     to: usize,
     left: usize,
     sums: &[u64; 16],
     turn: &[u64; 512],
-) -> Quiet
-    requires { ⌜ (to * 8 ≤ length (now row)) × (to ≤ 512) ⌝ }
-    requires { ⌜ Sized true (now row) (now sums) (now turn) left from to 0 ⌝ }
-    ensures { λ r. ⌜ ((p : Sized true (now (row .entry)) (now (sums .entry)) (now (turn .entry)) left from to 0)
-        → Hush r (λ s. line-silence (now (sums .entry)) (p .laid .part .lines) s) (tally M (now (sums .entry)) (p .laid .part .lines))) ⌝ }
+) -> SilentSum
+    requires { ⌜ (to * 8 ≤ length (now row)) × (to ≤ 512) × IsCost column ⌝ }
+    requires { ⌜ Sized (cost-in column) (now row) (now sums) (now turn) left from to 0 ⌝ }
+    ensures { λ r. ⌜ ((p : Sized (cost-in column) (now (row .entry)) (now (sums .entry)) (now (turn .entry)) left from to 0)
+        → IsSilence r (λ s. line-silence (cost-in column) (now (sums .entry)) (p .forms .part .lines) s) (tally (cost-in column) (now (sums .entry)) (p .forms .part .lines))) ⌝ }
 {
-    let mut acc = Quiet {
+    let mut acc = SilentSum {
         hit: 0,
         pass: 0,
         free: true,
@@ -398,60 +374,68 @@ fn hush_block(
         if !free {
             return acc;
         }
-        acc = onto(acc, hush_form(row, i, to, left, sums, turn));
-        i = index(row, i, END);
+        acc = onto(acc, silence_form(row, column, i, to, left, sums, turn));
+        i = index(row, i, AFTER);
     }
     acc
 }
 
 // The silence of the function f, in a row of three numbers for each.
-fn head(heads: &[u64; 48], f: usize) -> Quiet
+fn head(heads: &[u64; 48], f: usize) -> SilentSum
     requires { ⌜ f < 16 ⌝ }
     ensures { λ r. ⌜ r ≡ head-at (now (heads .entry)) f ⌝ }
 {
     let hit = heads[f * 3];
     let pass = heads[f * 3 + 1];
     let free = heads[f * 3 + 2] == 1;
-    Quiet { hit, pass, free }
+    SilentSum { hit, pass, free }
 }
 
 // The stretch of the record i, if it is a point, where s follows its visit.
-fn mark(row: &[u64], i: usize, s: u64) -> u64
-    requires { ⌜ (i * 8 + 8 ≤ length (now row)) × (field (now row) i 3 ≤ 1048576) × (s ≤ ceiling) ⌝ }
-    ensures { λ r. ⌜ r ≡ marked (block-at (now (row .entry)) i) s ⌝ }
+fn point_stretch(row: &[u64], column: usize, i: usize, s: u64) -> u64
+    requires { ⌜ (i * 8 + 8 ≤ length (now row)) × (cost-in column (block-at (now row) i) ≤ 1048576) × (s ≤ ceiling) × IsCost column ⌝ }
+    ensures { λ r. ⌜ r ≡ leaf-stretch (cost-in column) (block-at (now (row .entry)) i) s ⌝ }
 {
     if get(row, i, POINT) == 1 {
-        get(row, i, LOAD) + s
+        cost(row, i, column) + s
     } else {
         0
     }
 }
 
 // What is silent before the record i, where t would be, were it no point.
-fn hide(row: &[u64], i: usize, t: u64) -> u64
+fn silent_before(row: &[u64], i: usize, t: u64) -> u64
     requires { ⌜ i * 8 + 8 ≤ length (now row) ⌝ }
     ensures { λ r. ⌜ r ≡ pick (block-at (now (row .entry)) i .point) 0 t ⌝ }
 {
     if get(row, i, POINT) == 1 { 0 } else { t }
 }
 
-// The stretch of the call at i, where s follows it. Raises what follows the function that it calls.
-fn stretch_call(row: &[u64], i: usize, heads: &[u64; 48], s: u64, after: &mut [u64; 16]) -> u64
-    requires { ⌜ (i * 8 + 8 ≤ length (now row)) × (field (now row) i 3 ≤ 1048576) × (field (now row) i 4 < 16) ⌝ }
+// The stretch of the call at i, where s follows it. Notes what follows the function that it calls.
+fn stretch_call(
+    row: &[u64],
+    column: usize,
+    i: usize,
+    heads: &[u64; 48],
+    s: u64,
+    after: &mut [u64; 16],
+) -> u64
+    requires { ⌜ (i * 8 + 8 ≤ length (now row)) × (cost-in column (block-at (now row) i) ≤ 1048576) × (field (now row) i 4 < 16) × IsCost column ⌝ }
     requires { ⌜ Under limit (now heads) × (s ≤ limit) ⌝ }
-    ensures { λ r. ⌜ r ≡ marked (block-at (now (row .entry)) i) (heard (head-at (now (heads .entry)) (field (now (row .entry)) i 4)) s) ⌝ }
-    ensures { λ _. ⌜ now (after .exit) ≡ raise (now (after .entry)) (field (now (row .entry)) i 4) s ⌝ }
+    ensures { λ r. ⌜ r ≡ leaf-stretch (cost-in column) (block-at (now (row .entry)) i) (silence-of (head-at (now (heads .entry)) (field (now (row .entry)) i 4)) s) ⌝ }
+    ensures { λ _. ⌜ now (after .exit) ≡ follow (now (after .entry)) (field (now (row .entry)) i 4) s ⌝ }
 {
-    let f = index(row, i, NUMBER);
+    let f = index(row, i, DETAIL);
     let q = head(heads, f);
     after[f] = larger(after[f], s);
-    mark(row, i, apply(q, s))
+    point_stretch(row, column, i, apply(q, s))
 }
 
-// Writes the stretch of each leaf of the form at i, the first of those from i up to `to`, which s follows, and raises what follows the functions
+// Writes the stretch of each leaf of the form at i, the first of those from i up to `to`, which s follows, and notes what follows the functions
 // that it calls; returns the silence from i on.
 fn stretch_form(
     row: &[u64],
+    column: usize,
     i: usize,
     to: usize,
     left: usize,
@@ -464,48 +448,88 @@ fn stretch_form(
     after: &mut [u64; 16],
 ) -> u64
     requires { ⌜ i < to ⌝ }
-    requires { ⌜ (to * 8 ≤ length (now row)) × (to ≤ 512) × (length (now seq) ≡ 512) × Under limit (now heads) ⌝ }
-    requires { ⌜ Ready true (now row) (now sums) (now turn) left i to s ⌝ }
-    ensures { λ r. ⌜ ((p : Ready true (now (row .entry)) (now (sums .entry)) (now (turn .entry)) left i to s)
-        → r ≡ hushed (now (sums .entry)) (p .laid .part .lines) s) ⌝ }
-    ensures { λ _. ⌜ ((p : Ready true (now (row .entry)) (now (sums .entry)) (now (turn .entry)) left i to s)
+    requires { ⌜ (to * 8 ≤ length (now row)) × (to ≤ 512) × (length (now seq) ≡ 512) × Under limit (now heads) × IsCost column ⌝ }
+    requires { ⌜ Ready (cost-in column) (now row) (now sums) (now turn) left i to s ⌝ }
+    ensures { λ r. ⌜ ((p : Ready (cost-in column) (now (row .entry)) (now (sums .entry)) (now (turn .entry)) left i to s)
+        → r ≡ first-silence (cost-in column) (now (sums .entry)) (p .forms .part .lines) s) ⌝ }
+    ensures { λ _. ⌜ ((p : Ready (cost-in column) (now (row .entry)) (now (sums .entry)) (now (turn .entry)) left i to s)
         → now (out .exit) ≡ sets (now (out .entry)) i
-        (front (stretch-rule (now (sums .entry)) (λ f x. heard (head-at (now (heads .entry)) f) x)) (p .laid .part .lines) s)) ⌝ }
-    ensures { λ _. ⌜ ((p : Ready true (now (row .entry)) (now (sums .entry)) (now (turn .entry)) left i to s)
-        → now (after .exit) ≡ lifted (now (sums .entry)) (p .laid .part .lines) s (now (after .entry))) ⌝ }
+        (front (stretch-rule (cost-in column) (now (sums .entry)) (λ f x. silence-of (head-at (now (heads .entry)) f) x)) (p .forms .part .lines) s)) ⌝ }
+    ensures { λ _. ⌜ ((p : Ready (cost-in column) (now (row .entry)) (now (sums .entry)) (now (turn .entry)) left i to s)
+        → now (after .exit) ≡ follow-first (cost-in column) (now (sums .entry)) (p .forms .part .lines) s (now (after .entry))) ⌝ }
     ensures { λ _. ⌜ Kept (i + 1) (now (seq .entry)) (now (seq .exit)) ⌝ }
 {
     let kind = get(row, i, KIND);
     if kind == IF {
-        let end = index(row, i, END);
-        let mid = index(row, i, ELSE);
+        let end = index(row, i, AFTER);
+        let mid = index(row, i, OTHER);
         let rest = left - 2;
-        let a = stretch_block(row, i + 1, mid, rest, sums, turn, heads, s, seq, out, after);
-        let b = stretch_block(row, mid, end, rest, sums, turn, heads, s, seq, out, after);
+        let a = stretch_block(
+            row,
+            column,
+            i + 1,
+            mid,
+            rest,
+            sums,
+            turn,
+            heads,
+            s,
+            seq,
+            out,
+            after,
+        );
+        let b = stretch_block(
+            row,
+            column,
+            mid,
+            end,
+            rest,
+            sums,
+            turn,
+            heads,
+            s,
+            seq,
+            out,
+            after,
+        );
         let x = larger(a, b);
-        out[i] = mark(row, i, x);
-        return hide(row, i, get(row, i, LOAD) + x);
+        out[i] = point_stretch(row, column, i, x);
+        return silent_before(row, i, cost(row, i, column) + x);
     }
-    let t = hide(row, i, weight(row, true, i, to, left, sums, turn) + s);
+    let t = silent_before(row, i, weight(row, column, i, to, left, sums, turn) + s);
     if kind == LOOP {
-        let end = index(row, i, END);
+        let end = index(row, i, AFTER);
         let rest = left - 1;
-        let b = stretch_block(row, i + 1, end, rest, sums, turn, heads, 0, seq, out, after);
-        out[i] = mark(row, i, larger(s, b));
+        let b = stretch_block(
+            row,
+            column,
+            i + 1,
+            end,
+            rest,
+            sums,
+            turn,
+            heads,
+            0,
+            seq,
+            out,
+            after,
+        );
+        out[i] = point_stretch(row, column, i, larger(s, b));
         return t;
     }
     if kind == CALL {
-        out[i] = stretch_call(row, i, heads, s, after);
+        out[i] = stretch_call(row, column, i, heads, s, after);
         return t;
     }
-    out[i] = mark(row, i, s);
+    out[i] = point_stretch(row, column, i, s);
     t
 }
 
-// Writes the stretch of each leaf from `from` up to `to`, which s follows, and raises what follows the functions that they call; returns the
+// Writes the stretch of each leaf from `from` up to `to`, which s follows, and notes what follows the functions that they call; returns the
 // silence from `from` on.
 fn stretch_block(
     row: &[u64],
+    column: usize,
     from: usize,
     to: usize,
     left: usize,
@@ -517,15 +541,15 @@ fn stretch_block(
     out: &mut [u64; 512],
     after: &mut [u64; 16],
 ) -> u64
-    requires { ⌜ (to * 8 ≤ length (now row)) × (to ≤ 512) × (length (now seq) ≡ 512) × Under limit (now heads) ⌝ }
-    requires { ⌜ Sized true (now row) (now sums) (now turn) left from to s ⌝ }
-    ensures { λ r. ⌜ ((p : Sized true (now (row .entry)) (now (sums .entry)) (now (turn .entry)) left from to s)
-        → r ≡ line-silence (now (sums .entry)) (p .laid .part .lines) s) ⌝ }
-    ensures { λ _. ⌜ ((p : Sized true (now (row .entry)) (now (sums .entry)) (now (turn .entry)) left from to s)
+    requires { ⌜ (to * 8 ≤ length (now row)) × (to ≤ 512) × (length (now seq) ≡ 512) × Under limit (now heads) × IsCost column ⌝ }
+    requires { ⌜ Sized (cost-in column) (now row) (now sums) (now turn) left from to s ⌝ }
+    ensures { λ r. ⌜ ((p : Sized (cost-in column) (now (row .entry)) (now (sums .entry)) (now (turn .entry)) left from to s)
+        → r ≡ line-silence (cost-in column) (now (sums .entry)) (p .forms .part .lines) s) ⌝ }
+    ensures { λ _. ⌜ ((p : Sized (cost-in column) (now (row .entry)) (now (sums .entry)) (now (turn .entry)) left from to s)
         → now (out .exit) ≡ sets (now (out .entry)) from
-        (column (stretch-rule (now (sums .entry)) (λ f x. heard (head-at (now (heads .entry)) f) x)) (p .laid .part .lines) s)) ⌝ }
-    ensures { λ _. ⌜ ((p : Sized true (now (row .entry)) (now (sums .entry)) (now (turn .entry)) left from to s)
-        → now (after .exit) ≡ raised (now (sums .entry)) (p .laid .part .lines) s (now (after .entry))) ⌝ }
+        (column-of (stretch-rule (cost-in column) (now (sums .entry)) (λ f x. silence-of (head-at (now (heads .entry)) f) x)) (p .forms .part .lines) s)) ⌝ }
+    ensures { λ _. ⌜ ((p : Sized (cost-in column) (now (row .entry)) (now (sums .entry)) (now (turn .entry)) left from to s)
+        → now (after .exit) ≡ follow-calls (cost-in column) (now (sums .entry)) (p .forms .part .lines) s (now (after .entry))) ⌝ }
     ensures { λ _. ⌜ Kept from (now (seq .entry)) (now (seq .exit)) ⌝ }
 {
     let mut n = list(row, from, to, seq);
@@ -533,7 +557,20 @@ fn stretch_block(
     while 0 < n {
         n -= 1;
         let i = seq[from + n];
-        t = stretch_form(row, i, to, left, sums, turn, heads, t, seq, out, after);
+        t = stretch_form(
+            row,
+            column,
+            i,
+            to,
+            left,
+            sums,
+            turn,
+            heads,
+            t,
+            seq,
+            out,
+            after,
+        );
     }
     t
 }
@@ -543,18 +580,26 @@ pub fn measure(
     row: &[u64],
     starts: &[usize],
     n: usize,
-    load: bool,
+    column: usize,
     turn: &mut [u64; 512],
 ) -> [u64; 16]
-    requires { ⌜ (n < length (now starts)) × (n ≤ 16) × (length (now turn) ≡ 512) ⌝ }
-    requires { ⌜ Funs (now row) (now starts) n ⌝ }
-    ensures { λ r. ⌜ ((v : Funs (now (row .entry)) (now (starts .entry)) n) → Measured load (v .lines) (now (starts .entry)) n r (now (turn .exit))) ⌝ }
+    requires { ⌜ (n < length (now starts)) × (n ≤ 16) × (length (now turn) ≡ 512) × IsCost column ⌝ }
+    requires { ⌜ Plan-of (now row) (now starts) n ⌝ }
+    ensures { λ r. ⌜ ((v : Plan-of (now (row .entry)) (now (starts .entry)) n) → Measured (cost-in column) (lines-of v) (now (starts .entry)) n r (now (turn .exit))) ⌝ }
     ensures { λ r. ⌜ ((f : ℕ) → n ≤ f → getD r f 0 ≡ 0) × (length (now (turn .exit)) ≡ 512) ⌝ }
 {
     let mut totals: [u64; 16] = [0; 16];
     let mut f = 0;
     while f < n {
-        let t = sum_block(row, load, starts[f], starts[f + 1], BRACKETS, &totals, turn);
+        let t = sum_block(
+            row,
+            column,
+            starts[f],
+            starts[f + 1],
+            INNER_BRACKETS,
+            &totals,
+            turn,
+        );
         totals[f] = t;
         f += 1;
     }
@@ -571,9 +616,9 @@ fn tail_all(
     out: &mut [u64; 512],
 )
     requires { ⌜ (n < length (now starts)) × (n ≤ 16) ⌝ }
-    requires { ⌜ Costed false (now row) (now starts) n (now sums) (now turn) ⌝ }
-    ensures { λ _. ⌜ ((v : Costed false (now (row .entry)) (now (starts .entry)) n (now (sums .entry)) (now (turn .entry)))
-        → now (out .exit) ≡ tailed (now (sums .entry)) (v .funs .lines) (now (starts .entry)) n (now (out .entry))) ⌝ }
+    requires { ⌜ Summed C (now row) (now starts) n (now sums) (now turn) ⌝ }
+    ensures { λ _. ⌜ ((v : Summed C (now (row .entry)) (now (starts .entry)) n (now (sums .entry)) (now (turn .entry)))
+        → now (out .exit) ≡ tails-written (now (sums .entry)) (lines-of (v .plan)) (now (starts .entry)) n (now (out .entry))) ⌝ }
 {
     let mut seq: [usize; 512] = [0; 512];
     let mut f = 0;
@@ -582,7 +627,7 @@ fn tail_all(
             row,
             starts[f],
             starts[f + 1],
-            BRACKETS,
+            INNER_BRACKETS,
             sums,
             turn,
             0,
@@ -594,7 +639,7 @@ fn tail_all(
 }
 
 // Keeps the silence of the function f.
-fn keep(heads: &mut [u64; 48], f: usize, q: Quiet)
+fn keep(heads: &mut [u64; 48], f: usize, q: SilentSum)
     requires { ⌜ f < 16 ⌝ }
     ensures { λ _. ⌜ now (heads .exit) ≡ sets (now (heads .entry)) (f * 3) (q .hit ∷ q .pass ∷ bit (q .free) ∷ []) ⌝ }
 {
@@ -608,23 +653,32 @@ fn keep(heads: &mut [u64; 48], f: usize, q: Quiet)
 }
 
 // The silence of each of the n functions.
-fn hush_all(
+fn silence_all(
     row: &[u64],
     starts: &[usize],
     n: usize,
+    column: usize,
     sums: &[u64; 16],
     turn: &[u64; 512],
 ) -> [u64; 48]
-    requires { ⌜ (n < length (now starts)) × (n ≤ 16) ⌝ }
-    requires { ⌜ Costed true (now row) (now starts) n (now sums) (now turn) ⌝ }
+    requires { ⌜ (n < length (now starts)) × (n ≤ 16) × IsCost column ⌝ }
+    requires { ⌜ Summed (cost-in column) (now row) (now starts) n (now sums) (now turn) ⌝ }
     ensures { λ r. ⌜ Under limit r ⌝ }
-    ensures { λ r. ⌜ ((v : Costed true (now (row .entry)) (now (starts .entry)) n (now (sums .entry)) (now (turn .entry))) (f : ℕ) (s : ℕ) → f < n
-        → heard (head-at r f) s ≡ line-silence (now (sums .entry)) (v .funs .lines f) s) ⌝ }
+    ensures { λ r. ⌜ ((v : Summed (cost-in column) (now (row .entry)) (now (starts .entry)) n (now (sums .entry)) (now (turn .entry))) (f : ℕ) (s : ℕ) → f < n
+        → silence-of (head-at r f) s ≡ line-silence (cost-in column) (now (sums .entry)) (lines-of (v .plan) f) s) ⌝ }
 {
     let mut heads: [u64; 48] = [0; 48];
     let mut f = 0;
     while f < n {
-        let q = hush_block(row, starts[f], starts[f + 1], BRACKETS, sums, turn);
+        let q = silence_block(
+            row,
+            column,
+            starts[f],
+            starts[f + 1],
+            INNER_BRACKETS,
+            sums,
+            turn,
+        );
         keep(&mut heads, f, q);
         f += 1;
     }
@@ -636,15 +690,16 @@ fn stretch_all(
     row: &[u64],
     starts: &[usize],
     n: usize,
+    column: usize,
     sums: &[u64; 16],
     turn: &[u64; 512],
     heads: &[u64; 48],
     out: &mut [u64; 512],
 )
-    requires { ⌜ (n < length (now starts)) × (n ≤ 16) × Under limit (now heads) ⌝ }
-    requires { ⌜ Costed true (now row) (now starts) n (now sums) (now turn) ⌝ }
-    ensures { λ _. ⌜ ((v : Costed true (now (row .entry)) (now (starts .entry)) n (now (sums .entry)) (now (turn .entry)))
-        → now (out .exit) ≡ painted (now (sums .entry)) (λ f x. heard (head-at (now (heads .entry)) f) x) (v .funs .lines) (now (starts .entry)) n n (now (out .entry))) ⌝ }
+    requires { ⌜ (n < length (now starts)) × (n ≤ 16) × Under limit (now heads) × IsCost column ⌝ }
+    requires { ⌜ Summed (cost-in column) (now row) (now starts) n (now sums) (now turn) ⌝ }
+    ensures { λ _. ⌜ ((v : Summed (cost-in column) (now (row .entry)) (now (starts .entry)) n (now (sums .entry)) (now (turn .entry)))
+        → now (out .exit) ≡ stretches-written (cost-in column) (now (sums .entry)) (λ f x. silence-of (head-at (now (heads .entry)) f) x) (lines-of (v .plan)) (now (starts .entry)) n n (now (out .entry))) ⌝ }
 {
     let mut seq: [usize; 512] = [0; 512];
     let mut after: [u64; 16] = [0; 16];
@@ -654,9 +709,10 @@ fn stretch_all(
         let s = after[f];
         stretch_block(
             row,
+            column,
             starts[f],
             starts[f + 1],
-            BRACKETS,
+            INNER_BRACKETS,
             sums,
             turn,
             heads,
@@ -668,55 +724,56 @@ fn stretch_all(
     }
 }
 
-// Writes the stretch of every leaf of the n functions, and returns the stretch of the release. Given are the functions' max-load totals and the sums
-// of their loops' rounds at M.
+// Writes the stretch of every leaf of the n functions, and returns the stretch of the release. Given are the functions' totals and the sums of
+// their loops' rounds at the cost of this column.
 pub fn stretches(
     row: &[u64],
     starts: &[usize],
     n: usize,
-    loaded: &[u64; 16],
-    burden: &[u64; 512],
+    column: usize,
+    sums: &[u64; 16],
+    turn: &[u64; 512],
     stretch: &mut [u64; 512],
 ) -> u64
-    requires { ⌜ (1 ≤ n) × (n < length (now starts)) × (n ≤ 16) ⌝ }
-    requires { ⌜ Costed true (now row) (now starts) n (now loaded) (now burden) ⌝ }
-    ensures { λ r. ⌜ ((v : Costed true (now (row .entry)) (now (starts .entry)) n (now (loaded .entry)) (now (burden .entry)))
-        → r ≡ line-silence (now (loaded .entry)) (v .funs .lines (n - 1)) 0) ⌝ }
-    ensures { λ _. ⌜ ((v : Costed true (now (row .entry)) (now (starts .entry)) n (now (loaded .entry)) (now (burden .entry)))
-        → now (stretch .exit) ≡ painted (now (loaded .entry)) (λ f s. line-silence (now (loaded .entry)) (v .funs .lines f) s) (v .funs .lines) (now (starts .entry)) n n
+    requires { ⌜ (1 ≤ n) × (n < length (now starts)) × (n ≤ 16) × IsCost column ⌝ }
+    requires { ⌜ Summed (cost-in column) (now row) (now starts) n (now sums) (now turn) ⌝ }
+    ensures { λ r. ⌜ ((v : Summed (cost-in column) (now (row .entry)) (now (starts .entry)) n (now (sums .entry)) (now (turn .entry)))
+        → r ≡ line-silence (cost-in column) (now (sums .entry)) (lines-of (v .plan) (n - 1)) 0) ⌝ }
+    ensures { λ _. ⌜ ((v : Summed (cost-in column) (now (row .entry)) (now (starts .entry)) n (now (sums .entry)) (now (turn .entry)))
+        → now (stretch .exit) ≡ stretches-written (cost-in column) (now (sums .entry)) (λ f s. line-silence (cost-in column) (now (sums .entry)) (lines-of (v .plan) f) s) (lines-of (v .plan)) (now (starts .entry)) n n
         (now (stretch .entry))) ⌝ }
 {
-    let heads = hush_all(row, starts, n, loaded, burden);
-    stretch_all(row, starts, n, loaded, burden, &heads, stretch);
+    let heads = silence_all(row, starts, n, column, sums, turn);
+    stretch_all(row, starts, n, column, sums, turn, &heads, stretch);
     let q = head(&heads, n - 1);
     apply(q, 0)
 }
 
 // Writes the tail and the stretch of every leaf of the n functions, and returns the stretch of the release. Given are the functions' totals at
-// both costs, and the sums of their loops' rounds: `turn` at C, `burden` at M.
+// both costs, and the sums of their loops' rounds: `turn` at C, `max_load_turn` at M.
 pub fn derive(
     row: &[u64],
     starts: &[usize],
     n: usize,
     isolated: &[u64; 16],
     turn: &[u64; 512],
-    loaded: &[u64; 16],
-    burden: &[u64; 512],
+    max_load: &[u64; 16],
+    max_load_turn: &[u64; 512],
     tail: &mut [u64; 512],
     stretch: &mut [u64; 512],
 ) -> u64
     requires { ⌜ (1 ≤ n) × (n < length (now starts)) × (n ≤ 16) ⌝ }
-    requires { ⌜ Summed (now row) (now starts) n (now isolated) (now turn) (now loaded) (now burden) ⌝ }
-    ensures { λ r. ⌜ ((v : Summed (now (row .entry)) (now (starts .entry)) n (now (isolated .entry)) (now (turn .entry)) (now (loaded .entry)) (now (burden .entry)))
-        → r ≡ line-silence (now (loaded .entry)) (v .funs .lines (n - 1)) 0) ⌝ }
-    ensures { λ _. ⌜ ((v : Summed (now (row .entry)) (now (starts .entry)) n (now (isolated .entry)) (now (turn .entry)) (now (loaded .entry)) (now (burden .entry)))
-        → now (tail .exit) ≡ tailed (now (isolated .entry)) (v .funs .lines) (now (starts .entry)) n (now (tail .entry))) ⌝ }
-    ensures { λ _. ⌜ ((v : Summed (now (row .entry)) (now (starts .entry)) n (now (isolated .entry)) (now (turn .entry)) (now (loaded .entry)) (now (burden .entry)))
-        → now (stretch .exit) ≡ painted (now (loaded .entry)) (λ f s. line-silence (now (loaded .entry)) (v .funs .lines f) s) (v .funs .lines) (now (starts .entry)) n n
+    requires { ⌜ SummedBoth (now row) (now starts) n (now isolated) (now turn) (now «max_load») (now «max_load_turn») ⌝ }
+    ensures { λ r. ⌜ ((v : SummedBoth (now (row .entry)) (now (starts .entry)) n (now (isolated .entry)) (now (turn .entry)) (now («max_load» .entry)) (now («max_load_turn» .entry)))
+        → r ≡ line-silence M (now («max_load» .entry)) (lines-of (v .plan) (n - 1)) 0) ⌝ }
+    ensures { λ _. ⌜ ((v : SummedBoth (now (row .entry)) (now (starts .entry)) n (now (isolated .entry)) (now (turn .entry)) (now («max_load» .entry)) (now («max_load_turn» .entry)))
+        → now (tail .exit) ≡ tails-written (now (isolated .entry)) (lines-of (v .plan)) (now (starts .entry)) n (now (tail .entry))) ⌝ }
+    ensures { λ _. ⌜ ((v : SummedBoth (now (row .entry)) (now (starts .entry)) n (now (isolated .entry)) (now (turn .entry)) (now («max_load» .entry)) (now («max_load_turn» .entry)))
+        → now (stretch .exit) ≡ stretches-written M (now («max_load» .entry)) (λ f s. line-silence M (now («max_load» .entry)) (lines-of (v .plan) f) s) (lines-of (v .plan)) (now (starts .entry)) n n
         (now (stretch .entry))) ⌝ }
 {
     tail_all(row, starts, n, isolated, turn, tail);
-    stretches(row, starts, n, loaded, burden, stretch)
+    stretches(row, starts, n, MAX_LOAD, max_load, max_load_turn, stretch)
 }
 
 // Whether two numbers are the same.
@@ -753,14 +810,14 @@ fn start(tail: &[u64], from: usize, to: usize, e: u64) -> u64
 // Whether d is the total of the leaf or call at i, the first of the forms from i up to `to`.
 fn flat_fits(row: &[u64], i: usize, to: usize, left: usize, sums: &[u64; 16], d: u64) -> bool
     requires { ⌜ (i < to) × (to * 8 ≤ length (now row)) × (field (now row) i 0 < 2) ⌝ }
-    requires { ⌜ Laid (now row) left i to ⌝ }
-    ensures { λ r. ⌜ ((p : Laid (now (row .entry)) left i to) → Says r (d ≡ lead C (now (sums .entry)) (p .part .lines))) ⌝ }
+    requires { ⌜ Piece (now row) left i to ⌝ }
+    ensures { λ r. ⌜ ((p : Piece (now (row .entry)) left i to) → Says r (d ≡ lead C (now (sums .entry)) (p .part .lines))) ⌝ }
 {
-    let c = get(row, i, COST);
+    let c = get(row, i, ISOLATED);
     if get(row, i, KIND) == LEAF {
         return equal(d, c);
     }
-    let f = index(row, i, NUMBER);
+    let f = index(row, i, DETAIL);
     let y = sums[f];
     if d < y {
         return false;
@@ -776,7 +833,7 @@ fn rounds_fit(row: &[u64], i: usize, d: u64, u: u64, t: u64) -> bool
     if t < u {
         return false;
     }
-    if d != get(row, i, COST) + get(row, i, NUMBER) * u {
+    if d != get(row, i, ISOLATED) + get(row, i, DETAIL) * u {
         return false;
     }
     true
@@ -794,9 +851,9 @@ fn form_fits(
     x: u64,
 ) -> bool
     requires { ⌜ (i < to) × (to * 8 ≤ length (now row)) × (to ≤ length (now turn)) × (to ≤ length (now tail)) ⌝ }
-    requires { ⌜ Laid (now row) left i to ⌝ }
-    ensures { λ r. ⌜ ((p : Laid (now (row .entry)) left i to)
-        → Says r (Fits-first (now (sums .entry)) (now (turn .entry)) (now (tail .entry)) (p .part .lines) i x)) ⌝ }
+    requires { ⌜ Piece (now row) left i to ⌝ }
+    ensures { λ r. ⌜ ((p : Piece (now (row .entry)) left i to)
+        → Says r (AsDerived-first (now (sums .entry)) (now (turn .entry)) (now (tail .entry)) (p .part .lines) i x)) ⌝ }
 {
     let t = tail[i];
     let u = turn[i];
@@ -804,8 +861,8 @@ fn form_fits(
         return false;
     }
     let kind = get(row, i, KIND);
-    let c = get(row, i, COST);
-    let end = index(row, i, END);
+    let c = get(row, i, ISOLATED);
+    let end = index(row, i, AFTER);
     if kind == LOOP {
         if !rounds_fit(row, i, t - x, u, t) {
             return false;
@@ -819,7 +876,7 @@ fn form_fits(
         return false;
     }
     if kind == IF {
-        let mid = index(row, i, ELSE);
+        let mid = index(row, i, OTHER);
         if !block_fits(row, i + 1, mid, left - 2, sums, turn, tail, x) {
             return false;
         }
@@ -846,9 +903,9 @@ fn block_fits(
     e: u64,
 ) -> bool
     requires { ⌜ (to * 8 ≤ length (now row)) × (to ≤ length (now turn)) × (to ≤ length (now tail)) × (e ≤ limit) ⌝ }
-    requires { ⌜ Laid (now row) left from to ⌝ }
-    ensures { λ r. ⌜ ((p : Laid (now (row .entry)) left from to)
-        → Says r (Fits (now (sums .entry)) (now (turn .entry)) (now (tail .entry)) (p .part .lines) from e)) ⌝ }
+    requires { ⌜ Piece (now row) left from to ⌝ }
+    ensures { λ r. ⌜ ((p : Piece (now (row .entry)) left from to)
+        → Says r (AsDerived (now (sums .entry)) (now (turn .entry)) (now (tail .entry)) (p .part .lines) from e)) ⌝ }
 {
     let mut i = from;
     while i < to {
@@ -868,7 +925,7 @@ fn settled(sums: &[u64; 16], n: usize) -> bool
     ensures { λ r. ⌜ Says r ((f : ℕ) → n ≤ f → f < 16 → getD (now (sums .entry)) f 0 ≡ 0) ⌝ }
 {
     let mut f = n;
-    while f < FUNCTIONS {
+    while f < MAX_FUNCTIONS {
         if sums[f] != 0 {
             return false;
         }
@@ -888,9 +945,9 @@ pub fn tails_agree(
     tail: &[u64],
 ) -> bool
     requires { ⌜ (n < length (now starts)) × (n ≤ 16) ⌝ }
-    requires { ⌜ Funs (now row) (now starts) n ⌝ }
-    ensures { λ r. ⌜ ((v : Funs (now (row .entry)) (now (starts .entry)) n)
-        → Says r (Lent (v .lines) (now (starts .entry)) n (now (sums .entry)) (now (turn .entry)) (now (tail .entry)))) ⌝ }
+    requires { ⌜ Plan-of (now row) (now starts) n ⌝ }
+    ensures { λ r. ⌜ ((v : Plan-of (now (row .entry)) (now (starts .entry)) n)
+        → Says r (AllDerived (lines-of v) (now (starts .entry)) n (now (sums .entry)) (now (turn .entry)) (now (tail .entry)))) ⌝ }
 {
     if turn.len() < starts[n] {
         return false;
@@ -905,7 +962,7 @@ pub fn tails_agree(
     while f < n {
         let from = starts[f];
         let to = starts[f + 1];
-        if !block_fits(row, from, to, BRACKETS, sums, turn, tail, 0) {
+        if !block_fits(row, from, to, INNER_BRACKETS, sums, turn, tail, 0) {
             return false;
         }
         if sums[f] != start(tail, from, to, 0) {

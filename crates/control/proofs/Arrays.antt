@@ -1,11 +1,10 @@
 -- Arrays of 33 numbers with one number set and 0 above it, and the frames that they hold.
 use mathlib.Core.List.{List, [], _∷_, _++_}
-use mathlib.Core.Path.{_≡_, refl, ap, sym, _∙_, subst}
-use Prim.Native.Nat.{ℕ, zero, suc, _+_, _-_, _≤_, _<_, min}
+use mathlib.Core.Path.{_≡_, refl, ap, sym, _∙_}
+use Prim.Native.Nat.{ℕ, zero, suc, _+_, _-_, _≤_, _<_}
 use native.Mathlib.Omega.{arith}
 use native.Mathlib.Decide.{decLt}
-use lib.ListN.{length, getD, take, drop, replicate, length-append, length-take, length-replicate}
-use Rattle.model.specs.Levels.{Frame}
+use lib.ListN.{length, getD, take, replicate, length-append, length-take, length-replicate}
 use lib.Seq.{ext-getD}
 use Rattle.place.specs.Stack.{Put, frames}
 use Rattle.control.specs.State.{put}

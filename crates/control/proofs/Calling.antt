@@ -6,11 +6,14 @@ use mathlib.Core.Path.{_≡_, refl, ap, sym, _∙_}
 use Prim.Native.Nat.{ℕ, _*_, _≤_}
 use native.Mathlib.Omega.{arith}
 use lib.ListN.{length, take}
+use Rattle.model.specs.Calls.{refuse}
 use Rattle.model.specs.Plan.{Plan}
 use Rattle.model.specs.Acceptance.{sizes}
 use Rattle.model.specs.Stack.{Levels}
-use Rattle.model.specs.Calls.{Call}
-use Rattle.reader.proofs.Records.{records-all-length}
+use Rattle.model.specs.declared.Call.{Call}
+use Rattle.model.specs.declared.Call.the-variants.{Release, Report, End}
+use Rattle.model.specs.Controller.{idle, respond}
+use Rattle.rows.proofs.Records.{records-all-length}
 use Rattle.table.specs.declared.Head.{Head}
 use Rattle.table.specs.Table.{Table, table-at, plan-of, found, good}
 use Rattle.table.proofs.Plans.{plan-of-exactly}
@@ -18,9 +21,8 @@ use Rattle.table.proofs.Written.{turns-size, tails-size, stretches-size}
 use Rattle.control.specs.declared.State.{State}
 use Rattle.control.specs.declared.Step.{Step}
 use Rattle.control.specs.State.{standing}
-use Rattle.control.specs.Calls.{refuse, running-call, idle-call, at-levels, by-phase, on-plan, call-on}
-use Rattle.control.specs.Answers.{reply-of}
-use Rattle.control.specs.Lent.{WholeTable, GoodState}
+use Rattle.control.specs.Calls.{running-at, found-at, read-state, reply, on-state, on-plan, call-on, as-step}
+use Rattle.control.specs.Private.{WholeTable, GoodState}
 
 -- A state that does not stand anywhere stands at no levels.
 not-standing : (p : Plan) (s : State) → (GoodState p s → ⊥) → standing p s ≡ none
@@ -29,6 +31,19 @@ not-standing p s h = by (standing p s) refl
     by : (o : Option Levels) → standing p s ≡ o → o ≡ none
     by none e = refl
     by (some ls) e = absurd (h (ls, e))
+
+-- Calls that are refused whatever the plan: 14 where no release is open, 12 where one is.
+pub idle-report : (p : Plan) (s : State) (n t : ℕ) {r : Step} → r ≡ as-step (refuse s 14) → r ≡ as-step (reply p s idle (Report n t))
+unfolding respond
+idle-report p s n t z = z
+
+pub idle-end : (p : Plan) (s : State) (t : ℕ) {r : Step} → r ≡ as-step (refuse s 14) → r ≡ as-step (reply p s idle (End t))
+unfolding respond
+idle-end p s t z = z
+
+pub busy : (p : Plan) (s : State) (ls : Levels) {r : Step} → r ≡ as-step (refuse s 12) → r ≡ as-step (reply p s (running-at s ls) Release)
+unfolding respond
+busy p s ls z = z
 
 module _ (row turns tails stretches : List ℕ) (h : Head) where
   abbrev t : Table
@@ -91,16 +106,20 @@ module _ {row turns tails stretches : List ℕ} {h : Head} (o : Owned row turns 
   stretches-held = omega (arith, leaves-are, ap length (o .whole .stretches-are), stretches-size of)
 
   -- Each call, by the state.
-  on-table : (s : State) (c : Call) → call-on (table-at row turns tails stretches h) s c ≡ by-phase of s c (s .running)
+  on-table : (s : State) (c : Call) → call-on (table-at row turns tails stretches h) s c ≡ on-state of s c (read-state of s (s .running))
   unfolding call-on
   on-table s c = ap (λ x. on-plan s c x) (o .plan-is)
 
+  found-running : (s : State) (c : Call) (k : Option Levels) → s .running ≡ true → standing of s ≡ k → call-on (table-at row turns tails stretches h) s c ≡ on-state of s c (found-at s k)
+  found-running s c k e z = on-table s c ∙ (ap (λ b. on-state of s c (read-state of s b)) e ∙ ap (λ x. on-state of s c (found-at s x)) z)
+
   module _ (s : State) (c : Call) {r : Step} where
-    pub on-idle : s .running ≡ false → r ≡ reply-of (idle-call of s c) → r ≡ reply-of (call-on (table-at row turns tails stretches h) s c)
-    on-idle e z = z ∙ ap (λ x. reply-of x) (sym (on-table s c ∙ ap (by-phase of s c) e))
+    pub on-idle : s .running ≡ false → r ≡ as-step (reply of s idle c) → r ≡ as-step (call-on (table-at row turns tails stretches h) s c)
+    on-idle e z = z ∙ ap (λ x. as-step x) (sym (on-table s c ∙ ap (λ b. on-state of s c (read-state of s b)) e))
 
-    pub on-broken : s .running ≡ true → (GoodState of s → ⊥) → r ≡ reply-of (refuse s 11) → r ≡ reply-of (call-on (table-at row turns tails stretches h) s c)
-    on-broken e b z = z ∙ ap (λ x. reply-of x) (sym (on-table s c ∙ (ap (by-phase of s c) e ∙ ap (at-levels of s c) (not-standing of s b))))
+    pub on-broken : s .running ≡ true → (GoodState of s → ⊥) → r ≡ as-step (refuse s 11) → r ≡ as-step (call-on (table-at row turns tails stretches h) s c)
+    on-broken e b z = z ∙ ap (λ x. as-step x) (sym (found-running s c none e (not-standing of s b)))
 
-    pub on-running : s .running ≡ true → (ls : Levels) → standing of s ≡ some ls → r ≡ reply-of (running-call of s ls c) → r ≡ reply-of (call-on (table-at row turns tails stretches h) s c)
-    on-running e ls k z = z ∙ ap (λ x. reply-of x) (sym (on-table s c ∙ (ap (by-phase of s c) e ∙ ap (at-levels of s c) k)))
+    pub on-running : s .running ≡ true → (ls : Levels) → standing of s ≡ some ls → r ≡ as-step (reply of s (running-at s ls) c) →
+        r ≡ as-step (call-on (table-at row turns tails stretches h) s c)
+    on-running e ls k z = z ∙ ap (λ x. as-step x) (sym (found-running s c (some ls) e k))

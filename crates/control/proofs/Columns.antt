@@ -14,25 +14,26 @@ use Rattle.model.specs.Tail.{mine, tail}
 use Rattle.model.proofs.Among.{among-none, among-first, among-later, among-open, among-left, among-right}
 use Rattle.model.proofs.Links.{Spans, Spans-all}
 use Rattle.model.proofs.Leaves.{Row, leaf-range, spans-row}
-use Rattle.columns.specs.Columns.{Holds}
-use Rattle.columns.proofs.Stores.{holds-append}
+use Rattle.rows.specs.Turns.{turns-in}
+use Rattle.columns.specs.Columns.{Contains}
+use Rattle.columns.proofs.Stores.{contains-append}
 use Rattle.place.specs.Times.{Priced}
-use Rattle.table.specs.Table.{turns-in, all-turns, all-tails}
+use Rattle.table.specs.Table.{all-turns, all-tails}
 
 -- A list holds its own numbers.
-holds-behind : (us xs : List ℕ) (i : ℕ) → length us ≡ i → Holds (us ++ xs) i xs
-unfolding Holds
+holds-behind : (us xs : List ℕ) (i : ℕ) → length us ≡ i → Contains (us ++ xs) i xs
+unfolding Contains
 holds-behind us [] i e = tt
 holds-behind us (x ∷ xs) i e =
     let z : (us ++ (x ∷ [])) ++ xs ≡ us ++ (x ∷ xs) = append-assoc us (x ∷ []) xs in
     (getD-at us x xs 0 i e, rw z at (holds-behind (us ++ (x ∷ [])) xs (suc i) (omega (arith, length-append us (x ∷ [])))))
 
-pub holds-self : (xs : List ℕ) → Holds xs 0 xs
+pub holds-self : (xs : List ℕ) → Contains xs 0 xs
 holds-self xs = holds-behind [] xs 0 refl
 
 -- Of blocks with the numbers from n on, a column that holds a number for each has that of a block at the block's number.
-pub row-entry : (o : List ℕ) (g : Block → ℕ) (w : List Block) (n : ℕ) → Row n w → Holds o n (map g w) → (b : Block) → Among b w → getD o (b .number) 0 ≡ g b
-unfolding Row Holds
+pub row-entry : (o : List ℕ) (g : Block → ℕ) (w : List Block) (n : ℕ) → Row n w → Contains o n (map g w) → (b : Block) → Among b w → getD o (b .number) 0 ≡ g b
+unfolding Row Contains
 row-entry o g [] n r h b a = absurd (among-none b a)
 row-entry o g (x ∷ w) n (q, r) h b a =
     elim (among-open b x w a) [
@@ -41,18 +42,18 @@ row-entry o g (x ∷ w) n (q, r) h b a =
     ]
 
 -- There is a turn for each leaf.
-turns-size : (ts : List ℕ) (l : Lines) → length (turns-in ts l) ≡ length (leaves l)
+turns-size : (ts : List ℕ) (l : Lines) → length (turns-in C ts l) ≡ length (leaves l)
 unfolding turns-in leaves
 turns-size ts close = refl
 turns-size ts (leaf-line b r) = omega (arith, turns-size ts r)
 turns-size ts (call-line b f r) = omega (arith, turns-size ts r)
 turns-size ts (loop-line b n body r) =
-    omega (arith, length-append (turns-in ts body) (turns-in ts r), length-append (leaves body) (leaves r), turns-size ts body, turns-size ts r)
+    omega (arith, length-append (turns-in C ts body) (turns-in C ts r), length-append (leaves body) (leaves r), turns-size ts body, turns-size ts r)
 turns-size ts (if-line b t e r) =
     omega (
       arith,
-      length-append (turns-in ts t) (turns-in ts e ++ turns-in ts r),
-      length-append (turns-in ts e) (turns-in ts r),
+      length-append (turns-in C ts t) (turns-in C ts e ++ turns-in C ts r),
+      length-append (turns-in C ts e) (turns-in C ts r),
       length-append (leaves t) (leaves e ++ leaves r),
       length-append (leaves e) (leaves r),
       turns-size ts t,
@@ -142,8 +143,8 @@ module _ (ts tails turns : List ℕ) where
       let i = leaf-range r (suc lo) hi s c m in
       omega (arith, h c m, mine-else (c .number) b v (λ z. omega arith))
 
-  priced-lines : (l : Lines) (lo hi e : ℕ) → Spans l lo hi → Tailed ts tails l e → Holds turns lo (turns-in ts l) → Priced ts tails turns l e
-  unfolding Priced leaves tail turns-in Holds Spans
+  priced-lines : (l : Lines) (lo hi e : ℕ) → Spans l lo hi → Tailed ts tails l e → Contains turns lo (turns-in C ts l) → Priced ts tails turns l e
+  unfolding Priced leaves tail turns-in Contains Spans
   priced-lines close lo hi e s t h = tt
   priced-lines (leaf-line b r) lo hi e (q, s) t h =
       let v = tally C ts (leaf-line b r) + e in (
@@ -161,7 +162,7 @@ module _ (ts tails turns : List ℕ) where
       let v = tally C ts (loop-line b n body r) + e in
       let d = C b + (n - 1) * (tally C ts body + C b) + tally C ts r + e in
       let i = spans-row body (suc lo) m s .1 in
-      let (x, y) = holds-append (turns-in ts body) (turns-in ts r) turns (suc lo) m (h .1) (omega (arith, turns-size ts body)) in (
+      let (x, y) = contains-append (turns-in C ts body) (turns-in C ts r) turns (suc lo) m (h .1) (omega (arith, turns-size ts body)) in (
         omega (
           arith,
           t b (among-first b b (leaves body ++ leaves r) refl),
@@ -192,8 +193,8 @@ module _ (ts tails turns : List ℕ) where
       let d = tally C ts r + e in
       let i = spans-row f (suc lo) m s .1 in
       let j = spans-row g m k u .1 in
-      let (x, yz) = holds-append (turns-in ts f) (turns-in ts g ++ turns-in ts r) turns (suc lo) m (h .1) (omega (arith, turns-size ts f)) in
-      let (y, z) = holds-append (turns-in ts g) (turns-in ts r) turns m k yz (omega (arith, turns-size ts g)) in (
+      let (x, yz) = contains-append (turns-in C ts f) (turns-in C ts g ++ turns-in C ts r) turns (suc lo) m (h .1) (omega (arith, turns-size ts f)) in
+      let (y, z) = contains-append (turns-in C ts g) (turns-in C ts r) turns m k yz (omega (arith, turns-size ts g)) in (
         omega (
           arith,
           t b (among-first b b (leaves f ++ (leaves g ++ leaves r)) refl),
@@ -233,15 +234,15 @@ module _ (ts tails turns : List ℕ) where
       )
 
   -- All functions, one after the other.
-  pub priced-all : (ls : List Lines) (lo : ℕ) → Spans-all ls lo → Holds tails lo (all-tails ts ls) → Holds turns lo (all-turns ts ls) →
+  pub priced-all : (ls : List Lines) (lo : ℕ) → Spans-all ls lo → Contains tails lo (all-tails ts ls) → Contains turns lo (all-turns ts ls) →
       (f : ℕ) → f < length ls → Priced ts tails turns (getD ls f close) 0
   unfolding Spans-all all-tails all-turns
   priced-all [] lo s h k f lt = absurd (omega arith)
   priced-all (l ∷ ls) lo (hi, s, u) h k f lt =
       let g : Block → ℕ = λ b. tail ts (b .number) l 0 in
       let (r, i) = spans-row l lo hi s in
-      let (x, y) = holds-append (map g (leaves l)) (all-tails ts ls) tails lo hi h (omega (arith, length-map (leaves l) g)) in
-      let (v, w) = holds-append (turns-in ts l) (all-turns ts ls) turns lo hi k (omega (arith, turns-size ts l)) in
+      let (x, y) = contains-append (map g (leaves l)) (all-tails ts ls) tails lo hi h (omega (arith, length-map (leaves l) g)) in
+      let (v, w) = contains-append (turns-in C ts l) (all-turns ts ls) turns lo hi k (omega (arith, turns-size ts l)) in
       by f lt (priced-lines l lo hi 0 s (row-entry tails g (leaves l) lo r x) v) (priced-all ls hi u y w)
     where
       by : (f : ℕ) → f < length (l ∷ ls) → Priced ts tails turns l 0 → ((g : ℕ) → g < length ls → Priced ts tails turns (getD ls g close) 0) →

@@ -13,42 +13,50 @@ use mir.ValLaws.{toZ-ofZ}
 use Rattle.model.specs.Plan.{C, Plan}
 use Rattle.model.specs.Forms.{main}
 use Rattle.model.specs.Total.{total}
-use Rattle.model.specs.Stretch.{silence}
-use Rattle.model.specs.Condition.{margin, holds}
+use Rattle.model.specs.declared.Outlook.{Outlook}
+use Rattle.model.specs.Decisions.{ahead, margin, holds, word, late}
 use Rattle.model.specs.Stack.{kept}
-use Rattle.model.specs.Places.{pick}
-use Rattle.model.specs.Calls.{go, suspend, stay}
-use Rattle.model.specs.Controller.{late}
-use Rattle.model.proofs.Limits.{short-total, holds-condition, margin-sign}
+use Rattle.model.specs.declared.Call.the-variants.{Release}
+use Rattle.model.specs.declared.Word.{Word}
+use Rattle.model.specs.declared.Answer.the-variants.{Decided}
+use Rattle.model.specs.declared.Others.{Others}
+use Rattle.model.specs.declared.Others.the-variants.{Running}
+use Rattle.model.specs.Calls.{others-by-word, refuse}
+use Rattle.model.specs.Controller.{idle, respond}
+use Rattle.model.proofs.Limits.{short-total}
+use Rattle.model.proofs.Decisions.{holds-condition, margin-sign}
 use Rattle.table.specs.declared.Head.{Head}
-use Rattle.control.specs.declared.Answer.the-variants.{Go, Suspend, Stay}
 use Rattle.control.specs.declared.State.{State}
 use Rattle.control.specs.declared.Step.{Step}
 use Rattle.control.specs.declared.Weighing.{Weighing}
-use Rattle.control.specs.State.{at-release}
-use Rattle.control.specs.Calls.{refuse, word, decision, suspended-after, released}
-use Rattle.control.specs.Answers.{answer-of, reply-of}
-use Rattle.control.specs.Lent.{weighed, opened, Headed, RightWeighing}
+use Rattle.control.specs.State.{state-at-release}
+use Rattle.control.specs.Calls.{reply, as-step}
+use Rattle.control.specs.Private.{terms, weighing, opened, Headed}
 
 -- The sign of a number, by the code's test.
-not-below : (z : ℤ) → ltZ z (pos 0) ≡ false → nonNeg z ≡ true
-not-below (pos n) e = refl
-not-below (negsuc n) e = absurd (let z : _≡_ {A = ℕ} 0 1 = cc in omega arith)
-
-below : (z : ℤ) → ltZ z (pos 0) ≡ true → nonNeg z ≡ false
-below (pos n) e = absurd (let h = le-ltb n 0 (omega arith) in let z : _≡_ {A = ℕ} 0 1 = cc in omega arith)
-below (negsuc n) e = refl
-
--- The condition, by the sign of the margin.
-condition-holds : (p : Plan) (r s x : ℕ) → nonNeg (margin p r s x) ≡ true → holds p r s x ≡ true
-condition-holds p r s x e = holds-condition p r s x .1 (margin-sign p r s x .1 e)
-
-condition-fails : (p : Plan) (r s x : ℕ) → nonNeg (margin p r s x) ≡ false → holds p r s x ≡ false
-condition-fails p r s x e = by (holds p r s x) refl
+pub not-below : (z : ℤ) → SFits w64 z → ltZ (toZ w64 (ofZ w64 z)) (pos 0) ≡ false → nonNeg z ≡ true
+not-below z f e = by z (ap (λ y. ltZ y (pos 0)) (sym (toZ-ofZ w64 z f)) ∙ e)
   where
-    by : (q : Bool) → holds p r s x ≡ q → q ≡ false
-    by true h = let y = margin-sign p r s x .0 (holds-condition p r s x .0 h) in absurd (let z : _≡_ {A = ℕ} 0 1 = cc in omega arith)
-    by false h = refl
+    by : (z : ℤ) → ltZ z (pos 0) ≡ false → nonNeg z ≡ true
+    by (pos n) e = refl
+    by (negsuc n) e = absurd (let z : _≡_ {A = ℕ} 0 1 = cc in omega arith)
+
+pub below : (z : ℤ) → SFits w64 z → ltZ (toZ w64 (ofZ w64 z)) (pos 0) ≡ true → nonNeg z ≡ false
+below z f e = by z (ap (λ y. ltZ y (pos 0)) (sym (toZ-ofZ w64 z f)) ∙ e)
+  where
+    by : (z : ℤ) → ltZ z (pos 0) ≡ true → nonNeg z ≡ false
+    by (pos n) e = absurd (let h = le-ltb n 0 (omega arith) in let z : _≡_ {A = ℕ} 0 1 = cc in omega arith)
+    by (negsuc n) e = refl
+
+-- The condition is the sign of the margin.
+sign-holds : (p : Plan) (o : Outlook) (t : ℕ) → nonNeg (margin p o t) ≡ holds p o t
+sign-holds p o t = by (holds p o t) refl (nonNeg (margin p o t)) refl
+  where
+    by : (a : Bool) → holds p o t ≡ a → (b : Bool) → nonNeg (margin p o t) ≡ b → b ≡ a
+    by true x true y = refl
+    by false x false y = refl
+    by true x false y = absurd (let i = margin-sign p o t .0 (holds-condition p o t .0 x) in let z : _≡_ {A = ℕ} 0 1 = cc in omega arith)
+    by false x true y = absurd (let i = holds-condition p o t .1 (margin-sign p o t .1 y) in let z : _≡_ {A = ℕ} 0 1 = cc in omega arith)
 
 -- A deadline of an accepted plan is small.
 pub deadline-small : {h : Head} → Headed h → h .deadline ≤ 2 ^ 40
@@ -67,42 +75,17 @@ total-small q =
 
 -- THE DECISION
 
--- Where the others are not suspended, by what the condition's test says.
-decides-by : (p : Plan) (r s x : ℕ) (g : Bool) → holds p r s x ≡ g → (w : Weighing) →
-    w .answer ≡ answer-of (word false g (stay r (margin p r s x) (late p x)) (go r (margin p r s x) (late p x)) (suspend r (margin p r s x) (late p x))) →
-    w .suspended ≡ pick g false true → RightWeighing p r s x false w
-decides-by p r s x g e w a b =
-    record {
-      answer = a ∙ ap (λ k. answer-of (word false k (stay r (margin p r s x) (late p x)) (go r (margin p r s x) (late p x)) (suspend r (margin p r s x) (late p x)))) (sym e);
-      suspended-then = b ∙ ap (λ k. pick k false true) (sym e);
-    }
-
--- The number m is the margin as it was computed, and the last number is the late mark.
-module _ {h : Head} (q : Headed h) (r s x : ℕ) {m : ℤ} (f : SFits w64 m) (e : m ≡ weighed (h .deadline) (r + s + h .switch + x)) where
-  abbrev read : ℤ
-  read = toZ w64 (ofZ w64 m)
-
-  late-is : ltb (h .deadline) x ≡ late (q .plan) x
-  late-is = ap (λ k. ltb (k .deadline) x) (q .is)
-
-  margin-is : toZ w64 (ofZ w64 m) ≡ margin (q .plan) r s x
-  margin-is = toZ-ofZ w64 m f ∙ (e ∙ ap (λ k. weighed (k .deadline) (r + s + k .switch + x)) (q .is))
-
-  pub stays : (suspended : Bool) → suspended ≡ true →
-      RightWeighing (q .plan) r s x suspended (record { answer = Stay r (toZ w64 (ofZ w64 m)) (ltb (h .deadline) x); suspended = true })
-  stays suspended y = rw y (record { answer = λ i. Stay r (margin-is i) (late-is i); suspended-then = refl })
-
-  pub suspends : (suspended : Bool) → suspended ≡ false → ltZ (toZ w64 (ofZ w64 m)) (pos 0) ≡ true →
-      RightWeighing (q .plan) r s x suspended (record { answer = Suspend r (toZ w64 (ofZ w64 m)) (ltb (h .deadline) x); suspended = true })
-  suspends suspended y t =
-      let g = condition-fails (q .plan) r s x (ap nonNeg (sym margin-is) ∙ below (toZ w64 (ofZ w64 m)) t) in
-      rw y (decides-by (q .plan) r s x false g _ (λ i. Suspend r (margin-is i) (late-is i)) refl)
-
-  pub goes : (suspended : Bool) → suspended ≡ false → ltZ (toZ w64 (ofZ w64 m)) (pos 0) ≡ false →
-      RightWeighing (q .plan) r s x suspended (record { answer = Go r (toZ w64 (ofZ w64 m)) (ltb (h .deadline) x); suspended = false })
-  goes suspended y t =
-      let g = condition-holds (q .plan) r s x (ap nonNeg (sym margin-is) ∙ not-below (toZ w64 (ofZ w64 m)) t) in
-      rw y (decides-by (q .plan) r s x true g _ (λ i. Go r (margin-is i) (late-is i)) refl)
+-- The number m is the margin as it was computed.
+pub weighed-here : {h : Head} (q : Headed h) (o : Outlook) (t : ℕ) (others : Others) {m : ℤ} → SFits w64 m → m ≡ margin (terms (h .deadline) (h .switch)) o t →
+    {w : Word} → w ≡ word (nonNeg (toZ w64 (ofZ w64 m))) others → {u : Others} → u ≡ others-by-word w others →
+    _≡_ {A = Weighing} (record { answer = Decided w (o .remaining) (toZ w64 (ofZ w64 m)) (ltb (h .deadline) t); others = u }) (weighing (q .plan) o t others)
+weighed-here {h} q o t others {m} f e {w} x {u} y =
+    let i : m ≡ margin (q .plan) o t = e ∙ ap (λ k. margin (terms (k .deadline) (k .switch)) o t) (q .is) in
+    let r = toZ-ofZ w64 m f ∙ i in
+    let j : w ≡ word (holds (q .plan) o t) others = x ∙ ap (λ b. word b others) (ap nonNeg r ∙ sign-holds (q .plan) o t) in
+    let k : ltb (h .deadline) t ≡ late (q .plan) t = ap (λ k. ltb (k .deadline) t) (q .is) in
+    let l : u ≡ others-by-word (word (holds (q .plan) o t) others) others = y ∙ ap (λ b. others-by-word b others) j in
+    λ z. record { answer = Decided (j z) (o .remaining) (r z) (k z); others = l z }
 
 -- THE RELEASE
 
@@ -118,20 +101,23 @@ module _ {h : Head} (q : Headed h) (s : State) where
       le-leb (total C (main (q .plan)) + q .plan .switch) (q .plan .deadline)
       (omega (arith, ap (λ k. k .deadline) (q .is), ap (λ k. k .total) (q .is), ap (λ k. k .switch) (q .is)))
 
-  pub release-unfit : h .deadline < h .total + h .switch → {r : Step} → r ≡ reply-of (refuse s 13) → r ≡ reply-of (released (q .plan) s)
+  pub release-unfit : h .deadline < h .total + h .switch → {r : Step} → r ≡ as-step (refuse s 13) → r ≡ as-step (reply (q .plan) s idle Release)
+  unfolding respond
   release-unfit lt e = rw (unfit lt) e
 
   -- The state that is left is the document's.
-  opened-is : {suspended : Bool} → opened (h .total) suspended ≡ at-release (q .plan) suspended
+  opened-is : (others : Others) → opened (h .total) others ≡ state-at-release (q .plan) 0 others
   unfolding kept
-  opened-is {suspended} = ap (λ k. opened (k .total) suspended) (q .is)
+  opened-is others = ap (λ k. opened (k .total) others) (q .is)
 
-  pub release-fit : h .total + h .switch ≤ h .deadline → {w : Weighing} {after : State} → RightWeighing (q .plan) (h .total) (h .stretch) 0 false w →
-      after ≡ opened (h .total) (w .suspended) → _≡_ {A = Step} (record { answer = w .answer; state = after }) (reply-of (released (q .plan) s))
+  pub release-fit : h .total + h .switch ≤ h .deadline → {w : Weighing} {after : State} →
+      w ≡ weighing (q .plan) (record { remaining = h .total; stretch = h .stretch }) 0 Running → after ≡ opened (h .total) (w .others) →
+      _≡_ {A = Step} (record { answer = w .answer; state = after }) (as-step (reply (q .plan) s idle Release))
+  unfolding respond
   release-fit le {w} {after} d e =
-      let t = ap (λ k. k .total) (q .is) in
-      let z = ap (λ k. k .stretch) (q .is) in
-      let a : w .answer ≡ answer-of (decision (q .plan) (total C (main (q .plan))) (silence (main (q .plan)) 0) 0 false) = rw (t, z) at (d .answer) in
-      let b : w .suspended ≡ suspended-after (q .plan) (total C (main (q .plan))) (silence (main (q .plan)) 0) 0 false = rw (t, z) at (d .suspended-then) in
-      let c = e ∙ (opened-is ∙ ap (at-release (q .plan)) b) in
-      rw (fit le) (λ i. record { answer = a i; state = c i })
+      let p = q .plan in
+      let i : _≡_ {A = Outlook} (record { remaining = h .total; stretch = h .stretch }) (ahead (main p)) =
+      λ x. record { remaining = q .is x .total; stretch = q .is x .stretch } in
+      let j : w ≡ weighing p (ahead (main p)) 0 Running = d ∙ ap (λ y. weighing p y 0 Running) i in
+      let c : after ≡ state-at-release p 0 (weighing p (ahead (main p)) 0 Running .others) = e ∙ (opened-is (w .others) ∙ ap (λ y. state-at-release p 0 (y .others)) j) in
+      rw (fit le) (λ x. record { answer = j x .answer; state = c x })

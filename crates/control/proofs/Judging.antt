@@ -19,15 +19,16 @@ use Rattle.model.proofs.Points.{AllPoints}
 use Rattle.model.proofs.Reachable.{stack-stands}
 use Rattle.model.proofs.Statics.{main-last}
 use Rattle.rows.specs.Answers.{Says}
-use Rattle.place.specs.Stack.{Table, Decodes}
-use Rattle.place.specs.Times.{Times, Costed}
-use Rattle.place.specs.Plans.{Laid, Filled}
+use Rattle.place.specs.Stack.{FunctionTable, Decodes}
+use Rattle.place.specs.Times.{TimesAt, CostedStack}
+use Rattle.rows.specs.Plans.{Plan-in}
+use Rattle.place.specs.Plans.{PlanColumns}
 use Rattle.place.proofs.Tables.{table-of}
 use Rattle.place.proofs.Entries.{all-times, times-above}
 use Rattle.place.proofs.Meaning.{by-table, marks, points, costed, times-ok-is}
 use Rattle.control.specs.declared.State.{State}
 use Rattle.control.specs.State.{stack-of, levels-of, timed, standing}
-use Rattle.control.specs.Lent.{GoodState}
+use Rattle.control.specs.Private.{GoodState}
 use Rattle.control.proofs.Arrays.{length-frames}
 use Rattle.control.proofs.Places.{points-all, all-points}
 use Rattle.control.proofs.Alike.{timed-some, timed-same, levels-inner, levels-some}
@@ -72,7 +73,7 @@ module _ (p : Plan) (a : Accepted p) (s : State) where
   release-wrong h (ls, e) = h (ap (λ ts. getD ts 0 0) (stands-times p a s ls e))
 
   pub release-right : s .level ≡ 0 → length (s .times) ≡ 33 → getD (s .times) 0 0 ≡ total C (main p) → ((k : ℕ) → 0 < k → getD (s .times) k 0 ≡ 0) → GoodState p s
-  unfolding Times
+  unfolding TimesAt
   release-right z n t h = ([], release-stands p a s z (all-times (main p) (s .times) [] n (omega arith) t h))
 
   -- Numbers above the level.
@@ -91,9 +92,9 @@ pub record Located (p : Plan) (s : State) : Type 0 where
   pub leaves-are : AllPoints p (stack-of s)
   pub stands-at : levels-of p (stack-of s) ≡ some levels
 
-module _ {w starts : List ℕ} (p : Plan) (a : Accepted p) (d : Laid w starts p) (s : State) where
+module _ {w starts : List ℕ} (p : Plan) (a : Accepted p) (d : Plan-in w starts p) (s : State) where
   abbrev Judges : Bool → Type 0
-  Judges r = (t : Table w starts (length (p .functions))) → Says r (Decodes w (getD (t .funs) (length (p .functions) - 1) done) (s .leaves) (s .earlier) (s .level))
+  Judges r = (t : FunctionTable w starts (length (p .functions))) → Says r (Decodes w (getD (t .funs) (length (p .functions) - 1) done) (s .leaves) (s .earlier) (s .level))
 
   pub place-right : Judges true → Located p s
   place-right e =
@@ -120,14 +121,14 @@ module _ {w starts : List ℕ} (p : Plan) (a : Accepted p) (d : Laid w starts p)
         marked = marks p a d (s .leaves) (s .earlier) (s .level) ls one h u;
       })
 
-  module _ {tails turns totals : List ℕ} (c : Filled p tails turns totals) (k : Located p s) where
-    pub costed-at : Costed w tails turns totals (s .leaves) (s .earlier) (length (p .functions)) (s .level)
+  module _ {tails turns totals : List ℕ} (c : PlanColumns p tails turns totals) (k : Located p s) where
+    pub costed-at : CostedStack w tails turns totals (s .leaves) (s .earlier) (length (p .functions)) (s .level)
     costed-at = costed p a d (s .leaves) (s .earlier) (s .level) (k .levels) (k .least) (k .decodes) (k .leaves-are) c
 
     -- Its times, where those above its level are 0.
     pub times-judged : length (s .times) ≡ 33 → ((j : ℕ) → s .level < j → getD (s .times) j 0 ≡ 0) → (r : Bool) →
-        ((q : Costed w tails turns totals (s .leaves) (s .earlier) (length (p .functions)) (s .level)) →
-        Says r (Times (getD (q .decoded .table .funs) (length (p .functions) - 1) done) (s .times) (q .decoded .levels))) → Says r (GoodState p s)
+        ((q : CostedStack w tails turns totals (s .leaves) (s .earlier) (length (p .functions)) (s .level)) →
+        Says r (TimesAt (getD (q .decoded .table .funs) (length (p .functions) - 1) done) (s .times) (q .decoded .levels))) → Says r (GoodState p s)
     times-judged n above r e = by r (times-ok-is p a d (s .leaves) (s .earlier) (s .level) (k .levels) (k .least) (k .decodes) (k .leaves-are) c (k .most) (s .times) n above r e)
       where
         by : (r : Bool) → Says r (s .times ≡ times (main p) (k .levels)) → Says r (GoodState p s)

@@ -10,17 +10,18 @@ use Rattle.model.specs.Plan.{C, Plan}
 use Rattle.model.specs.Forms.{done, main}
 use Rattle.model.specs.Total.{total}
 use Rattle.model.specs.Acceptance.{Accepted}
-use Rattle.reader.specs.Records.{bounds-of}
+use Rattle.rows.specs.Records.{bounds-of}
 use Rattle.reader.proofs.Tasks.{length-padded}
 use Rattle.rows.specs.Answers.{Says}
-use Rattle.place.specs.Stack.{Table, Decodes}
-use Rattle.place.specs.Times.{Times, Costed}
-use Rattle.place.specs.Plans.{Laid, Filled}
+use Rattle.place.specs.Stack.{FunctionTable, Decodes}
+use Rattle.place.specs.Times.{TimesAt, CostedStack}
+use Rattle.rows.specs.Plans.{Plan-in}
+use Rattle.place.specs.Plans.{PlanColumns}
 use Rattle.place.specs.declared.Place.{Place}
 use Rattle.place.proofs.Tables.{table-of}
 use Rattle.table.specs.declared.Head.{Head}
 use Rattle.control.specs.declared.State.{State}
-use Rattle.control.specs.Lent.{Rowed, Lent, spot, GoodState}
+use Rattle.control.specs.Private.{Rowed, Lent, spot, GoodState}
 use Rattle.control.proofs.Tabled.{laid, filled}
 use Rattle.control.proofs.Judging.{Located, release-wrong, release-right, above-wrong, place-right, place-wrong, costed-at, times-judged}
 
@@ -31,7 +32,7 @@ module _ {row : List ℕ} {h : Head} (q : Rowed row h) where
   abbrev a : Accepted (q .head .plan)
   a = q .head .accepted
 
-  pub laid-here : Laid row (h .bounds) (q .head .plan)
+  pub laid-here : Plan-in row (h .bounds) (q .head .plan)
   laid-here = rw (q .row-is, ap (λ k. k .bounds) (q .head .is)) (laid p a)
 
   pub count-here : h .functions ≡ length (q .head .plan .functions)
@@ -43,7 +44,7 @@ module _ {row : List ℕ} {h : Head} (q : Rowed row h) where
   total-here : h .total ≡ total C (main p)
   total-here = ap (λ k. k .total) (q .head .is)
 
-  pub table-here : Table row (h .bounds) (h .functions)
+  pub table-here : FunctionTable row (h .bounds) (h .functions)
   table-here = rw count-here (table-of p a laid-here)
 
   -- A STATE JUDGED
@@ -59,7 +60,7 @@ module _ {row : List ℕ} {h : Head} (q : Rowed row h) where
 
     -- At a report: the answer of `place_ok` at the place x.
     abbrev pub Judged : Place → Bool → Type 0
-    Judged x r = (t : Table row (h .bounds) (h .functions)) → Says r (Decodes row (getD (t .funs) (h .functions - 1) done) (x .leaves) (x .earlier) (x .level))
+    Judged x r = (t : FunctionTable row (h .bounds) (h .functions)) → Says r (Decodes row (getD (t .funs) (h .functions - 1) done) (x .leaves) (x .earlier) (x .level))
 
     pub spot-right : {x : Place} → x ≡ spot s → (r : Bool) → r ≡ true → Judged x r → Located p s
     spot-right z r y e = place-right p a laid-here s (rw (y, z, count-here) at e)
@@ -75,15 +76,15 @@ module _ {row : List ℕ} {h : Head} (q : Rowed row h) where
 
 -- With the columns: what `place` asks for to judge the times, and its answer.
 module _ {row turns tails : List ℕ} {h : Head} (q : Lent row turns tails h) where
-  pub filled-here : Filled (q .rowed .head .plan) tails turns (h .totals)
+  pub filled-here : PlanColumns (q .rowed .head .plan) tails turns (h .totals)
   filled-here = rw (q .tails-are, q .turns-are, ap (λ k. k .totals) (q .rowed .head .is)) (filled (q .rowed .head .plan) (q .rowed .head .accepted))
 
   module _ (s : State) {x : Place} (z : x ≡ spot s) (k : Located (q .rowed .head .plan) s) where
-    pub spot-costed : Costed row tails turns (h .totals) (x .leaves) (x .earlier) (h .functions) (x .level)
+    pub spot-costed : CostedStack row tails turns (h .totals) (x .leaves) (x .earlier) (h .functions) (x .level)
     spot-costed = rw (z, count-here (q .rowed)) (costed-at (q .rowed .head .plan) (q .rowed .head .accepted) (laid-here (q .rowed)) s filled-here k)
 
     pub spot-times : length (s .times) ≡ 33 → (y : Bool) → y ≡ true → Says y ((j : ℕ) → x .level < j → getD (s .times) j 0 ≡ 0) → (r : Bool) →
-        ((c : Costed row tails turns (h .totals) (x .leaves) (x .earlier) (h .functions) (x .level)) →
-        Says r (Times (getD (c .decoded .table .funs) (h .functions - 1) done) (s .times) (c .decoded .levels))) → Says r (GoodState (q .rowed .head .plan) s)
+        ((c : CostedStack row tails turns (h .totals) (x .leaves) (x .earlier) (h .functions) (x .level)) →
+        Says r (TimesAt (getD (c .decoded .table .funs) (h .functions - 1) done) (s .times) (c .decoded .levels))) → Says r (GoodState (q .rowed .head .plan) s)
     spot-times n u y above r e =
         times-judged (q .rowed .head .plan) (q .rowed .head .accepted) (laid-here (q .rowed)) s filled-here k n (rw (y, z) at above) r (rw (z, count-here (q .rowed)) at e)

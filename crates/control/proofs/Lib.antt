@@ -10,7 +10,7 @@ pub mod Good
 pub mod Judging
 pub mod Lending
 pub mod Reporting
-pub mod Ending
+pub mod Closing
 pub mod Calling
 pub mod Histories
 pub mod Cases

@@ -1,18 +1,14 @@
 -- The stack after the next report: a run that stands at the state's stack, and one that stands a report later, tell that the frames which the next
 -- state holds decode to the levels which are found next.
-use mathlib.Core.Bool.{Bool, true, false, _&&_}
-use mathlib.Core.List.{List, [], _∷_, _++_, append-assoc, append-nil, map}
-use mathlib.Core.Logic.{_⊎_, _↔_, inl, inr}
-use mathlib.Core.Option.{Option, none, some}
+use mathlib.Core.Bool.{Bool, true, false}
+use mathlib.Core.List.{List, [], _∷_, _++_, append-assoc}
 use mathlib.Core.Path.{_≡_, refl, ap, sym, _∙_, subst}
-use Prim.Native.Nat.{ℕ, zero, suc, _+_, _-_, _≤_, _<_}
+use Prim.Native.Nat.{ℕ}
 use native.Mathlib.Omega.{arith}
-use lib.ListN.{length, getD, take, drop}
-use Rattle.model.specs.Plan.{Block, Plan, all-leaves}
+use Rattle.model.specs.Plan.{Plan}
 use Rattle.model.specs.Forms.{Forms, main}
 use Rattle.model.specs.Runs.{reports, noted}
-use Rattle.model.specs.Remaining.{Reported}
-use Rattle.model.specs.Levels.{Leveled, leveled, blocks, Standing, so-far, history, Frame, framed, stacked, stack}
+use Rattle.model.specs.Levels.{Leveled, blocks, Standing, so-far, history, Frame, stacked, stack}
 use Rattle.model.specs.Acceptance.{Accepted}
 use Rattle.model.proofs.Places.{reports-append}
 use Rattle.model.proofs.OneStack.{same-stack}

@@ -1,17 +1,16 @@
 -- A state's stack and the place of the controller over places: the levels that a stack decodes to are moved by the next report as that place is.
 use mathlib.Core.Bool.{Bool, true, false, _&&_}
 use mathlib.Core.List.{List, [], _∷_, _++_}
-use mathlib.Core.Logic.{_⊎_, _↔_, inl, inr}
-use mathlib.Core.Option.{Option, none, some}
+use mathlib.Core.Option.{some}
 use mathlib.Core.Path.{_≡_, refl, ap, sym, _∙_, subst}
-use Prim.Native.Nat.{ℕ, zero, suc, _+_, _-_, _≤_, _<_, min}
+use Prim.Native.Nat.{ℕ, _-_, _≤_}
 use native.Mathlib.Omega.{arith}
 use lib.ListN.{length, take, drop, length-append, length-take}
-use Rattle.model.specs.Plan.{Block, Plan, all-leaves}
-use Rattle.model.specs.Forms.{Forms, done, leaf, call, loop, cond, _⊕_, main}
-use Rattle.model.specs.Levels.{Leveled, Standing, so-far, history, Frame, framed, stacked, stack}
+use Rattle.model.specs.Plan.{Plan, all-leaves}
+use Rattle.model.specs.Forms.{Forms, done, leaf, call, loop, cond, main}
+use Rattle.model.specs.Levels.{Standing, so-far, history, Frame, framed, stacked, stack}
 use Rattle.model.specs.Acceptance.{Accepted}
-use Rattle.model.specs.Places.{pick, seek, onward, locate}
+use Rattle.model.specs.Places.{seek, locate}
 use Rattle.model.specs.Stack.{Levels, below, whole, seek-at, onward-at, flat, decode}
 use Rattle.model.specs.Controller.{is-point}
 use Rattle.model.proofs.Steps.{Step, past, into, out, first, ⊕-done}
@@ -19,13 +18,14 @@ use Rattle.model.proofs.Links.{accepted-traceable}
 use Rattle.model.proofs.Histories.{leads-reported, locate-first}
 use Rattle.model.proofs.Blocks.{is-point-of, point-of-is}
 use Rattle.model.proofs.Heights.{levels-low}
-use Rattle.model.proofs.Standing.{standing-of, reported-of}
-use Rattle.model.proofs.Levels.{flat-seek, flat-onward}
+use Rattle.model.proofs.Standing.{standing-of}
+use Rattle.model.proofs.Levels.{flat-seek}
 use Rattle.model.proofs.Trails.{locate-at, locate-snoc, locate-flat}
 use Rattle.model.proofs.OneStack.{Named, placed-named, decode-one, decode-more, decode-length, first-stands, onward-stands}
-use Rattle.model.proofs.Decoded.{Known, known-plan}
+use Rattle.model.proofs.Decoded.{known-plan}
 use Rattle.model.proofs.Points.{AllPoints, standing-points}
 use Rattle.model.proofs.Reachable.{stack-stands}
+use Rattle.model.proofs.Nexts.{Top}
 use Rattle.control.specs.State.{points?}
 use Rattle.control.proofs.Moving.{first-stack, first-number, later-stack, last-number}
 
@@ -52,9 +52,6 @@ named-step (leaf b rest) n e = past
 named-step (call b fun rest) n e = into
 named-step (loop b m body rest) n e = out
 named-step (cond b then else rest) n e = first
-
-abbrev pub Top : Levels → Type 0
-Top ls = (g : Forms) × (ks : Levels) × (ls ≡ g ∷ ks) × Step g
 
 pub decode-top : (f : Forms) (ks : Levels) (ss : List Frame) (ls : Levels) → decode f ks ss ≡ some ls → Top ls
 unfolding decode

@@ -8,7 +8,8 @@ use Prim.Native.Nat.{ℕ, _+_, _-_, _*_, _≤_, _<_}
 use native.Mathlib.Omega.{arith}
 use lib.ListN.{length, getD, drop}
 use borrow.Author.Tests.{lt-ltb, le-ltb}
-use Rattle.model.specs.Plan.{C, Plan, all-leaves}
+use Rattle.model.specs.Calls.{refuse}
+use Rattle.model.specs.Plan.{C, M, Plan, all-leaves}
 use Rattle.model.specs.Forms.{Forms, done, main}
 use Rattle.model.specs.Total.{total}
 use Rattle.model.specs.Stretch.{stretch}
@@ -16,16 +17,19 @@ use Rattle.model.specs.Levels.{framed}
 use Rattle.model.specs.Acceptance.{sizes, Accepted}
 use Rattle.model.specs.Places.{seek}
 use Rattle.model.specs.Stack.{Levels, whole, onto, onward-at, decode, times}
-use Rattle.model.specs.Calls.{report}
-use Rattle.model.specs.Controller.{is-point}
+use Rattle.model.specs.declared.Call.the-variants.{Report}
+use Rattle.model.specs.declared.Others.{Others}
+use Rattle.model.specs.declared.Outlook.{Outlook}
+use Rattle.model.specs.Decisions.{at-report, outlook}
+use Rattle.model.specs.Controller.{is-point, next-levels, respond}
 use Rattle.model.proofs.Points.{AllPoints}
-use Rattle.reader.proofs.Records.{records-all-length}
-use Rattle.rows.specs.Rows.{field}
+use Rattle.rows.proofs.Records.{records-all-length}
+use Rattle.rows.specs.Rows.{point-at}
 use Rattle.rows.specs.Answers.{Says}
 use Rattle.rows.proofs.Answers.{said-true, said-false}
-use Rattle.place.specs.Stack.{Table, Decoded, Next, Stacked, frames}
-use Rattle.place.specs.Times.{Times, Clocked, rest-of}
-use Rattle.place.specs.Plans.{Laid}
+use Rattle.place.specs.Stack.{FunctionTable, Decoded, NextStack, Stacked, frames}
+use Rattle.place.specs.Times.{TimesAt, Clocked, outer-levels}
+use Rattle.rows.specs.Plans.{Plan-in}
 use Rattle.place.specs.declared.Place.{Place}
 use Rattle.place.proofs.Entries.{times-are}
 use Rattle.place.proofs.Counts.{counts-tell}
@@ -35,16 +39,15 @@ use Rattle.table.proofs.Written.{stretches-size}
 use Rattle.control.specs.declared.State.{State}
 use Rattle.control.specs.declared.Step.{Step}
 use Rattle.control.specs.declared.Weighing.{Weighing}
-use Rattle.control.specs.State.{stack-of, standing, put, at-report}
-use Rattle.control.specs.Calls.{refuse, next-levels, reported, running-call}
-use Rattle.control.specs.Answers.{reply-of}
-use Rattle.control.specs.Lent.{RightWeighing, Rowed, WholeTable, spot, Arriving}
+use Rattle.control.specs.State.{stack-of, standing, put, state-at-report}
+use Rattle.control.specs.Calls.{place-of, running-at, reply, as-step}
+use Rattle.control.specs.Private.{Rowed, WholeTable, spot, Arriving, weighing, arrived}
 use Rattle.control.proofs.Tabled.{marked-point, point-marked, stretch-at}
 use Rattle.control.proofs.Arrays.{put-at, put-is}
 use Rattle.control.proofs.Places.{Moved}
 use Rattle.control.proofs.Alike.{next-moves, stack-moved}
 use Rattle.control.proofs.Good.{stands-times}
-use Rattle.control.proofs.Judging.{at-levels, stands-depth, stands-decode}
+use Rattle.control.proofs.Judging.{stands-depth, stands-decode}
 use Rattle.control.proofs.Lending.{laid-here, count-here, filled-here}
 
 -- THE POINT
@@ -54,7 +57,7 @@ module _ {row : List ℕ} {h : Head} (q : Rowed row h) (n : ℕ) (r : Bool) wher
   p = q .head .plan
 
   abbrev Marked : Type 0
-  Marked = (n * 8 + 8 ≤ length row) × (field row n 1 ≡ 1)
+  Marked = (n * 8 + 8 ≤ length row) × (point-at row n ≡ 1)
 
   row-size : length row ≡ 8 * sizes (p .functions)
   row-size = ap length (q .row-is) ∙ records-all-length 0 (p .functions)
@@ -79,17 +82,17 @@ pub none-open : (ls : Levels) → length ls ≡ 0 → ls ≡ []
 none-open [] e = refl
 none-open (g ∷ ks) e = absurd (omega arith)
 
-next-onward : (p : Plan) (ls : Levels) (n : ℕ) → 1 ≤ length ls → next-levels p ls n ≡ onward-at ls n
-next-onward p [] n h = absurd (omega arith)
-next-onward p (g ∷ ks) n h = refl
+next-onward : (p : Plan) (s : State) (ls : Levels) (n : ℕ) → 1 ≤ length ls → next-levels p (place-of s ls) n ≡ onward-at ls n
+next-onward p s [] n h = absurd (omega arith)
+next-onward p s (g ∷ ks) n h = refl
 
 module _ {row : List ℕ} {h : Head} (q : Rowed row h) (s : State) (n : ℕ) (x : Place) where
   abbrev Found : Levels → Type 0
-  Found ls = Next row (main (q .head .plan)) (next-levels (q .head .plan) ls n) (s .leaves) (s .earlier) n (x .leaves) (x .earlier) (x .level)
+  Found ls = NextStack row (main (q .head .plan)) (next-levels (q .head .plan) (place-of s ls) n) (s .leaves) (s .earlier) n (x .leaves) (x .earlier) (x .level)
 
   -- At a first report, by what `first_place` ensures.
   pub first-found : s .level ≡ 0 →
-      ((t : Table row (h .bounds) (h .functions)) → Next row (getD (t .funs) (h .functions - 1) done) (onto [] (seek (getD (t .funs) (h .functions - 1) done) n)) (s .leaves) (s .earlier) n (x .leaves) (x .earlier) (x .level)) →
+      ((t : FunctionTable row (h .bounds) (h .functions)) → NextStack row (getD (t .funs) (h .functions - 1) done) (onto [] (seek (getD (t .funs) (h .functions - 1) done) n)) (s .leaves) (s .earlier) n (x .leaves) (x .earlier) (x .level)) →
       (ls : Levels) → standing (q .head .plan) s ≡ some ls → Found ls
   first-found z e ls k =
       let y = none-open ls (stands-depth (q .head .plan) (q .head .accepted) s ls k ∙ z) in
@@ -98,11 +101,11 @@ module _ {row : List ℕ} {h : Head} (q : Rowed row h) (s : State) (n : ℕ) (x 
 
   -- Behind a report, by what `next_place` ensures.
   pub later-found : 1 ≤ s .level → {y : Place} → y ≡ spot s →
-      ((t : Decoded row (h .bounds) (h .functions) (y .leaves) (y .earlier) (y .level)) → Next row (getD (t .table .funs) (h .functions - 1) done) (onward-at (t .levels) n) (y .leaves) (y .earlier) n (x .leaves) (x .earlier) (x .level)) →
+      ((t : Decoded row (h .bounds) (h .functions) (y .leaves) (y .earlier) (y .level)) → NextStack row (getD (t .table .funs) (h .functions - 1) done) (onward-at (t .levels) n) (y .leaves) (y .earlier) n (x .leaves) (x .earlier) (x .level)) →
       (ls : Levels) → standing (q .head .plan) s ≡ some ls → Found ls
   later-found one z e ls k =
       let (g, u) = stands-decode (q .head .plan) (q .head .accepted) s ls one k in
-      let o = next-onward (q .head .plan) ls n (omega (arith, stands-depth (q .head .plan) (q .head .accepted) s ls k)) in
+      let o = next-onward (q .head .plan) s ls n (omega (arith, stands-depth (q .head .plan) (q .head .accepted) s ls k)) in
       rw o (next-place-is (q .head .plan) (q .head .accepted) (laid-here q) (s .leaves) (s .earlier) (s .level) ls one g u n (x .leaves) (x .earlier) (x .level) (rw (z, count-here q) at e))
 
 -- What `next_place` asks for.
@@ -117,20 +120,17 @@ module _ {row : List ℕ} {h : Head} (q : Rowed row h) (s : State) where
 
 -- The remaining time of the innermost level.
 top-time : (f : Forms) (ls : Levels) → 1 ≤ length ls → getD (times f ls) (length ls) 0 ≡ total C (whole ls)
-unfolding Times
+unfolding TimesAt
 top-time f [] h = absurd (omega arith)
 top-time f (g ∷ ks) h =
     let z : length ks + 1 ≡ length (g ∷ ks) = omega arith in
     rw z at (times-are f (times f (g ∷ ks)) (g ∷ ks) refl .0)
 
--- A decision about the same numbers is the same.
-weighing-same : {p : Plan} {r r′ z z′ t : ℕ} {b : Bool} {w : Weighing} → r ≡ r′ → z ≡ z′ → RightWeighing p r z t b w → RightWeighing p r′ z′ t b w
-weighing-same x y d = rw (x, y) at d
-
 -- Where the old times are those of a good state, those below the new place's level stay right.
-rest-times : (p : Plan) (n : ℕ) (ls new : Levels) (old : List ℕ) → next-levels p ls n ≡ some new → old ≡ times (main p) ls → Times (main p) old (rest-of new)
-rest-times p n [] new old e z = first-times p n new old e z
-rest-times p n (g ∷ ks) new old e z = later-times p n (g ∷ ks) new old e z
+rest-times : (p : Plan) (s : State) (n : ℕ) (ls new : Levels) (old : List ℕ) → next-levels p (place-of s ls) n ≡ some new → old ≡ times (main p) ls →
+    TimesAt (main p) old (outer-levels new)
+rest-times p s n [] new old e z = first-times p n new old e z
+rest-times p s n (g ∷ ks) new old e z = later-times p n (g ∷ ks) new old e z
 
 module _ {row turns tails : List ℕ} {h : Head} {s : State} {x : Place} {str : ℕ} (k : Arriving row turns tails h s x str) where
   abbrev here : Plan
@@ -139,7 +139,7 @@ module _ {row turns tails : List ℕ} {h : Head} {s : State} {x : Place} {str : 
   abbrev ok : Accepted (k .lent .rowed .head .plan)
   ok = k .lent .rowed .head .accepted
 
-  abbrev d : Laid row (h .bounds) (k .lent .rowed .head .plan)
+  abbrev d : Plan-in row (h .bounds) (k .lent .rowed .head .plan)
   d = laid-here (k .lent .rowed)
 
   abbrev l : ℕ
@@ -151,8 +151,8 @@ module _ {row turns tails : List ℕ} {h : Head} {s : State} {x : Place} {str : 
   new-points : AllPoints here (frames (x .leaves) (x .earlier) 1 (x .level))
   new-points = points here ok d (x .leaves) (x .earlier) (x .level) (k .new .levels) (k .new .least) (k .new .decodes) (k .new .marked)
 
-  lower : Times (main here) (s .times) (rest-of (k .new .levels))
-  lower = rest-times here (k .point) (k .levels) (k .new .levels) (s .times) (k .new .found) (stands-times here ok s (k .levels) (k .stands))
+  lower : TimesAt (main here) (s .times) (outer-levels (k .new .levels))
+  lower = rest-times here s (k .point) (k .levels) (k .new .levels) (s .times) (k .new .found) (stands-times here ok s (k .levels) (k .stands))
 
   -- What `next_times` asks for, and what it gives.
   pub clocked-here : Clocked row tails turns (h .totals) (x .leaves) (x .earlier) (x .level) (s .times)
@@ -160,7 +160,7 @@ module _ {row turns tails : List ℕ} {h : Head} {s : State} {x : Place} {str : 
 
   pub new-times : (new : List ℕ) → length new ≡ 33 →
       ((q : Clocked row tails turns (h .totals) (x .leaves) (x .earlier) (x .level) (s .times))
-      → Times (getD (q .costed .decoded .table .funs) (q .n - 1) done) new (q .costed .decoded .levels) × ((j : ℕ) → x .level < j → getD new j 0 ≡ 0)) →
+      → TimesAt (getD (q .costed .decoded .table .funs) (q .n - 1) done) new (q .costed .decoded .levels) × ((j : ℕ) → x .level < j → getD new j 0 ≡ 0)) →
       new ≡ times (main here) (k .new .levels)
   new-times new e t =
       next-times-are here ok d (x .leaves) (x .earlier) (x .level) (k .new .levels) (k .new .least) (k .new .decodes) new-points (filled-here (k .lent)) (k .new .most) (s .times) new lower e t
@@ -173,7 +173,7 @@ module _ {row turns tails : List ℕ} {h : Head} {s : State} {x : Place} {str : 
   -- The stack as the model moves it.
   module _ (x-33 : length (x .leaves) ≡ 33) (y-33 : length (x .earlier) ≡ 33) (s-33 : length (s .leaves) ≡ 33) (t-33 : length (s .earlier) ≡ 33) where
     move : Moved here (stack-of s) (k .point) (k .new .levels)
-    move = next-moves here ok (stack-of s) (k .levels) (at-levels here ok s (k .levels) (k .stands)) (k .point) (k .new .levels) (k .new .found)
+    move = next-moves here ok s (k .levels) (k .stands) (k .point) (k .new .levels) (k .new .found)
 
     pub leaves-are : x .leaves ≡ put (s .leaves) l (k .point)
     leaves-are = rw new-depth (put-is (k .new .leaf) s-33 x-33 (k .new .most))
@@ -188,7 +188,7 @@ module _ {row turns tails : List ℕ} {h : Head} {s : State} {x : Place} {str : 
         let a = put (s .leaves) l (k .point) in
         let u : decode (main here) [] (frames a (put (s .earlier) l (k .new .count)) 1 l) ≡ some (k .new .levels) = rw (← leaves-are, ← counts-are, new-depth) (k .new .decodes) in
         let v : decode (main here) [] (frames a (put (s .earlier) l c) 1 l) ≡ some (k .new .levels) =
-        ap (decode (main here) []) (stack-moved here ok s (k .point) (k .new .levels) 0 true s-33 t-33 (m .low) (m .high) (m .fits)) ∙ m .decoded in
+        ap (decode (main here) []) (stack-moved here ok s (k .point) (k .new .levels) 0 (s .others) s-33 t-33 (m .low) (m .high) (m .fits)) ∙ m .decoded in
         let e = counts-tell (main here) a (put (s .earlier) l (k .new .count)) (put (s .earlier) l c) l (k .new .levels) (m .low) u v in
         sym (put-at (s .earlier) l (k .new .count) t-33 (m .high)) ∙ (e ∙ put-at (s .earlier) l c t-33 (m .high))
 
@@ -196,26 +196,27 @@ module _ {row turns tails : List ℕ} {h : Head} {s : State} {x : Place} {str : 
     earlier-are = counts-are ∙ ap (λ c. put (s .earlier) l c) count-is
 
     -- So the new state is the document's.
-    pub moved-on : (new : List ℕ) (reading : ℕ) (suspended : Bool) → new ≡ times (main here) (k .new .levels) →
-        _≡_ {A = State} (record { running = true; suspended = suspended; reading = reading; level = x .level; leaves = x .leaves; earlier = x .earlier; times = new })
-        (at-report here s (k .point) (k .new .levels) reading suspended)
-    moved-on new reading suspended e = λ i.
-        record { running = true; suspended = suspended; reading = reading; level = sym new-depth i; leaves = leaves-are i; earlier = earlier-are i; times = e i }
+    moved-on : (new : List ℕ) (reading : ℕ) (others : Others) → new ≡ times (main here) (k .new .levels) →
+        _≡_ {A = State} (record { running = true; others = others; reading = reading; level = x .level; leaves = x .leaves; earlier = x .earlier; times = new })
+        (state-at-report here s (k .point) (k .new .levels) reading others)
+    moved-on new reading others e = λ i.
+        record { running = true; others = others; reading = reading; level = sym new-depth i; leaves = leaves-are i; earlier = earlier-are i; times = e i }
 
     -- And the decision there is the document's.
-    pub arrived : (new : List ℕ) (reading : ℕ) → new ≡ times (main here) (k .new .levels) → (w : Weighing) → RightWeighing here (getD new (x .level) 0) str reading (s .suspended) w →
+    pub arrived-here : (new : List ℕ) (reading : ℕ) → new ≡ times (main here) (k .new .levels) → (w : Weighing) →
+        w ≡ weighing here (record { remaining = getD new (x .level) 0; stretch = str }) reading (s .others) →
         _≡_ {A = Step}
         (record {
           answer = w .answer;
-          state = record { running = true; suspended = w .suspended; reading = reading; level = x .level; leaves = x .leaves; earlier = x .earlier; times = new };
+          state = record { running = true; others = w .others; reading = reading; level = x .level; leaves = x .leaves; earlier = x .earlier; times = new };
         })
-        (reply-of (reported here s (k .point) reading (some (k .new .levels))))
-    arrived new reading e w dec =
-        let r = total C (whole (k .new .levels)) in
-        let z = stretch (k .point) (main here) 0 in
-        let y : RightWeighing here r z reading (s .suspended) w = weighing-same (new-time e) (k .stretch-is) dec in
-        let m = moved-on new reading (w .suspended) e ∙ ap (λ b. at-report here s (k .point) (k .new .levels) reading b) (y .suspended-then) in
-        λ i. record { answer = y .answer i; state = m i }
+        (as-step (arrived here s (k .point) (k .new .levels) reading))
+    arrived-here new reading e w dec =
+        let u = outlook here (at-report (k .point) (k .new .levels)) in
+        let z : _≡_ {A = Outlook} (record { remaining = getD new (x .level) 0; stretch = str }) u = λ i. record { remaining = new-time e i; stretch = k .stretch-is i } in
+        let d : w ≡ weighing here u reading (s .others) = dec ∙ ap (λ y. weighing here y reading (s .others)) z in
+        let m = moved-on new reading (w .others) e ∙ ap (λ y. state-at-report here s (k .point) (k .new .levels) reading (y .others)) d in
+        λ i. record { answer = d i .answer; state = m i }
 
 -- THE REPORT
 
@@ -227,28 +228,37 @@ module _ {row turns tails stretches : List ℕ} {h : Head} (q : WholeTable row t
   fine = q .lent .rowed .head .accepted
 
   -- The column of stretches has the point's.
-  pub stretch-there : is-point (all-leaves (of .functions)) n ≡ true → (n < length stretches) × (n < 512) × (getD stretches n 0 ≡ stretch n (main of) 0)
+  pub stretch-there : is-point (all-leaves (of .functions)) n ≡ true → (n < length stretches) × (n < 512) × (getD stretches n 0 ≡ stretch M n (main of) 0)
   stretch-there e =
       let (x, y) = point-marked of fine n e in
       let z = ap length (q .stretches-are) ∙ stretches-size of in
       (omega (arith, x, z), omega (arith, x, fine .formed .few-leaves), ap (λ c. getD c n 0) (q .stretches-are) ∙ stretch-at of fine n e)
 
   module _ (t : ℕ) (ls : Levels) {r : Step} where
-    pub stranger : is-point (all-leaves (of .functions)) n ≡ false → r ≡ reply-of (refuse s 15) → r ≡ reply-of (running-call of s ls (report n t))
+    pub stranger : is-point (all-leaves (of .functions)) n ≡ false → r ≡ as-step (refuse s 15) → r ≡ as-step (reply of s (running-at s ls) (Report n t))
+    unfolding respond
     stranger e z = rw e z
 
-    pub backward : is-point (all-leaves (of .functions)) n ≡ true → t < s .reading → r ≡ reply-of (refuse s 16) → r ≡ reply-of (running-call of s ls (report n t))
+    pub backward : is-point (all-leaves (of .functions)) n ≡ true → t < s .reading → r ≡ as-step (refuse s 16) → r ≡ as-step (reply of s (running-at s ls) (Report n t))
+    unfolding respond
     backward e b z = rw (e, lt-ltb t (s .reading) b) z
 
-    pub onwards : is-point (all-leaves (of .functions)) n ≡ true → s .reading ≤ t → r ≡ reply-of (reported of s n t (next-levels of ls n)) → r ≡ reply-of (running-call of s ls (report n t))
-    onwards e b z = rw (e, le-ltb t (s .reading) b) z
+    pub astray : is-point (all-leaves (of .functions)) n ≡ true → s .reading ≤ t → next-levels of (place-of s ls) n ≡ none → r ≡ as-step (refuse s 17) →
+        r ≡ as-step (reply of s (running-at s ls) (Report n t))
+    unfolding respond
+    astray e b i z = rw (e, le-ltb t (s .reading) b, i) z
+
+    pub onwards : is-point (all-leaves (of .functions)) n ≡ true → s .reading ≤ t → (new : Levels) → next-levels of (place-of s ls) n ≡ some new →
+        r ≡ as-step (arrived of s n new t) → r ≡ as-step (reply of s (running-at s ls) (Report n t))
+    unfolding respond
+    onwards e b new i z = rw (e, le-ltb t (s .reading) b, i) z
 
   -- What comes next: nothing, or a new place.
-  module _ (ls : Levels) (x : Place) (f : Next row (main of) (next-levels of ls n) (s .leaves) (s .earlier) n (x .leaves) (x .earlier) (x .level)) where
-    pub none-next : x .level ≡ 0 → next-levels of ls n ≡ none
+  module _ (ls : Levels) (x : Place) (f : NextStack row (main of) (next-levels of (place-of s ls) n) (s .leaves) (s .earlier) n (x .leaves) (x .earlier) (x .level)) where
+    pub none-next : x .level ≡ 0 → next-levels of (place-of s ls) n ≡ none
     none-next e = elim f [ inl y ↦ y .1 | inr y ↦ absurd (omega (arith, y .least)) ]
 
-    pub some-next : (x .level ≡ 0 → ⊥) → Stacked row (main of) (next-levels of ls n) (s .leaves) (s .earlier) n (x .leaves) (x .earlier) (x .level)
+    pub some-next : (x .level ≡ 0 → ⊥) → Stacked row (main of) (next-levels of (place-of s ls) n) (s .leaves) (s .earlier) n (x .leaves) (x .earlier) (x .level)
     some-next e = elim f [ inl y ↦ absurd (e (y .0)) | inr y ↦ y ]
 
     abbrev pub arriving : is-point (all-leaves (of .functions)) n ≡ true → standing of s ≡ some ls → (x .level ≡ 0 → ⊥) → Arriving row turns tails h s x (getD stretches n 0)

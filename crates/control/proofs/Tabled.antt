@@ -6,7 +6,7 @@ use mathlib.Core.Path.{_≡_, ap, sym, _∙_}
 use Prim.Native.Nat.{ℕ, _+_, _<_}
 use native.Mathlib.Omega.{arith}
 use lib.ListN.{length, getD, length-append, length-map}
-use Rattle.model.specs.Plan.{Block, C, Lines, close, Plan, all-leaves}
+use Rattle.model.specs.Plan.{Block, C, Lines, close, Plan, all-leaves, M}
 use Rattle.model.specs.Forms.{main}
 use Rattle.model.specs.Total.{tally, tallies}
 use Rattle.model.specs.Stretch.{stretch}
@@ -15,16 +15,15 @@ use Rattle.model.specs.Controller.{is-point}
 use Rattle.model.proofs.Links.{plan-spans}
 use Rattle.model.proofs.Leaves.{row-range, spans-all-row}
 use Rattle.model.proofs.Blocks.{is-point-of, point-of-is}
-use Rattle.reader.specs.Records.{row-of, bounds-of}
+use Rattle.rows.specs.Records.{row-of, bounds-of}
 use Rattle.reader.specs.Raw.{padded}
 use Rattle.reader.proofs.Tasks.{length-padded, padded-same}
-use Rattle.rows.specs.Rows.{field}
-use Rattle.place.specs.Plans.{Laid, Filled}
+use Rattle.rows.specs.Rows.{point-at}
+use Rattle.rows.specs.Plans.{Plan-in}
+use Rattle.place.specs.Plans.{PlanColumns}
 use Rattle.place.proofs.Points.{mark-point, point-mark}
 use Rattle.table.specs.Table.{table-of, stretch-of, all-tails, all-turns}
-use Rattle.structure.proofs.Functions.{bound-le}
-use Rattle.structure.proofs.Callers.{plan-rep}
-use Rattle.structure.proofs.Theorems.{plan-leaves}
+use Rattle.rows.proofs.Plans.{plan-leaves}
 use Rattle.table.proofs.Bridge.{formed-plan}
 use Rattle.table.proofs.Written.{turns-size, tails-size, stretches-size}
 use Rattle.control.proofs.Columns.{holds-self, row-entry, priced-all, priced-same}
@@ -36,15 +35,10 @@ length-tallies k ts (l ∷ ls) = omega (arith, length-tallies k (ts ++ (tally k 
 
 module _ (p : Plan) (a : Accepted p) where
   -- The functions lie in the row between the bounds.
-  pub laid : Laid (row-of p) (padded 17 (bounds-of p)) p
+  pub laid : Plan-in (row-of p) (padded 17 (bounds-of p)) p
   laid =
       let q = formed-plan p (a .formed) .0 in
-      record {
-        fits = omega (arith, length-padded 17 (bounds-of p), a .formed .few-functions);
-        first = q .bounds .first;
-        each = λ f h. plan-rep q h;
-        room = λ f h. omega (arith, bound-le q h, q .bounds .held);
-      }
+      record { fits = omega (arith, length-padded 17 (bounds-of p), a .formed .few-functions); first = q .bounds .first; lie = q .lie; held = q .bounds .held }
 
   -- The last bound is the number of leaves.
   end-bound : getD (padded 17 (bounds-of p)) (length (p .functions)) 0 ≡ sizes (p .functions)
@@ -55,7 +49,7 @@ module _ (p : Plan) (a : Accepted p) where
   total-is : (f : ℕ) → getD (tallies C [] (p .functions)) f 0 ≡ getD (padded 16 (tallies C [] (p .functions))) f 0
   total-is f = sym (padded-same 16 (tallies C [] (p .functions)) f (omega (arith, length-tallies C [] (p .functions), a .formed .few-functions)))
 
-  pub filled : Filled p (table-of p .tails) (table-of p .turns) (padded 16 (tallies C [] (p .functions)))
+  pub filled : PlanColumns p (table-of p .tails) (table-of p .turns) (padded 16 (tallies C [] (p .functions)))
   filled =
       let ts = tallies C [] (p .functions) in
       let ls = p .functions in
@@ -70,10 +64,10 @@ module _ (p : Plan) (a : Accepted p) where
   -- POINTS
 
   -- A number is that of a point exactly where its record is there and is marked.
-  pub marked-point : (n : ℕ) → n < sizes (p .functions) → field (row-of p) n 1 ≡ 1 → is-point (all-leaves (p .functions)) n ≡ true
+  pub marked-point : (n : ℕ) → n < sizes (p .functions) → point-at (row-of p) n ≡ 1 → is-point (all-leaves (p .functions)) n ≡ true
   marked-point n h m = point-of-is p n (mark-point p a laid n (omega (arith, h, end-bound)) m)
 
-  pub point-marked : (n : ℕ) → is-point (all-leaves (p .functions)) n ≡ true → (n < sizes (p .functions)) × (field (row-of p) n 1 ≡ 1)
+  pub point-marked : (n : ℕ) → is-point (all-leaves (p .functions)) n ≡ true → (n < sizes (p .functions)) × (point-at (row-of p) n ≡ 1)
   point-marked n e =
       let (b, i, j, k) = is-point-of p n e in
       let r = row-range 0 (all-leaves (p .functions)) (spans-all-row (p .functions) 0 (plan-spans p (a .formed))) b i in
@@ -81,10 +75,10 @@ module _ (p : Plan) (a : Accepted p) where
       (h, point-mark p a laid n (omega (arith, h, end-bound)) (b, i, j, k))
 
   -- The stretch of a point stands at its number.
-  pub stretch-at : (n : ℕ) → is-point (all-leaves (p .functions)) n ≡ true → getD (table-of p .stretches) n 0 ≡ stretch n (main p) 0
+  pub stretch-at : (n : ℕ) → is-point (all-leaves (p .functions)) n ≡ true → getD (table-of p .stretches) n 0 ≡ stretch M n (main p) 0
   stretch-at n e =
       let (b, i, j, k) = is-point-of p n e in
       let ss = table-of p .stretches in
       let r = row-entry ss (stretch-of p) (all-leaves (p .functions)) 0 (spans-all-row (p .functions) 0 (plan-spans p (a .formed))) (holds-self ss) b i in
-      let s : stretch-of p b ≡ stretch (b .number) (main p) 0 = rw j in
-      ap (λ m. getD ss m 0) (sym k) ∙ (r ∙ (s ∙ ap (λ m. stretch m (main p) 0) k))
+      let s : stretch-of p b ≡ stretch M (b .number) (main p) 0 = rw j in
+      ap (λ m. getD ss m 0) (sym k) ∙ (r ∙ (s ∙ ap (λ m. stretch M m (main p) 0) k))

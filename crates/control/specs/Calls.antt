@@ -1,106 +1,84 @@
--- The calls on a table (01, 'Calls'): from the table, the state and the call alone, the answer and every later field of the state. The plan is read
--- off the table; all else is as the plan's runs have it.
+-- The calls on a table (01, 'Calls'): from the table, the state and the call alone, the answer and every later field of the state. The plan is read off the
+-- table, the place off the state, the controller over places answers, and the state that it leaves is written in numbers.
 -- Assumes nothing: these are definitions.
 use mathlib.Core.Bool.{Bool, true, false}
-use mathlib.Core.List.{List, [], _∷_}
+use mathlib.Core.List.{[], _∷_}
 use mathlib.Core.Option.{Option, none, some}
-use Prim.Native.Nat.{ℕ, _+_}
-use lib.Dec.{leb, ltb}
-use Rattle.model.specs.Plan.{C, Plan, all-leaves}
-use Rattle.model.specs.Forms.{main}
-use Rattle.model.specs.Total.{total}
-use Rattle.model.specs.Stretch.{silence, stretch}
-use Rattle.model.specs.Condition.{margin, holds}
-use Rattle.model.specs.Places.{pick, passes, can-end}
-use Rattle.model.specs.Stack.{Levels, whole, seek-at, onward-at}
-use Rattle.model.specs.Calls.{Call, release, report, end, Answer, refused, go, suspend, stay, resume, ended, Reply, Controller}
-use Rattle.model.specs.Controller.{is-point, late}
+use Prim.Native.Nat.{ℕ}
+use lib.Dec.{eqb}
+use lib.ListN.{getD}
+use Rattle.model.specs.Places.{pick}
+use Rattle.model.specs.Plan.{Plan}
+use Rattle.model.specs.Stack.{Levels}
+use Rattle.model.specs.declared.Call.{Call}
+use Rattle.model.specs.declared.Call.the-variants.{Release, Report, End}
+use Rattle.model.specs.declared.Answer.{Answer}
+use Rattle.model.specs.declared.Answer.the-variants.{Refused, Decided, Closed}
+use Rattle.model.specs.Calls.{Reply, Controller, refuse}
+use Rattle.model.specs.Decisions.{Place, at-release, at-report}
+use Rattle.model.specs.Controller as places
+use Rattle.model.specs.Controller.{idle, running, respond}
 use Rattle.table.specs.Table.{Table, plan-of}
 use Rattle.control.specs.declared.State.{State}
-use Rattle.control.specs.State.{fresh, standing, at-release, at-report}
+use Rattle.control.specs.declared.Step.{Step}
+use Rattle.control.specs.State.{fresh, standing, state-at-release, state-at-report}
 
--- A refusal gives the number, and the state keeps every value (01).
-abbrev pub refuse : State → ℕ → Reply State
-refuse s n = record { state = s; answer = refused n }
+-- The place of a state that stands at these levels: the release where none is open, else the report of the leaf kept for its level.
+abbrev pub place-of : State → Levels → Place
+place-of s [] = at-release
+place-of s (g ∷ ks) = at-report (getD (s .leaves) (s .level) 0) (g ∷ ks)
 
--- The answer of a decision and whether the others are suspended then: stay where they are suspended already; else go where the condition holds, and
--- suspend where it does not.
-abbrev pub word : Bool → Bool → Answer → Answer → Answer → Answer
-word true h stays goes suspends = stays
-word false true stays goes suspends = goes
-word false false stays goes suspends = suspends
+-- The state of the controller over places that the numbers stand for: idle, or running where they stand; none where they stand nowhere.
+abbrev pub running-at : State → Levels → places.State
+running-at s ls = running (place-of s ls) (s .reading) (s .others)
 
-abbrev pub decision : Plan → ℕ → ℕ → ℕ → Bool → Answer
-decision p remaining str t suspended =
-    let m = margin p remaining str t in
-    let l = late p t in
-    word suspended (holds p remaining str t) (stay remaining m l) (go remaining m l) (suspend remaining m l)
+abbrev pub found-at : State → Option Levels → Option places.State
+found-at s none = none
+found-at s (some ls) = some (running-at s ls)
 
-abbrev pub suspended-after : Plan → ℕ → ℕ → ℕ → Bool → Bool
-suspended-after p remaining str t true = true
-suspended-after p remaining str t false = pick (holds p remaining str t) false true
+abbrev pub read-state : Plan → State → Bool → Option places.State
+read-state p s true = found-at s (standing p s)
+read-state p s false = some idle
 
--- Release where no release is open: 13, or the decision.
-abbrev pub released : Plan → State → Reply State
-released p s =
-    let r = total C (main p) in
-    let str = silence (main p) 0 in
-    pick (leb (r + p .switch) (p .deadline)) (record { state = at-release p (suspended-after p r str 0 false); answer = decision p r str 0 false }) (refuse s 13)
+-- The state that it leaves, in numbers, where s was before.
+abbrev pub written : Plan → State → places.State → State
+written p s idle = fresh
+written p s (running at-release t others) = state-at-release p t others
+written p s (running (at-report n ls) t others) = state-at-report p s n ls t others
 
--- The levels at the report of n next behind these.
-abbrev pub next-levels : Plan → Levels → ℕ → Option Levels
-next-levels p [] n = seek-at (main p) [] n
-next-levels p (g ∷ ks) n = onward-at (g ∷ ks) n
+-- A refused call keeps every value of the state.
+abbrev pub left : Plan → State → places.State → Answer → State
+left p s x (Refused n) = s
+left p s x (Decided w r m late) = written p s x
+left p s x (Closed e late) = written p s x
 
--- Report of a point in order: 17, or the decision.
-abbrev pub reported : Plan → State → ℕ → ℕ → Option Levels → Reply State
-reported p s n t none = refuse s 17
-reported p s n t (some ls) =
-    let r = total C (whole ls) in
-    let str = stretch n (main p) 0 in
-    record {
-      state = at-report p s n ls t (suspended-after p r str t (s .suspended));
-      answer = decision p r str t (s .suspended);
-    }
+abbrev pub in-numbers : Plan → State → Reply places.State → Reply State
+in-numbers p s r = record { state = left p s (r .state) (r .answer); answer = r .answer }
 
--- Whether a run can end at these levels.
-abbrev pub may-end : Plan → Levels → Bool
-may-end p [] = passes (main p)
-may-end p (g ∷ ks) = can-end (whole (g ∷ ks))
+-- The reply to a call where the state stands for x.
+abbrev pub reply : Plan → State → places.State → Call → Reply State
+reply p s x c = in-numbers p s (respond p x c)
 
--- The end: resume if the others were suspended, ended if not, with the late mark; the state is fresh again.
-abbrev pub closed : Plan → State → ℕ → Reply State
-closed p s t = record { state = fresh; answer = pick (s .suspended) (resume (late p t)) (ended (late p t)) }
-
--- A call on a running state that stands at the levels ls: 12; 15, 16, 17; 16, 17.
-abbrev pub running-call : Plan → State → Levels → Call → Reply State
-running-call p s ls release = refuse s 12
-running-call p s ls (report n t) =
-    pick (is-point (all-leaves (p .functions)) n) (pick (ltb t (s .reading)) (refuse s 16) (reported p s n t (next-levels p ls n))) (refuse s 15)
-running-call p s ls (end t) = pick (ltb t (s .reading)) (refuse s 16) (pick (may-end p ls) (closed p s t) (refuse s 17))
-
--- A call on an idle state: 13; 14; 14.
-abbrev pub idle-call : Plan → State → Call → Reply State
-idle-call p s release = released p s
-idle-call p s (report n t) = refuse s 14
-idle-call p s (end t) = refuse s 14
-
-abbrev pub at-levels : Plan → State → Call → Option Levels → Reply State
-at-levels p s c none = refuse s 11
-at-levels p s c (some ls) = running-call p s ls c
-
-abbrev pub by-phase : Plan → State → Call → Bool → Reply State
-by-phase p s c true = at-levels p s c (standing p s)
-by-phase p s c false = idle-call p s c
+abbrev pub on-state : Plan → State → Call → Option places.State → Reply State
+on-state p s c none = refuse s 11
+on-state p s c (some x) = reply p s x c
 
 abbrev pub on-plan : State → Call → Option Plan → Reply State
 on-plan s c none = refuse s 11
-on-plan s c (some p) = by-phase p s c (s .running)
+on-plan s c (some p) = on-state p s c (read-state p s (s .running))
 
--- A call on a table: 11 first, then by whether a release is open.
+-- A call on a table: 11 where the table is that of no accepted plan, or the state stands nowhere.
 unfoldable pub call-on : Table → State → Call → Reply State
 call-on t s c = on-plan s c (plan-of t)
+
+-- What the code returns: the answer, and the state afterwards.
+abbrev pub as-step : Reply State → Step
+as-step r = record { answer = r .answer; state = r .state }
 
 -- The controller of a table.
 abbrev pub controller-of : Table → Controller State
 controller-of t = record { fresh = fresh; respond = call-on t }
+
+-- The call of a number: 0 release, 1 report, else end.
+abbrev pub call-of : ℕ → ℕ → ℕ → Call
+call-of k point reading = pick (eqb k 0) Release (pick (eqb k 1) (Report point reading) (End reading))

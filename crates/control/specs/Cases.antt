@@ -8,7 +8,11 @@ use Prim.Native.Nat.{ℕ}
 use lib.IntN.{pos, negsuc}
 use Rattle.model.specs.Plan.{Plan}
 use Rattle.model.specs.Acceptance.{Accepted}
-use Rattle.model.specs.Calls.{release, report, end, Answer, refused, go, suspend, stay, resume, ended}
+use Rattle.model.specs.declared.Call.the-variants.{Release, Report, End}
+use Rattle.model.specs.declared.Word.the-variants.{Go, Suspend, Stay}
+use Rattle.model.specs.declared.Ending.the-variants.{Resume, Ended}
+use Rattle.model.specs.declared.Answer.{Answer}
+use Rattle.model.specs.declared.Answer.the-variants.{Refused, Decided, Closed}
 use Rattle.model.specs.Histories.{Exchange, _gets_, Answered}
 use Rattle.model.specs.Worked.{plan-A, plan-B, smallest}
 use Rattle.table.specs.Table.{table-of}
@@ -33,47 +37,47 @@ on-B xs = record { plan = plan-B; total = 15; max-total = 19; stretches = 4 ∷ 
 
 -- The release of the smallest plan with this D: remaining 7, stretch 9, T 3.
 abbrev pub on-smallest : ℕ → Answer → Case
-on-smallest D a = record { plan = smallest D; total = 7; max-total = 9; stretches = 0 ∷ []; exchanges = (release gets a) ∷ [] }
+on-smallest D a = record { plan = smallest D; total = 7; max-total = 9; stretches = 0 ∷ []; exchanges = (Release gets a) ∷ [] }
 
 -- The worst case of plan A (m3): visit 3 of the loop at 57 has margin −5 and suspends; the worst run then reports visit 4 at 57 + 4 + 2 + 10 and ends at
 -- 57 + 4 + 20 = 81.
 unfoldable pub worst-of-A : List Exchange
 worst-of-A =
-    (release gets go 49 (pos 47) false) ∷ (report 0 0 gets go 49 (pos 38) false) ∷ (report 1 9 gets go 44 (pos 19) false) ∷
-    (report 1 33 gets go 32 (pos 7) false) ∷ (report 1 57 gets suspend 20 (negsuc 4) false) ∷ (report 1 73 gets stay 8 (negsuc 8) false) ∷
-    (end 81 gets resume false) ∷ []
+    (Release gets Decided Go 49 (pos 47) false) ∷ (Report 0 0 gets Decided Go 49 (pos 38) false) ∷ (Report 1 9 gets Decided Go 44 (pos 19) false) ∷
+    (Report 1 33 gets Decided Go 32 (pos 7) false) ∷ (Report 1 57 gets Decided Suspend 20 (negsuc 4) false) ∷ (Report 1 73 gets Decided Stay 8 (negsuc 8) false) ∷
+    (End 81 gets Closed Resume false) ∷ []
 
 unfoldable pub cases : List Case
 cases =
     -- m1: remaining at the loop's visits 1 to 4 is 44, 32, 20, 8; m4: a fifth visit gives 17; m5: visit 4 at 64 goes on
-    on-A ((release gets go 49 (pos 47) false) ∷ (report 0 0 gets go 49 (pos 38) false) ∷ (report 1 9 gets go 44 (pos 19) false) ∷
-    (report 1 33 gets go 32 (pos 7) false) ∷ (report 1 50 gets go 20 (pos 2) false) ∷ (report 1 64 gets go 8 (pos 0) false) ∷ (report 1 64 gets refused 17) ∷ []) ∷
+    on-A ((Release gets Decided Go 49 (pos 47) false) ∷ (Report 0 0 gets Decided Go 49 (pos 38) false) ∷ (Report 1 9 gets Decided Go 44 (pos 19) false) ∷
+    (Report 1 33 gets Decided Go 32 (pos 7) false) ∷ (Report 1 50 gets Decided Go 20 (pos 2) false) ∷ (Report 1 64 gets Decided Go 8 (pos 0) false) ∷ (Report 1 64 gets Refused 17) ∷ []) ∷
     -- m2: visit 1 goes on at reading 28, and suspends at 29
-    on-A ((release gets go 49 (pos 47) false) ∷ (report 0 0 gets go 49 (pos 38) false) ∷ (report 1 28 gets go 44 (pos 0) false) ∷ []) ∷
-    on-A ((release gets go 49 (pos 47) false) ∷ (report 0 0 gets go 49 (pos 38) false) ∷ (report 1 29 gets suspend 44 (negsuc 0) false) ∷ []) ∷
+    on-A ((Release gets Decided Go 49 (pos 47) false) ∷ (Report 0 0 gets Decided Go 49 (pos 38) false) ∷ (Report 1 28 gets Decided Go 44 (pos 0) false) ∷ []) ∷
+    on-A ((Release gets Decided Go 49 (pos 47) false) ∷ (Report 0 0 gets Decided Go 49 (pos 38) false) ∷ (Report 1 29 gets Decided Suspend 44 (negsuc 0) false) ∷ []) ∷
     -- m3
     on-A worst-of-A ∷
     -- m5: visit 4 at 65 does not go on
-    on-A ((release gets go 49 (pos 47) false) ∷ (report 0 0 gets go 49 (pos 38) false) ∷ (report 1 9 gets go 44 (pos 19) false) ∷
-    (report 1 33 gets go 32 (pos 7) false) ∷ (report 1 50 gets go 20 (pos 2) false) ∷ (report 1 65 gets suspend 8 (negsuc 0) false) ∷ []) ∷
+    on-A ((Release gets Decided Go 49 (pos 47) false) ∷ (Report 0 0 gets Decided Go 49 (pos 38) false) ∷ (Report 1 9 gets Decided Go 44 (pos 19) false) ∷
+    (Report 1 33 gets Decided Go 32 (pos 7) false) ∷ (Report 1 50 gets Decided Go 20 (pos 2) false) ∷ (Report 1 65 gets Decided Suspend 8 (negsuc 0) false) ∷ []) ∷
     -- m8: reports 1, 4, 0, end are accepted (the margin at point 1 is 200 − 15 − 13 − 5); m9: after 1, 4, 0 remaining is 3
-    on-B ((release gets go 15 (pos 180) false) ∷ (report 1 0 gets go 15 (pos 167) false) ∷ (report 4 0 gets go 4 (pos 189) false) ∷
-    (report 0 0 gets go 3 (pos 188) false) ∷ (end 9 gets ended false) ∷ []) ∷
+    on-B ((Release gets Decided Go 15 (pos 180) false) ∷ (Report 1 0 gets Decided Go 15 (pos 167) false) ∷ (Report 4 0 gets Decided Go 4 (pos 189) false) ∷
+    (Report 0 0 gets Decided Go 3 (pos 188) false) ∷ (End 9 gets Closed Ended false) ∷ []) ∷
     -- m8: 1, 0 gives 17; m9: after 1, 2, 0 remaining is 7
-    on-B ((release gets go 15 (pos 180) false) ∷ (report 1 0 gets go 15 (pos 167) false) ∷ (report 0 0 gets refused 17) ∷
-    (report 2 0 gets go 8 (pos 185) false) ∷ (report 0 0 gets go 7 (pos 184) false) ∷ []) ∷
+    on-B ((Release gets Decided Go 15 (pos 180) false) ∷ (Report 1 0 gets Decided Go 15 (pos 167) false) ∷ (Report 0 0 gets Refused 17) ∷
+    (Report 2 0 gets Decided Go 8 (pos 185) false) ∷ (Report 0 0 gets Decided Go 7 (pos 184) false) ∷ []) ∷
     -- m10: D 9, release gives 13; m11: D 10 and D 18, suspend; m12: D 19, go
-    on-smallest 9 (refused 13) ∷ on-smallest 10 (suspend 7 (negsuc 8) false) ∷ on-smallest 18 (suspend 7 (negsuc 0) false) ∷
-    on-smallest 19 (go 7 (pos 0) false) ∷ []
+    on-smallest 9 (Refused 13) ∷ on-smallest 10 (Decided Suspend 7 (negsuc 8) false) ∷ on-smallest 18 (Decided Suspend 7 (negsuc 0) false) ∷
+    on-smallest 19 (Decided Go 7 (pos 0) false) ∷ []
 
 -- A case holds: its plan is accepted, its table has these totals and stretches, and the calls on it answer so.
-pub record Right (c : Case) : Type 0 where
+pub record CaseHolds (c : Case) : Type 0 where
   pub accepted : Accepted (c .plan)
   pub total-is : table-of (c .plan) .head .total ≡ c .total
-  pub max-total-is : table-of (c .plan) .head .loaded ≡ c .max-total
+  pub max-total-is : table-of (c .plan) .head .«max_load_total» ≡ c .max-total
   pub stretches-are : table-of (c .plan) .stretches ≡ c .stretches
   pub answered : Answered (controller-of (table-of (c .plan))) fresh (c .exchanges)
 
-unfoldable pub AllRight : List Case → Type 0
-AllRight [] = Unit
-AllRight (c ∷ cs) = Right c × AllRight cs
+unfoldable pub CasesHold : List Case → Type 0
+CasesHold [] = Unit
+CasesHold (c ∷ cs) = CaseHolds c × CasesHold cs

@@ -1,6 +1,5 @@
 pub mod State
 pub mod Calls
-pub mod Answers
-pub mod Lent
+pub mod Private
 pub mod Meaning
 pub mod Cases

@@ -1,21 +1,15 @@
--- What good states and decisions mean, over runs of the plan (01: refusal 11; demand 2).
+-- What good states mean, over runs of the plan (01: refusal 11).
 -- Assumes nothing: these are definitions.
-use mathlib.Core.Bool.{false}
-use mathlib.Core.List.{List, [], _∷_, _++_}
+use mathlib.Core.List.{List, []}
 use mathlib.Core.Path.{_≡_}
 use Prim.Native.Nat.{ℕ, _≤_}
 use lib.ListN.{length, getD}
 use Rattle.model.specs.Plan.{Plan}
 use Rattle.model.specs.Forms.{main}
 use Rattle.model.specs.Total.{Total}
-use Rattle.model.specs.Remaining.{Remaining}
-use Rattle.model.specs.Stretch.{Stretch, ReleaseStretch}
 use Rattle.model.specs.Levels.{Standing, so-far, history, Times, stack}
-use Rattle.model.specs.Calls.{release, report}
-use Rattle.table.specs.Table.{table-of}
 use Rattle.control.specs.declared.State.{State}
 use Rattle.control.specs.State.{stack-of}
-use Rattle.control.specs.Calls.{decision, suspended-after, call-on}
 
 -- Where a running state stands: at the release, with its times; or where a run of the plan stands, with that run's times.
 pub data StandsSomewhere (p : Plan) (s : State) : Type 0 where
@@ -28,21 +22,3 @@ pub record HistoryState (p : Plan) (s : State) (h : List ℕ) : Type 0 where
   pub history-is : history run ≡ h
   pub stack-is : stack [] (so-far run) ≡ stack-of s
   pub times-are : Times run (s .times)
-
--- An accepted release answers with the total and the release's stretch.
-pub record DecidesRelease (p : Plan) (s : State) : Type 0 where
-  pub remaining : ℕ
-  pub str : ℕ
-  pub is-remaining : Total (main p) remaining
-  pub is-stretch : ReleaseStretch (main p) str
-  pub answer-is : call-on (table-of p) s release .answer ≡ decision p remaining str 0 false
-  pub suspended-is : call-on (table-of p) s release .state .suspended ≡ suspended-after p remaining str 0 false
-
--- An accepted report answers with the remaining of the history and the stretch of the point.
-pub record DecidesReport (p : Plan) (s : State) (h : List ℕ) (n t : ℕ) : Type 0 where
-  pub remaining : ℕ
-  pub str : ℕ
-  pub is-remaining : Remaining (main p) (h ++ (n ∷ [])) remaining
-  pub is-stretch : Stretch (main p) n str
-  pub answer-is : call-on (table-of p) s (report n t) .answer ≡ decision p remaining str t (s .suspended)
-  pub suspended-is : call-on (table-of p) s (report n t) .state .suspended ≡ suspended-after p remaining str t (s .suspended)

@@ -10,6 +10,8 @@ use Rattle.model.specs.Forms.{main}
 use Rattle.model.specs.Levels.{Frame, framed}
 use Rattle.model.specs.Places.{pick}
 use Rattle.model.specs.Stack.{Levels, decode, times}
+use Rattle.model.specs.declared.Others.{Others}
+use Rattle.model.specs.declared.Others.the-variants.{Running}
 use Rattle.model.specs.Controller.{is-point}
 use Rattle.place.specs.Stack.{frames}
 use Rattle.table.specs.Table.{same-numbers}
@@ -17,15 +19,8 @@ use Rattle.control.specs.declared.State.{State}
 
 -- A fresh state is idle, every number in it 0 (01).
 abbrev pub fresh : State
-fresh = record {
-  running = false;
-  suspended = false;
-  reading = 0;
-  level = 0;
-  leaves = replicate 33 0;
-  earlier = replicate 33 0;
-  times = replicate 33 0;
-}
+fresh =
+    record { running = false; others = Running; reading = 0; level = 0; leaves = replicate 33 0; earlier = replicate 33 0; times = replicate 33 0 }
 
 -- The state's stack: for each level from 1 up to its own, the leaf reported last there, and its earlier visits there.
 abbrev pub stack-of : State → List Frame
@@ -53,24 +48,17 @@ standing p s = timed p s (levels-of p (stack-of s))
 abbrev pub put : List ℕ → ℕ → ℕ → List ℕ
 put a l v = take l a ++ (v ∷ replicate (32 - l) 0)
 
--- The state at a release, and at the report of n at the levels ls with this reading.
-abbrev pub at-release : Plan → Bool → State
-at-release p suspended = record {
-  running = true;
-  suspended = suspended;
-  reading = 0;
-  level = 0;
-  leaves = replicate 33 0;
-  earlier = replicate 33 0;
-  times = times (main p) [];
-}
+-- The state at a release, and at the report of n at the levels ls, with this reading and the others doing this.
+abbrev pub state-at-release : Plan → ℕ → Others → State
+state-at-release p reading others =
+    record { running = true; others = others; reading = reading; level = 0; leaves = replicate 33 0; earlier = replicate 33 0; times = times (main p) [] }
 
-abbrev pub at-report : Plan → State → ℕ → Levels → ℕ → Bool → State
-at-report p s n ls reading suspended =
+abbrev pub state-at-report : Plan → State → ℕ → Levels → ℕ → Others → State
+state-at-report p s n ls reading others =
     let l = length ls in
     record {
       running = true;
-      suspended = suspended;
+      others = others;
       reading = reading;
       level = l;
       leaves = put (s .leaves) l n;

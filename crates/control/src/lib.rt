@@ -3,17 +3,26 @@ ghost use mathlib.Core.Path.{_≡_};
 ghost use mathlib.Core.Option.{some};
 ghost use Prim.Native.Nat.{_+_, _-_, _*_, _^_, _≤_};
 ghost use lib.ListN.{length};
+ghost use lib.Signed.{nonNeg};
 ghost use Rattle.model.specs.Forms.{main};
 ghost use Rattle.model.specs.Stack.{Levels};
-ghost use Rattle.model.specs.Calls.{release, report, end};
-ghost use Rattle.rows.specs.Rows.{field};
-ghost use Rattle.control.specs.Answers.{reply-of};
-ghost use Rattle.control.specs.Calls.{refuse, released, next-levels, reported, may-end, running-call, call-on};
+ghost use Rattle.model.specs.declared.Call.the-variants.{Release, Report, End};
+ghost use Rattle.model.specs.Calls.{others-by-word, refuse};
+ghost use Rattle.model.specs.Decisions.{margin, word};
+ghost use Rattle.model.specs.Controller.{idle, next-levels, can-close, ending};
+ghost use Rattle.rows.specs.Rows.{point-at};
 ghost use Rattle.rows.specs.Answers.{Says};
-ghost use Rattle.place.specs.Stack.{Next};
+ghost use Rattle.place.specs.Stack.{NextStack};
 ghost use Rattle.table.specs.Table.{table-at};
 ghost use Rattle.control.specs.State.{fresh, standing};
-ghost use Rattle.control.specs.Lent.{weighed, opened, Headed, RightWeighing, Rowed, Lent, WholeTable, spot, GoodState, GoodOnRow, GoodOnTable, Arriving};
+ghost use Rattle.control.specs.Calls.{place-of, running-at, reply, call-on, as-step, call-of};
+ghost use Rattle.control.specs.Private.{terms, weighing, opened, arrived, Headed, Rowed, Lent, WholeTable, spot, GoodState, GoodOnRow, GoodOnTable, Arriving};
+use model::Answer;
+use model::Call;
+use model::Ending;
+use model::Others;
+use model::Outlook;
+use model::Word;
 use place::Place;
 use place::can_end;
 use place::first_end;
@@ -23,30 +32,22 @@ use place::next_times;
 use place::place_ok;
 use place::times_ok;
 use place::zero_above;
+use rows::POINT;
+use rows::STRIDE;
 use table::Head;
 use table::check;
 
-// The running state: whether a release is open, whether the others are suspended, the last accepted reading, the level of the last point (0: none was
+// The running state: whether a release is open, what the others do, the last accepted reading, the level of the last point (0: none was
 // reported), for each level the leaf reported last there and its earlier visits, and the remaining time kept for each level. A fresh state is all
 // zeros.
 pub struct State {
     pub running: bool,
-    pub suspended: bool,
+    pub others: Others,
     pub reading: u64,
     pub level: u64,
     pub leaves: [u64; 33],
     pub earlier: [u64; 33],
     pub times: [u64; 33],
-}
-
-// What a call answers: a refusal's number; for release and report the remaining time, the margin and the late mark; for the end the late mark.
-pub enum Answer {
-    Refused(u64),
-    Go(u64, i64, bool),
-    Suspend(u64, i64, bool),
-    Stay(u64, i64, bool),
-    Resume(bool),
-    Ended(bool),
 }
 
 // The answer of a call, and the state afterwards.
@@ -55,10 +56,10 @@ pub struct Step {
     pub state: State,
 }
 
-// A decision: its answer, and whether the others are suspended then.
+// A decision: its answer, and what the others do then.
 struct Weighing {
     answer: Answer,
-    suspended: bool,
+    others: Others,
 }
 
 // Refusals by their numbers: the table is that of no accepted plan, or the running state stands nowhere.
@@ -82,12 +83,6 @@ const BACKWARD: u64 = 16;
 // No run has these reports in this order.
 const ASTRAY: u64 = 17;
 
-// The numbers of a record.
-const STRIDE: usize = 8;
-
-// Field of a record: whether it is a point.
-const POINT: usize = 1;
-
 // 2^62: a margin is held at its negative.
 const FLOOR: u64 = 4611686018427387904;
 
@@ -97,7 +92,7 @@ pub fn fresh() -> State
 {
     State {
         running: false,
-        suspended: false,
+        others: Others::Running,
         reading: 0,
         level: 0,
         leaves: [0; 33],
@@ -114,18 +109,18 @@ fn less(a: u64, b: u64) -> u64
 }
 
 // The margin, held at -2^62: what is left of D and 2^62 together, less 2^62.
-fn margin_of(deadline: u64, switch: u64, remaining: u64, stretch: u64, reading: u64) -> i64
+fn margin_of(deadline: u64, switch: u64, outlook: Outlook, reading: u64) -> i64
     requires { ⌜ deadline ≤ 2 ^ 40 ⌝ }
-    ensures { λ r. ⌜ r ≡ weighed deadline (remaining + stretch + switch + reading) ⌝ }
+    ensures { λ r. ⌜ r ≡ margin (terms deadline switch) outlook reading ⌝ }
 {
-    let costs = less(less(deadline + FLOOR, remaining), stretch);
+    let costs = less(less(deadline + FLOOR, outlook.remaining), outlook.stretch);
     let left = less(less(costs, switch), reading);
     left as i64 - FLOOR as i64
 }
 
 // A refused call: the state keeps every value.
 fn refusal(state: State, number: u64) -> Step
-    ensures { λ r. ⌜ r ≡ reply-of (refuse state number) ⌝ }
+    ensures { λ r. ⌜ r ≡ as-step (refuse state number) ⌝ }
 {
     Step {
         answer: Answer::Refused(number),
@@ -133,41 +128,50 @@ fn refusal(state: State, number: u64) -> Step
     }
 }
 
-// A decision: stay where the others are suspended already; else suspend where the margin is below 0, and go where it is not.
-fn weigh(head: Head, remaining: u64, stretch: u64, reading: u64, suspended: bool) -> Weighing
-    requires { ⌜ Headed head ⌝ }
-    ensures { λ r. ⌜ ((q : Headed head) → RightWeighing (q .plan) remaining stretch reading suspended r) ⌝ }
+// The word of a decision: stay where the others are suspended already; else suspend where the margin is below 0, and go where it is not.
+fn word_of(margin: i64, others: Others) -> Word
+    ensures { λ r. ⌜ r ≡ word (nonNeg margin) others ⌝ }
 {
-    let deadline = head.deadline;
-    let margin = margin_of(deadline, head.switch, remaining, stretch, reading);
-    let late = deadline < reading;
-    if suspended {
-        return Weighing {
-            answer: Answer::Stay(remaining, margin, late),
-            suspended: true,
-        };
+    match others {
+        Others::Suspended => Word::Stay,
+        Others::Running => if margin < 0 { Word::Suspend } else { Word::Go },
     }
-    if margin < 0 {
-        return Weighing {
-            answer: Answer::Suspend(remaining, margin, late),
-            suspended: true,
-        };
+}
+
+// What the others do behind a decision with this word.
+fn others_by(word: Word, others: Others) -> Others
+    ensures { λ r. ⌜ r ≡ others-by-word word others ⌝ }
+{
+    match word {
+        Word::Go => others,
+        Word::Suspend => Others::Suspended,
+        Word::Stay => others,
     }
+}
+
+// A decision: its answer, and what the others do then.
+fn weigh(head: Head, outlook: Outlook, reading: u64, others: Others) -> Weighing
+    requires { ⌜ Headed head ⌝ }
+    ensures { λ r. ⌜ ((q : Headed head) → r ≡ weighing (q .plan) outlook reading others) ⌝ }
+{
+    let margin = margin_of(head.deadline, head.switch, outlook, reading);
+    let late = head.deadline < reading;
+    let word = word_of(margin, others);
     Weighing {
-        answer: Answer::Go(remaining, margin, late),
-        suspended: false,
+        answer: Answer::Decided(word, outlook.remaining, margin, late),
+        others: others_by(word, others),
     }
 }
 
 // The state that an accepted release leaves.
-fn open_at(total: u64, suspended: bool) -> State
-    ensures { λ r. ⌜ r ≡ opened total suspended ⌝ }
+fn open_at(total: u64, others: Others) -> State
+    ensures { λ r. ⌜ r ≡ opened total others ⌝ }
 {
     let mut times = [0; 33];
     times[0] = total;
     State {
         running: true,
-        suspended: suspended,
+        others: others,
         reading: 0,
         level: 0,
         leaves: [0; 33],
@@ -179,15 +183,20 @@ fn open_at(total: u64, suspended: bool) -> State
 // A release where none is open: 13, or the decision.
 fn start(head: Head, state: State) -> Step
     requires { ⌜ Headed head ⌝ }
-    ensures { λ r. ⌜ ((q : Headed head) → r ≡ reply-of (released (q .plan) state)) ⌝ }
+    ensures { λ r. ⌜ ((q : Headed head) → r ≡ as-step (reply (q .plan) state idle Release)) ⌝ }
 {
     let total = head.total;
     if head.deadline < total + head.switch {
         return refusal(state, UNFIT);
     }
-    let w = weigh(head, total, head.stretch, 0, false);
+    let outlook = Outlook {
+        remaining: total,
+        stretch: head.stretch,
+    };
+    let w = weigh(head, outlook, 0, Others::Running);
     let answer = w.answer;
-    let after = open_at(total, w.suspended);
+    let others = w.others;
+    let after = open_at(total, others);
     Step {
         answer: answer,
         state: after,
@@ -195,7 +204,7 @@ fn start(head: Head, state: State) -> Step
 }
 
 // Where a running state stands, as crate `place` has it.
-fn place_of(state: State) -> Place
+fn spot_of(state: State) -> Place
     ensures { λ r. ⌜ r ≡ spot state ⌝ }
 {
     let leaves = state.leaves;
@@ -219,7 +228,7 @@ fn stands(row: &[u64], turns: &[u64], tails: &[u64], head: Head, state: State) -
         }
         return zero_above(times, 0);
     }
-    let place = place_of(state);
+    let place = spot_of(state);
     let bounds = head.bounds;
     let totals = head.totals;
     let n = head.functions;
@@ -234,7 +243,7 @@ fn stands(row: &[u64], turns: &[u64], tails: &[u64], head: Head, state: State) -
 
 // Whether the record of this number is there and is a point's.
 fn is_point(row: &[u64], number: u64) -> bool
-    ensures { λ r. ⌜ Says r ((number * 8 + 8 ≤ length (now (row .entry))) × (field (now (row .entry)) number 1 ≡ 1)) ⌝ }
+    ensures { λ r. ⌜ Says r ((number * 8 + 8 ≤ length (now (row .entry))) × (point-at (now (row .entry)) number ≡ 1)) ⌝ }
 {
     let x = number as usize;
     if row.len() / STRIDE <= x {
@@ -249,10 +258,10 @@ fn is_point(row: &[u64], number: u64) -> bool
 
 // The place of a good state when the point x is reported next; where x cannot come next, level 0 and zeros in both arrays.
 fn next(row: &[u64], head: Head, state: State, x: usize) -> Place
-    requires { ⌜ field (now row) x 1 ≡ 1 ⌝ }
+    requires { ⌜ point-at (now row) x ≡ 1 ⌝ }
     requires { ⌜ GoodOnRow (now row) head state ⌝ }
     ensures { λ r. ⌜ ((q : Rowed (now (row .entry)) head) (ls : Levels) → standing (q .head .plan) state ≡ some ls
-        → Next (now (row .entry)) (main (q .head .plan)) (next-levels (q .head .plan) ls x) (state .leaves) (state .earlier) x (r .leaves) (r .earlier) (r .level)) ⌝ }
+        → NextStack (now (row .entry)) (main (q .head .plan)) (next-levels (q .head .plan) (place-of state ls) x) (state .leaves) (state .earlier) x (r .leaves) (r .earlier) (r .level)) ⌝ }
 {
     let bounds = head.bounds;
     let n = head.functions;
@@ -261,7 +270,7 @@ fn next(row: &[u64], head: Head, state: State, x: usize) -> Place
         let earlier = state.earlier;
         return first_place(row, &bounds, n, leaves, earlier, x);
     }
-    let place = place_of(state);
+    let place = spot_of(state);
     next_place(row, &bounds, n, place, x)
 }
 
@@ -278,20 +287,25 @@ fn arrive(
 ) -> Step
     requires { ⌜ Arriving (now row) (now turns) (now tails) head state place stretch ⌝ }
     ensures { λ r. ⌜ ((k : Arriving (now (row .entry)) (now (turns .entry)) (now (tails .entry)) head state place stretch)
-        → r ≡ reply-of (reported (k .lent .rowed .head .plan) state (k .point) reading (some (k .new .levels)))) ⌝ }
+        → r ≡ as-step (arrived (k .lent .rowed .head .plan) state (k .point) (k .new .levels) reading)) ⌝ }
 {
     let totals = head.totals;
     let level = place.level;
     let old = state.times;
     let times = next_times(row, tails, turns, &totals, place, old);
-    let remaining = times[level];
-    let w = weigh(head, remaining, stretch, reading, state.suspended);
+    let outlook = Outlook {
+        remaining: times[level],
+        stretch: stretch,
+    };
+    let before = state.others;
+    let w = weigh(head, outlook, reading, before);
     let answer = w.answer;
+    let others = w.others;
     let leaves = place.leaves;
     let earlier = place.earlier;
     let moved = State {
         running: true,
-        suspended: w.suspended,
+        others: others,
         reading: reading,
         level: level as u64,
         leaves: leaves,
@@ -317,7 +331,7 @@ fn reported_at(
 ) -> Step
     requires { ⌜ GoodOnTable (now row) (now turns) (now tails) (now stretches) head state ⌝ }
     ensures { λ r. ⌜ ((q : WholeTable (now (row .entry)) (now (turns .entry)) (now (tails .entry)) (now (stretches .entry)) head) (ls : Levels)
-        → standing (q .lent .rowed .head .plan) state ≡ some ls → r ≡ reply-of (running-call (q .lent .rowed .head .plan) state ls (report point reading))) ⌝ }
+        → standing (q .lent .rowed .head .plan) state ≡ some ls → r ≡ as-step (reply (q .lent .rowed .head .plan) state (running-at state ls) (Report point reading))) ⌝ }
 {
     if !is_point(row, point) {
         return refusal(state, STRANGER);
@@ -333,86 +347,35 @@ fn reported_at(
     arrive(row, turns, tails, head, state, place, stretches[x], reading)
 }
 
-// Release: 11, 12, 13, or the decision at the release.
-pub fn release(
-    row: &[u64],
-    turns: &[u64],
-    tails: &[u64],
-    stretches: &[u64],
-    head: Head,
-    state: State,
-) -> Step
-    ensures { λ r. ⌜ r ≡ reply-of (call-on (table-at (now (row .entry)) (now (turns .entry)) (now (tails .entry)) (now (stretches .entry)) head) state release) ⌝ }
-{
-    if !check(row, turns, tails, stretches, head) {
-        return refusal(state, BROKEN);
-    }
-    if !state.running {
-        return start(head, state);
-    }
-    let n = head.leaves;
-    let size = n * STRIDE;
-    if stands(&row[..size], &turns[..n], &tails[..n], head, state) {
-        return refusal(state, BUSY);
-    }
-    refusal(state, BROKEN)
-}
-
-// Report of a point with a reading: 11, 14, 15, 16, 17, or the decision at the report.
-pub fn report(
-    row: &[u64],
-    turns: &[u64],
-    tails: &[u64],
-    stretches: &[u64],
-    head: Head,
-    state: State,
-    point: u64,
-    reading: u64,
-) -> Step
-    ensures { λ r. ⌜ r ≡ reply-of (call-on (table-at (now (row .entry)) (now (turns .entry)) (now (tails .entry)) (now (stretches .entry)) head) state (report point reading)) ⌝ }
-{
-    if !check(row, turns, tails, stretches, head) {
-        return refusal(state, BROKEN);
-    }
-    if !state.running {
-        return refusal(state, IDLE);
-    }
-    let n = head.leaves;
-    let size = n * STRIDE;
-    if !stands(&row[..size], &turns[..n], &tails[..n], head, state) {
-        return refusal(state, BROKEN);
-    }
-    reported_at(
-        &row[..size],
-        &turns[..n],
-        &tails[..n],
-        &stretches[..n],
-        head,
-        state,
-        point,
-        reading,
-    )
-}
-
 // Whether the run of a good state can end here.
 fn may_close(row: &[u64], head: Head, state: State) -> bool
     requires { ⌜ GoodOnRow (now row) head state ⌝ }
-    ensures { λ r. ⌜ ((q : Rowed (now (row .entry)) head) (ls : Levels) → standing (q .head .plan) state ≡ some ls → r ≡ may-end (q .head .plan) ls) ⌝ }
+    ensures { λ r. ⌜ ((q : Rowed (now (row .entry)) head) (ls : Levels) → standing (q .head .plan) state ≡ some ls → r ≡ can-close (q .head .plan) (place-of state ls)) ⌝ }
 {
     let bounds = head.bounds;
     let n = head.functions;
     if state.level == 0 {
         return first_end(row, &bounds, n);
     }
-    let place = place_of(state);
+    let place = spot_of(state);
     can_end(row, &bounds, n, place)
 }
 
-// The end of a good state: 16, 17, or resume or ended.
+// The end: resume if the others were suspended, ended if not.
+fn ending_of(others: Others) -> Ending
+    ensures { λ r. ⌜ r ≡ ending others ⌝ }
+{
+    match others {
+        Others::Running => Ending::Ended,
+        Others::Suspended => Ending::Resume,
+    }
+}
+
+// The end of a good state: 16, 17, or resume or ended; the state is fresh again.
 fn closed_at(row: &[u64], head: Head, state: State, reading: u64) -> Step
     requires { ⌜ GoodOnRow (now row) head state ⌝ }
     ensures { λ r. ⌜ ((q : Rowed (now (row .entry)) head) (ls : Levels) → standing (q .head .plan) state ≡ some ls
-        → r ≡ reply-of (running-call (q .head .plan) state ls (end reading))) ⌝ }
+        → r ≡ as-step (reply (q .head .plan) state (running-at state ls) (End reading))) ⌝ }
 {
     if reading < state.reading {
         return refusal(state, BACKWARD);
@@ -421,41 +384,107 @@ fn closed_at(row: &[u64], head: Head, state: State, reading: u64) -> Step
         return refusal(state, ASTRAY);
     }
     let late = head.deadline < reading;
+    let others = state.others;
+    let ending = ending_of(others);
     let after = fresh();
-    if state.suspended {
-        return Step {
-            answer: Answer::Resume(late),
-            state: after,
-        };
-    }
     Step {
-        answer: Answer::Ended(late),
+        answer: Answer::Closed(ending, late),
         state: after,
     }
 }
 
-// End with a reading: 11, 14, 16, 17, or resume or ended; the state is fresh again.
-pub fn end(
+// A call where no release is open: 13 or the decision; 14.
+fn idle_call(head: Head, state: State, call: Call) -> Step
+    requires { ⌜ Headed head ⌝ }
+    ensures { λ r. ⌜ ((q : Headed head) → r ≡ as-step (reply (q .plan) state idle call)) ⌝ }
+{
+    match call {
+        Call::Release => start(head, state),
+        Call::Report(_, _) => refusal(state, IDLE),
+        Call::End(_) => refusal(state, IDLE),
+    }
+}
+
+// A call to a good state: 12; 15, 16, 17 or the decision; 16, 17 or the end.
+fn running_call(
     row: &[u64],
     turns: &[u64],
     tails: &[u64],
     stretches: &[u64],
     head: Head,
     state: State,
-    reading: u64,
+    call: Call,
 ) -> Step
-    ensures { λ r. ⌜ r ≡ reply-of (call-on (table-at (now (row .entry)) (now (turns .entry)) (now (tails .entry)) (now (stretches .entry)) head) state (end reading)) ⌝ }
+    requires { ⌜ GoodOnTable (now row) (now turns) (now tails) (now stretches) head state ⌝ }
+    ensures { λ r. ⌜ ((q : WholeTable (now (row .entry)) (now (turns .entry)) (now (tails .entry)) (now (stretches .entry)) head) (ls : Levels)
+        → standing (q .lent .rowed .head .plan) state ≡ some ls → r ≡ as-step (reply (q .lent .rowed .head .plan) state (running-at state ls) call)) ⌝ }
+{
+    match call {
+        Call::Release => refusal(state, BUSY),
+        Call::Report(point, reading) => reported_at(
+            row,
+            turns,
+            tails,
+            stretches,
+            head,
+            state,
+            point,
+            reading,
+        ),
+        Call::End(reading) => closed_at(row, head, state, reading),
+    }
+}
+
+// A call on a table. Release: 11, 12, 13, or the decision. Report: 11, 14, 15, 16, 17, or the decision. End: 11, 14, 16, 17, or resume or ended.
+pub fn call(
+    row: &[u64],
+    turns: &[u64],
+    tails: &[u64],
+    stretches: &[u64],
+    head: Head,
+    state: State,
+    call: Call,
+) -> Step
+    ensures { λ r. ⌜ r ≡ as-step (call-on (table-at (now (row .entry)) (now (turns .entry)) (now (tails .entry)) (now (stretches .entry)) head) state call) ⌝ }
 {
     if !check(row, turns, tails, stretches, head) {
         return refusal(state, BROKEN);
     }
     if !state.running {
-        return refusal(state, IDLE);
+        return idle_call(head, state, call);
     }
     let n = head.leaves;
     let size = n * STRIDE;
     if !stands(&row[..size], &turns[..n], &tails[..n], head, state) {
         return refusal(state, BROKEN);
     }
-    closed_at(&row[..size], head, state, reading)
+    running_call(
+        &row[..size],
+        &turns[..n],
+        &tails[..n],
+        &stretches[..n],
+        head,
+        state,
+        call,
+    )
+}
+
+// The calls by number, for callers that hold them as numbers.
+pub const RELEASE: u64 = 0;
+
+pub const REPORT: u64 = 1;
+
+pub const END: u64 = 2;
+
+// The call of a number: a release, a report of a point with a reading, or else an end with a reading.
+pub fn call_from(kind: u64, point: u64, reading: u64) -> Call
+    ensures { λ r. ⌜ r ≡ call-of kind point reading ⌝ }
+{
+    if kind == RELEASE {
+        return Call::Release;
+    }
+    if kind == REPORT {
+        return Call::Report(point, reading);
+    }
+    Call::End(reading)
 }

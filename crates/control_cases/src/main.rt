@@ -1,27 +1,17 @@
 // Plays the marked cases m1 to m12 of document 01 and prints each answer as the document has it. What must be printed is worked out by hand beside each
 // list of calls, and stands in the file stdout.
-use answers::answer_line;
-use control::Answer;
-use control::State;
-use control::Step;
-use control::end;
+use control::call;
+use control::call_from;
 use control::fresh;
-use control::release;
-use control::report;
 use libc::STDOUT_FILENO;
-use table::Head;
+use model::Answer;
+use print::answer_line;
+use rows::MAX_LEAVES;
+use rows::ROW;
 use table::no_head;
 use table::read;
 
-// The most leaves.
-const LEAVES: usize = 512;
-
-// A call in a list is three numbers: its kind (0 release, 1 report, 2 end), the point, and the reading.
-const RELEASE: u64 = 0;
-
-const REPORT: u64 = 1;
-
-// The most calls of a list.
+// The most calls of a list. A call in a list is three numbers: its kind (0 release, 1 report, 2 end), the point, and the reading.
 const CALLS: usize = 7;
 
 // Prints an answer.
@@ -31,36 +21,15 @@ fn show(answer: Answer) {
     io::write_all(STDOUT_FILENO, &out[..size]);
 }
 
-// One call on a table.
-fn call(
-    row: &[u64],
-    turns: &[u64],
-    tails: &[u64],
-    stretches: &[u64],
-    head: Head,
-    state: State,
-    kind: u64,
-    point: u64,
-    reading: u64,
-) -> Step {
-    if kind == RELEASE {
-        return release(row, turns, tails, stretches, head, state);
-    }
-    if kind == REPORT {
-        return report(row, turns, tails, stretches, head, state, point, reading);
-    }
-    end(row, turns, tails, stretches, head, state, reading)
-}
-
 // Reads a plan, plays a list of at most seven calls on its table from a fresh state, and prints the answers.
 fn play(text: &[u8], calls: &[u64]) {
-    let mut row = [0; 4096];
-    let mut turns = [0; LEAVES];
-    let mut tails = [0; LEAVES];
-    let mut stretches = [0; LEAVES];
+    let mut row = [0; ROW];
+    let mut turns = [0; MAX_LEAVES];
+    let mut tails = [0; MAX_LEAVES];
+    let mut stretches = [0; MAX_LEAVES];
     let verdict = read(
         text,
-        LEAVES,
+        MAX_LEAVES,
         &mut row,
         &mut turns,
         &mut tails,
@@ -72,17 +41,8 @@ fn play(text: &[u8], calls: &[u64]) {
     for k in 0..CALLS {
         let i = k * 3;
         if i + 2 < calls.len() {
-            let step = call(
-                &row,
-                &turns,
-                &tails,
-                &stretches,
-                head,
-                state,
-                calls[i],
-                calls[i + 1],
-                calls[i + 2],
-            );
+            let next = call_from(calls[i], calls[i + 1], calls[i + 2]);
+            let step = call(&row, &turns, &tails, &stretches, head, state, next);
             let answer = step.answer;
             show(answer);
             state = step.state;

@@ -6,28 +6,32 @@ use mathlib.Core.Path.{_≡_, refl, ap, sym, _∙_, subst}
 use Prim.Native.Nat.{ℕ, _+_}
 use native.Mathlib.Omega.{arith}
 use lib.Dec.{leb, ltb}
-use borrow.Author.Tests.{leb-true, le-leb, ltb-true, ltb-false, lt-ltb, le-ltb}
+use borrow.Author.Tests.{ltb-true, ltb-false, lt-ltb, le-ltb}
 use Rattle.model.specs.Plan.{C, Plan, all-leaves}
 use Rattle.model.specs.Forms.{main}
 use Rattle.model.specs.Total.{total}
-use Rattle.model.specs.Stretch.{silence, stretch}
 use Rattle.model.specs.Acceptance.{Accepted}
 use Rattle.model.specs.Places.{pick}
-use Rattle.model.specs.Stack.{Levels, whole}
-use Rattle.model.specs.Calls.{Call, release, report, end, Answer, refused, resume, ended, Accepts, Reply}
-use Rattle.model.specs.Timed.{PointOf, Fit}
-use Rattle.model.specs.Controller.{is-point, late}
-use Rattle.model.proofs.Decisions.{largest-unique}
+use Rattle.model.specs.Stack.{Levels}
+use Rattle.model.specs.declared.Call.{Call}
+use Rattle.model.specs.declared.Call.the-variants.{Release, Report, End}
+use Rattle.model.specs.declared.Answer.{Answer}
+use Rattle.model.specs.declared.Answer.the-variants.{Refused, Closed}
+use Rattle.model.specs.declared.Others.the-variants.{Running}
+use Rattle.model.specs.Calls.{Accepts, Reply, refuse}
+use Rattle.model.specs.Decisions.{at-release, late}
+use Rattle.model.specs.Timed.{PointOf}
+use Rattle.model.specs.Controller as places
+use Rattle.model.specs.Controller.{idle, is-point, next-levels, can-close, decided, reached, ending, respond}
 use Rattle.model.proofs.Blocks.{is-point-of, point-of-is}
-use Rattle.model.proofs.Theorems as model
+use Rattle.model.proofs.Since.{fit-exactly}
 use Rattle.table.specs.Table.{plan-of}
 use Rattle.table.proofs.Theorems as table
 use Rattle.control.specs.declared.State.{State}
-use Rattle.control.specs.State.{stack-of, levels-of, standing, at-release}
-use Rattle.control.specs.Calls.{refuse, decision, suspended-after, next-levels, reported, may-end, closed, running-call, idle-call, at-levels, by-phase, on-plan, call-on}
+use Rattle.control.specs.State.{stack-of, levels-of, standing}
+use Rattle.control.specs.Calls.{place-of, running-at, found-at, read-state, in-numbers, reply, on-state, on-plan, call-on}
 use Rattle.control.specs.Meaning.{StandsSomewhere}
 use Rattle.control.proofs.Alike.{timed-some}
-use Rattle.control.proofs.Histories.{decision-accepts}
 use Rattle.control.proofs.Theorems as control
 use Rattle.demands.specs.Rules.{TableOf, Underway, CanReport, Refuses, no-plan, nowhere, busy, unfit, idle-report, idle-end, stranger, backward-report, backward-end, astray-report, astray-end}
 use Rattle.demands.specs.Delivered.{Memory}
@@ -38,29 +42,14 @@ use Rattle.demands.proofs.Onward.{can-report, can-end}
 -- ANSWERS
 
 -- An answer that is a refusal is no acceptance.
-pub not-both : (x : Answer) (k : ℕ) → x ≡ refused k → Accepts x → ⊥
+pub not-both : (x : Answer) (k : ℕ) → x ≡ Refused k → Accepts x → ⊥
 not-both x k e q = subst Accepts e q
 
 -- A refusal has one number.
-pub same-number : {k m : ℕ} → refused k ≡ refused m → k ≡ m
+pub same-number : {k m : ℕ} → Refused k ≡ Refused m → k ≡ m
 same-number e = cc
 
--- An end is no refusal.
-closed-accepts : (p : Plan) (s : State) (t : ℕ) → Accepts (closed p s t .answer)
-closed-accepts p s t = by (s .suspended)
-  where
-    by : (b : Bool) → Accepts (pick b (resume (late p t)) (ended (late p t)))
-    by true = tt
-    by false = tt
-
 -- TESTS OF A CALL
-
--- Total + T is within D.
-fit-test : (p : Plan) → (leb (total C (main p) + p .switch) (p .deadline) ≡ true) ↔ Fit p
-fit-test p = (
-  (λ e n t. let z = largest-unique t (model.total-is-largest p .0) in omega (arith, z, leb-true (total C (main p) + p .switch) (p .deadline) e)),
-  λ f. le-leb (total C (main p) + p .switch) (p .deadline) (f (total C (main p)) (model.total-is-largest p .0)),
-)
 
 -- The number is a point of the plan.
 pub point-test : (p : Plan) (n : ℕ) → (is-point (all-leaves (p .functions)) n ≡ true) ↔ PointOf p n
@@ -85,49 +74,59 @@ turned : {m : Memory} {s : State} {c : Call} (k : ℕ) → Refuses m s c k → F
 turned k w = inr (k, w, refl)
 
 -- A call on an idle state.
-idle-fate : (m : Memory) (s : State) (p : Plan) → TableOf p m → s .running ≡ false → (c : Call) → Fate m s c (idle-call p s c)
-idle-fate m s p o e (report n r) = turned 14 (idle-report o e)
-idle-fate m s p o e (end r) = turned 14 (idle-end o e)
-idle-fate m s p o e release = by (leb (total C (main p) + p .switch) (p .deadline)) refl
+idle-fate : (m : Memory) (s : State) (p : Plan) → TableOf p m → s .running ≡ false → (c : Call) → Fate m s c (reply p s idle c)
+unfolding respond
+idle-fate m s p o e (Report n r) = turned 14 (idle-report o e)
+idle-fate m s p o e (End r) = turned 14 (idle-end o e)
+idle-fate m s p o e Release = by (leb (total C (main p) + p .switch) (p .deadline)) refl
   where
-    by : (b : Bool) → leb (total C (main p) + p .switch) (p .deadline) ≡ b →
-        Fate m s release (pick b (record { state = at-release p (suspended-after p (total C (main p)) (silence (main p) 0) 0 false); answer = decision p (total C (main p)) (silence (main p) 0) 0 false }) (refuse s 13))
-    by true i = inl (decision-accepts p (total C (main p)) (silence (main p) 0) 0 false)
-    by false i = turned 13 (unfit o e (failed _ (fit-test p) i))
+    by : (b : Bool) → leb (total C (main p) + p .switch) (p .deadline) ≡ b → Fate m s Release (in-numbers p s (pick b (decided p at-release 0 Running) (refuse idle 13)))
+    by true i = inl tt
+    by false i = turned 13 (unfit o e (failed _ (fit-exactly p) i))
 
 -- A report, an end and any call on a state that stands at levels.
-report-fate : (m : Memory) (s : State) (p : Plan) → Underway p m s → (ls : Levels) → standing p s ≡ some ls → (n r : ℕ) → Fate m s (report n r) (running-call p s ls (report n r))
-report-fate m s p u ls e n r = by (is-point (all-leaves (p .functions)) n) refl (ltb r (s .reading)) refl (next-levels p ls n) refl
-  where
-    by : (i : Bool) → is-point (all-leaves (p .functions)) n ≡ i → (j : Bool) → ltb r (s .reading) ≡ j → (o : Option Levels) → next-levels p ls n ≡ o →
-        Fate m s (report n r) (pick i (pick j (refuse s 16) (reported p s n r o)) (refuse s 15))
-    by true x false y (some ls′) z = inl (decision-accepts p (total C (whole ls′)) (stretch n (main p) 0) r (s .suspended))
-    by true x false y none z =
-        turned 17 (astray-report u (is-point-of p n x) (ltb-false r (s .reading) y)
-        (λ w. let (ls′, q) = can-report p (u .table .accepted) s ls n (levels-found p (u .table .accepted) s ls e) .1 w in let i : _≡_ {A = ℕ} 0 1 = cc in omega arith))
-    by true x true y o z = turned 16 (backward-report u (is-point-of p n x) (ltb-true r (s .reading) y))
-    by false x j y o z = turned 15 (stranger u (failed _ (point-test p n) x))
+module _ (m : Memory) (s : State) (p : Plan) (u : Underway p m s) (ls : Levels) (e : standing p s ≡ some ls) where
+  abbrev x : places.State
+  x = running-at s ls
 
-end-fate : (m : Memory) (s : State) (p : Plan) → Underway p m s → (ls : Levels) → standing p s ≡ some ls → (r : ℕ) → Fate m s (end r) (running-call p s ls (end r))
-end-fate m s p u ls e r = by (ltb r (s .reading)) refl (may-end p ls) refl
-  where
-    by : (j : Bool) → ltb r (s .reading) ≡ j → (i : Bool) → may-end p ls ≡ i → Fate m s (end r) (pick j (refuse s 16) (pick i (closed p s r) (refuse s 17)))
-    by true y i z = turned 16 (backward-end u (ltb-true r (s .reading) y))
-    by false y true z = inl (closed-accepts p s r)
-    by false y false z =
-        turned 17 (astray-end u (ltb-false r (s .reading) y) (failed _ (can-end p (u .table .accepted) s ls (levels-found p (u .table .accepted) s ls e)) z))
+  abbrev levels : levels-of p (stack-of s) ≡ some ls
+  levels = levels-found p (u .table .accepted) s ls e
 
-running-fate : (m : Memory) (s : State) (p : Plan) → Underway p m s → (ls : Levels) → standing p s ≡ some ls → (c : Call) → Fate m s c (running-call p s ls c)
-running-fate m s p u ls e release = turned 12 (busy u)
-running-fate m s p u ls e (report n r) = report-fate m s p u ls e n r
-running-fate m s p u ls e (end r) = end-fate m s p u ls e r
+  report-fate : (n r : ℕ) → Fate m s (Report n r) (reply p s (running-at s ls) (Report n r))
+  unfolding respond
+  report-fate n r = by (is-point (all-leaves (p .functions)) n) refl (ltb r (s .reading)) refl (next-levels p (place-of s ls) n) refl
+    where
+      by : (i : Bool) → is-point (all-leaves (p .functions)) n ≡ i → (j : Bool) → ltb r (s .reading) ≡ j → (o : Option Levels) → next-levels p (place-of s ls) n ≡ o →
+          Fate m s (Report n r) (in-numbers p s (pick i (pick j (refuse x 16) (reached p x n r (s .others) o)) (refuse x 15)))
+      by true a false b (some ls′) z = inl tt
+      by true a false b none z =
+          turned 17 (astray-report u (is-point-of p n a) (ltb-false r (s .reading) b)
+          (λ w. let (ls′, q) = can-report p (u .table .accepted) s ls n levels .1 w in let i : _≡_ {A = ℕ} 0 1 = cc in omega arith))
+      by true a true b o z = turned 16 (backward-report u (is-point-of p n a) (ltb-true r (s .reading) b))
+      by false a j b o z = turned 15 (stranger u (failed _ (point-test p n) a))
+
+  end-fate : (r : ℕ) → Fate m s (End r) (reply p s (running-at s ls) (End r))
+  unfolding respond
+  end-fate r = by (ltb r (s .reading)) refl (can-close p (place-of s ls)) refl
+    where
+      by : (j : Bool) → ltb r (s .reading) ≡ j → (i : Bool) → can-close p (place-of s ls) ≡ i →
+          Fate m s (End r) (in-numbers p s (pick j (refuse x 16) (pick i (record { state = idle; answer = Closed (ending (s .others)) (late p r) }) (refuse x 17))))
+      by true b i z = turned 16 (backward-end u (ltb-true r (s .reading) b))
+      by false b true z = inl tt
+      by false b false z = turned 17 (astray-end u (ltb-false r (s .reading) b) (failed _ (can-end p (u .table .accepted) s ls levels) z))
+
+  running-fate : (c : Call) → Fate m s c (reply p s (running-at s ls) c)
+  unfolding respond
+  running-fate Release = turned 12 (busy u)
+  running-fate (Report n r) = report-fate n r
+  running-fate (End r) = end-fate r
 
 -- A call on the table of a plan.
-phase-fate : (m : Memory) (s : State) (c : Call) (p : Plan) → TableOf p m → (b : Bool) → s .running ≡ b → Fate m s c (by-phase p s c b)
+phase-fate : (m : Memory) (s : State) (c : Call) (p : Plan) → TableOf p m → (b : Bool) → s .running ≡ b → Fate m s c (on-state p s c (read-state p s b))
 phase-fate m s c p o false e = idle-fate m s p o e c
 phase-fate m s c p o true e = by (standing p s) refl
   where
-    by : (q : Option Levels) → standing p s ≡ q → Fate m s c (at-levels p s c q)
+    by : (q : Option Levels) → standing p s ≡ q → Fate m s c (on-state p s c (found-at s q))
     by none i =
         turned 11 (nowhere o e (λ w. let (ls, q) = stands-test p (o .accepted) s .1 w in let z : _≡_ {A = ℕ} 0 1 = cc in omega arith))
     by (some ls) i = running-fate m s p (record { table = o; running = e; stands = stands-test p (o .accepted) s .0 (ls, i) }) ls i c
@@ -159,12 +158,9 @@ no-plan-found m f = by (plan-of (table-held m)) refl
     by (some p) e = absurd (f p (found-plan m p e))
 
 -- A call on the table of a plan, and on an idle state there.
-pub on-table : (m : Memory) (s : State) (c : Call) (p : Plan) → TableOf p m → call-on (table-held m) s c ≡ by-phase p s c (s .running)
+on-table : (m : Memory) (s : State) (c : Call) (p : Plan) → TableOf p m → (b : Bool) → s .running ≡ b → call-on (table-held m) s c ≡ on-state p s c (read-state p s b)
 unfolding call-on
-on-table m s c p o = ap (on-plan s c) (plan-found m p o)
-
-on-idle : (m : Memory) (s : State) (c : Call) (p : Plan) → TableOf p m → s .running ≡ false → call-on (table-held m) s c ≡ idle-call p s c
-on-idle m s c p o e = on-table m s c p o ∙ ap (by-phase p s c) e
+on-table m s c p o b e = ap (on-plan s c) (plan-found m p o) ∙ ap (λ x. on-state p s c (read-state p s x)) e
 
 -- A state that stands nowhere has no levels.
 levels-missing : (p : Plan) → Accepted p → (s : State) → ¬ StandsSomewhere p s → standing p s ≡ none
@@ -176,46 +172,46 @@ levels-missing p a s f = by (standing p s) refl
 
 -- The levels of a state that is under way, and the call there.
 underway-call : (m : Memory) (s : State) (p : Plan) → Underway p m s → (c : Call) →
-    (ls : Levels) × (standing p s ≡ some ls) × (call-on (table-held m) s c ≡ running-call p s ls c)
+    (ls : Levels) × (standing p s ≡ some ls) × (call-on (table-held m) s c ≡ reply p s (running-at s ls) c)
 underway-call m s p u c =
     let (ls, e) = stands-test p (u .table .accepted) s .1 (u .stands) in
-    (ls, e, on-table m s c p (u .table) ∙ (ap (by-phase p s c) (u .running) ∙ ap (at-levels p s c) e))
+    (ls, e, on-table m s c p (u .table) true (u .running) ∙ ap (λ q. on-state p s c (found-at s q)) e)
 
 -- No levels are found for a point that no run standing there reports next.
-no-levels : (p : Plan) (a : Accepted p) (s : State) (ls : Levels) → standing p s ≡ some ls → (n : ℕ) → ¬ CanReport p s n → next-levels p ls n ≡ none
-no-levels p a s ls e n f = by (next-levels p ls n) refl
+no-levels : (p : Plan) (a : Accepted p) (s : State) (ls : Levels) → standing p s ≡ some ls → (n : ℕ) → ¬ CanReport p s n → next-levels p (place-of s ls) n ≡ none
+no-levels p a s ls e n f = by (next-levels p (place-of s ls) n) refl
   where
-    by : (o : Option Levels) → next-levels p ls n ≡ o → o ≡ none
+    by : (o : Option Levels) → next-levels p (place-of s ls) n ≡ o → o ≡ none
     by none i = refl
     by (some ls′) i = absurd (f (can-report p a s ls n (levels-found p a s ls e) .0 (ls′, i)))
 
 -- A call that the rules refuse by k is refused by k and keeps the state.
 rule-call : (m : Memory) (s : State) (c : Call) (k : ℕ) → Refuses m s c k → call-on (table-held m) s c ≡ refuse s k
+unfolding respond
 rule-call m s c k (no-plan f) = unfold call-on in ap (on-plan s c) (no-plan-found m f)
-rule-call m s c k (nowhere {p = p} o e f) =
-    on-table m s c p o ∙ (ap (by-phase p s c) e ∙ ap (at-levels p s c) (levels-missing p (o .accepted) s f))
-rule-call m s c k (busy {p = p} u) = underway-call m s p u release .2
-rule-call m s c k (unfit {p = p} o e f) = on-idle m s release p o e ∙ rw (fails _ (fit-test p) f)
-rule-call m s c k (idle-report {p = p} {n = n} {r = r} o e) = on-idle m s (report n r) p o e
-rule-call m s c k (idle-end {p = p} {r = r} o e) = on-idle m s (end r) p o e
-rule-call m s c k (stranger {p = p} {n = n} {r = r} u f) = underway-call m s p u (report n r) .2 ∙ rw (fails _ (point-test p n) f)
+rule-call m s c k (nowhere {p = p} o e f) = on-table m s c p o true e ∙ ap (λ q. on-state p s c (found-at s q)) (levels-missing p (o .accepted) s f)
+rule-call m s c k (busy {p = p} u) = underway-call m s p u Release .2
+rule-call m s c k (unfit {p = p} o e f) = on-table m s Release p o false e ∙ rw (fails _ (fit-exactly p) f)
+rule-call m s c k (idle-report {p = p} {n = n} {r = r} o e) = on-table m s (Report n r) p o false e
+rule-call m s c k (idle-end {p = p} {r = r} o e) = on-table m s (End r) p o false e
+rule-call m s c k (stranger {p = p} {n = n} {r = r} u f) = underway-call m s p u (Report n r) .2 ∙ rw (fails _ (point-test p n) f)
 rule-call m s c k (backward-report {p = p} {n = n} {r = r} u x h) =
-    underway-call m s p u (report n r) .2 ∙ rw (point-test p n .1 x, lt-ltb r (s .reading) h)
-rule-call m s c k (backward-end {p = p} {r = r} u h) = underway-call m s p u (end r) .2 ∙ rw (lt-ltb r (s .reading) h)
+    underway-call m s p u (Report n r) .2 ∙ rw (point-test p n .1 x, lt-ltb r (s .reading) h)
+rule-call m s c k (backward-end {p = p} {r = r} u h) = underway-call m s p u (End r) .2 ∙ rw (lt-ltb r (s .reading) h)
 rule-call m s c k (astray-report {p = p} {n = n} {r = r} u x h f) =
-    let (ls, e, q) = underway-call m s p u (report n r) in
+    let (ls, e, q) = underway-call m s p u (Report n r) in
     q ∙ rw (point-test p n .1 x, le-ltb r (s .reading) h, no-levels p (u .table .accepted) s ls e n f)
 rule-call m s c k (astray-end {p = p} {r = r} u h f) =
-    let (ls, e, q) = underway-call m s p u (end r) in
+    let (ls, e, q) = underway-call m s p u (End r) in
     q ∙ rw (le-ltb r (s .reading) h, fails _ (can-end p (u .table .accepted) s ls (levels-found p (u .table .accepted) s ls e)) f)
 
 -- THE RULES, EXACTLY
 
 -- A call is refused by k exactly when the rules refuse it by k.
-pub refused-exactly : (m : Memory) (s : State) (c : Call) (k : ℕ) → (call-on (table-held m) s c .answer ≡ refused k) ↔ Refuses m s c k
+pub refused-exactly : (m : Memory) (s : State) (c : Call) (k : ℕ) → (call-on (table-held m) s c .answer ≡ Refused k) ↔ Refuses m s c k
 refused-exactly m s c k = ((λ e. by e (fate m s c)), λ w. ap (λ r. r .answer) (rule-call m s c k w))
   where
-    by : call-on (table-held m) s c .answer ≡ refused k → Fate m s c (call-on (table-held m) s c) → Refuses m s c k
+    by : call-on (table-held m) s c .answer ≡ Refused k → Fate m s c (call-on (table-held m) s c) → Refuses m s c k
     by e (inl q) = absurd (not-both (call-on (table-held m) s c .answer) k e q)
     by e (inr (i, w, q)) = subst (Refuses m s c) (same-number (sym (ap (λ r. r .answer) q) ∙ e)) w
 

@@ -3,8 +3,8 @@ pub mod Texts
 pub mod Tables
 pub mod Onward
 pub mod Calls
-pub mod Decisions
 pub mod Delivered
+pub mod Decisions
 pub mod Reached
 pub mod Cases
 pub mod Worst

@@ -6,7 +6,7 @@ use Prim.Native.Nat.{ℕ, _≤_}
 use native.Mathlib.Omega.{arith}
 use lib.ListN.{length, getD, take, drop}
 use lib.Seq.{drop-at, getD-take}
-use Rattle.model.specs.Plan.{Plan}
+use Rattle.model.specs.Plan.{Plan, M}
 use Rattle.model.specs.Forms.{main}
 use Rattle.model.specs.Total.{Total, MaxLoadTotal}
 use Rattle.model.specs.Stretch.{Stretch, ReleaseStretch, stretch}
@@ -116,7 +116,7 @@ one-plan p q m o u =
 -- WHAT THE TABLE SAYS
 
 -- The stretch in the record of a point.
-row-stretch : (p : Plan) (m : Memory) → TableOf p m → (n : ℕ) → PointOf p n → getD (map (λ (l : Leaf). l .stretch) (m .row)) n 0 ≡ stretch n (main p) 0
+row-stretch : (p : Plan) (m : Memory) → TableOf p m → (n : ℕ) → PointOf p n → getD (map (λ (l : Leaf). l .stretch) (m .row)) n 0 ≡ stretch M n (main p) 0
 row-stretch p m o n w =
     let f : Leaf → ℕ = λ l. l .stretch in
     let e = numbers-held p m o in
@@ -135,10 +135,10 @@ table-numbers p m o =
       deadline = ap (λ (t : Table). t .head .deadline) e;
       switch = ap (λ (t : Table). t .head .switch) e;
       total = subst (Total (main p)) (sym (ap (λ (t : Table). t .head .total) e)) (model.total-is-largest p .0);
-      max-load-total = subst (MaxLoadTotal (main p)) (sym (ap (λ (t : Table). t .head .loaded) e)) (model.total-is-largest p .1);
-      release-stretch = subst (ReleaseStretch (main p)) (sym (ap (λ (t : Table). t .head .stretch) e)) (model.release-stretch-is-largest p);
-      stretch = λ n w. subst (Stretch (main p) n) (sym (row-stretch p m o n w)) (point-stretch n w);
+      max-load-total = subst (MaxLoadTotal (main p)) (sym (ap (λ (t : Table). t .head .«max_load_total») e)) (model.total-is-largest p .1);
+      release-stretch = subst (ReleaseStretch M (main p)) (sym (ap (λ (t : Table). t .head .stretch) e)) (model.release-stretch-is-largest p);
+      stretch = λ n w. subst (Stretch M (main p) n) (sym (row-stretch p m o n w)) (point-stretch n w);
     }
   where
-    point-stretch : (n : ℕ) → PointOf p n → Stretch (main p) n (stretch n (main p) 0)
-    point-stretch n (b, i, j, k) = subst (λ x. Stretch (main p) x (stretch x (main p) 0)) k (model.stretch-is-largest p (o .accepted) b i j)
+    point-stretch : (n : ℕ) → PointOf p n → Stretch M (main p) n (stretch M n (main p) 0)
+    point-stretch n (b, i, j, k) = subst (λ x. Stretch M (main p) x (stretch M x (main p) 0)) k (model.stretch-is-largest p (o .accepted) b i j)

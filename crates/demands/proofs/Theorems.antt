@@ -10,10 +10,15 @@ use lib.ListN.{length, drop}
 use Rattle.model.specs.Plan.{Block, Plan}
 use Rattle.model.specs.Forms.{main}
 use Rattle.model.specs.Runs.{Run, visits}
-use Rattle.model.specs.Remaining.{Reported, Ended}
+use Rattle.model.specs.Remaining.{Reported, Complete}
 use Rattle.model.specs.Acceptance.{sizes, Fits, Accepted}
-use Rattle.model.specs.Calls.{Call, release, report, end, refused, Accepts}
-use Rattle.model.specs.Timed.{Decision, PointOf, Fit, last-reading, Refusable, CallList, closed, opened, KeepsDeadline, Plays}
+use Rattle.model.specs.declared.Call.{Call}
+use Rattle.model.specs.declared.Call.the-variants.{Release, Report, End}
+use Rattle.model.specs.declared.Answer.the-variants.{Refused}
+use Rattle.model.specs.declared.Others.the-variants.{Running}
+use Rattle.model.specs.Calls.{Accepts}
+use Rattle.model.specs.Decisions.{Decision, Fit}
+use Rattle.model.specs.Timed.{PointOf, last-reading, Refusable, CallList, closed, opened, KeepsDeadline, Plays}
 use Rattle.model.specs.Histories.{Reached, Since}
 use Rattle.model.specs.Worked.{plan-A}
 use Rattle.model.proofs.Theorems as model
@@ -27,10 +32,11 @@ use Rattle.rolsipay.specs.Calling.{state-of}
 use Rattle.demands.specs.Delivered.{Memory, read-answer, after-read, ReadAs, zeros, delivered}
 use Rattle.demands.specs.Rules.{Ruled, TableOf, Refuses}
 use Rattle.demands.specs.Tables.{Numbers}
-use Rattle.demands.specs.Decisions.{Decided, Closes}
+use Rattle.demands.specs.Decisions.{Decides, Closes}
 use Rattle.demands.specs.Lists.{exchanges, text-A}
 use Rattle.demands.specs.Cases.{EachRight}
 use Rattle.demands.proofs.Tables as tables
+use Rattle.demands.proofs.Decisions as decisions
 use Rattle.demands.proofs.Reached as reached
 use Rattle.demands.proofs.Delivered as delivering
 use Rattle.demands.proofs.Worst as worst
@@ -48,11 +54,11 @@ pub refused-plan-keeps-memory : (text : List ℕ) (m : Memory) (k j : ℕ) → r
 refused-plan-keeps-memory = tables.refused-leaves
 
 -- Consider any lent memory, any lent state and any call. It is refused by a number exactly when the rules refuse it by that number; so by one number only.
-pub call-refused-exactly : (m : Memory) (s : State) (c : Call) (k : ℕ) → (delivered m .respond s c .answer ≡ refused k) ↔ Refuses m (state-of s) c k
+pub call-refused-exactly : (m : Memory) (s : State) (c : Call) (k : ℕ) → (delivered m .respond s c .answer ≡ Refused k) ↔ Refuses m (state-of s) c k
 call-refused-exactly = reached.refused-exactly
 
 -- A refused call leaves the lent state exactly as it was, every number of it.
-pub refused-call-keeps-state : (m : Memory) (s : State) (c : Call) (k : ℕ) → delivered m .respond s c .answer ≡ refused k → delivered m .respond s c .state ≡ s
+pub refused-call-keeps-state : (m : Memory) (s : State) (c : Call) (k : ℕ) → delivered m .respond s c .answer ≡ Refused k → delivered m .respond s c .state ≡ s
 refused-call-keeps-state = delivering.refused-keeps
 
 -- DEMAND 2: ACCEPTED EXACTLY WHERE THE RULES ALLOW IT, REMAINING AND SUSPENSION
@@ -88,8 +94,8 @@ call-accepted-exactly = reached.accepted-exactly
 pub alike-answered : (m : Memory) (s t : State) → state-of s ≡ state-of t → (c : Call) → delivered m .respond s c .answer ≡ delivered m .respond t c .answer
 alike-answered = reached.alike-answered
 
-pub idle-as-fresh : (m : Memory) (s : State) → state-of s .running ≡ false → Accepts (delivered m .respond s release .answer) →
-    delivered m .respond s release ≡ delivered m .respond zeros release
+pub idle-as-fresh : (m : Memory) (s : State) → state-of s .running ≡ false → Accepts (delivered m .respond s Release .answer) →
+    delivered m .respond s Release ≡ delivered m .respond zeros Release
 idle-as-fresh = reached.idle-released
 
 -- Consider lent memory that holds the table of the accepted plan p.
@@ -102,38 +108,38 @@ module _ (p : Plan) (m : Memory) (o : TableOf p m) where
   -- After one report or more the place and the remaining times of the lent state are those of its history: some run with these reports stands at its stack of
   -- points, open loops and calls with their visit counts, and its 33 remaining times are that run's.
   pub state-is-of-history : {s : State} {n : ℕ} {h : List ℕ} {ds : List Decision} → Since (delivered m) s (n ∷ h) ds → HistoryState p (state-of s) (n ∷ h)
-  state-is-of-history = reached.state-of-history p m o
+  state-is-of-history = decisions.history-state p m o
 
   -- A release from a state of zeros is accepted exactly when total + T is within D.
-  pub release-accepted-exactly : Accepts (delivered m .respond zeros release .answer) ↔ Fit p
-  release-accepted-exactly = reached.release-exactly p m o
+  pub release-accepted-exactly : Accepts (delivered m .respond zeros Release .answer) ↔ Fit p
+  release-accepted-exactly = decisions.release-exactly p m o
 
   -- Its answer has the total as remaining, and the release's stretch; it is go if the condition holds and suspend if not.
-  pub release-decides : Accepts (delivered m .respond zeros release .answer) →
-      Decided p [] (record { history = []; reading = 0 }) (delivered m .respond zeros release .answer)
-  release-decides = reached.release-decided p m o
+  pub release-decides : Accepts (delivered m .respond zeros Release .answer) →
+      Decides p [] (record { history = []; reading = 0 }) (delivered m .respond zeros Release .answer)
+  release-decides = decisions.release-decided p m o
 
   -- Consider any state after an accepted release and accepted reports h with the decisions ds, the latest first.
   module _ {s : State} {h : List ℕ} {ds : List Decision} (w : Since (delivered m) s h ds) where
     -- A report is accepted exactly when its number is a point of the plan, its reading is not below the last accepted one, and some run has these
     -- reports in this order.
-    pub report-accepted-exactly : (n reading : ℕ) → Accepts (delivered m .respond s (report n reading) .answer) ↔
+    pub report-accepted-exactly : (n reading : ℕ) → Accepts (delivered m .respond s (Report n reading) .answer) ↔
         (PointOf p n × (last-reading ds ≤ reading) × Reported (main p) (h ++ (n ∷ [])))
-    report-accepted-exactly = reached.report-exactly p m o w
+    report-accepted-exactly = decisions.report-exactly p m o w
 
     -- Its answer has as remaining the largest isolated sum over all ways the run can still go, and the point's stretch. It says suspend exactly at the
     -- first decision where the condition fails, go before that and stay behind it.
-    pub report-decides : (n reading : ℕ) → Accepts (delivered m .respond s (report n reading) .answer) →
-        Decided p ds (record { history = h ++ (n ∷ []); reading = reading }) (delivered m .respond s (report n reading) .answer)
-    report-decides = reached.report-decided p m o w
+    pub report-decides : (n reading : ℕ) → Accepts (delivered m .respond s (Report n reading) .answer) →
+        Decides p ds (record { history = h ++ (n ∷ []); reading = reading }) (delivered m .respond s (Report n reading) .answer)
+    report-decides = decisions.report-decided p m o w
 
     -- An end is accepted exactly when its reading is not below the last accepted one and some run has exactly these reports.
-    pub end-accepted-exactly : (reading : ℕ) → Accepts (delivered m .respond s (end reading) .answer) ↔ ((last-reading ds ≤ reading) × Ended (main p) h)
-    end-accepted-exactly = reached.end-exactly p m o w
+    pub end-accepted-exactly : (reading : ℕ) → Accepts (delivered m .respond s (End reading) .answer) ↔ ((last-reading ds ≤ reading) × Complete (main p) h)
+    end-accepted-exactly = decisions.end-exactly p m o w
 
     -- It answers resume if the others were suspended and ended if not, and every number of the state is 0 again.
-    pub end-closes : (reading : ℕ) → Accepts (delivered m .respond s (end reading) .answer) → Closes p ds reading (delivered m .respond s (end reading))
-    end-closes = reached.end-closes p m o w
+    pub end-closes : (reading : ℕ) → Accepts (delivered m .respond s (End reading) .answer) → Closes p ds reading (delivered m .respond s (End reading))
+    end-closes = decisions.end-closes p m o w
 
 -- DEMAND 3: THE DEADLINE
 
@@ -158,7 +164,7 @@ refusable-while-open p m o w = reached.refusable-open p m o w
 
 -- There are such lists: every run of the plan, with any ticks and any switches, is played by one.
 pub every-run-played : (m : Memory) (p : Plan) (ticks switches : ℕ → ℕ) (r : Run (main p)) →
-    (z : CallList p (delivered m) zeros true closed) × Plays p (delivered m) ticks switches 0 z (visits r)
+    (z : CallList p (delivered m) zeros Running closed) × Plays p (delivered m) ticks switches 0 z (visits r)
 every-run-played m p ticks switches r = model.every-run-played p (delivered m) ticks switches r
 
 -- The text of plan A is read as plan A, into any row of four records or more.
@@ -166,7 +172,7 @@ pub plan-A-read : (m : Memory) → 4 ≤ length (m .row) → ReadAs text-A m pla
 plan-A-read m room = worst.read-A (length (m .row)) room
 
 -- The worst case of plan A (m3) is a list of demand 3: its calls and their answers are these, up to the end at 57 + 4 + 20 = 81.
-pub worst-case-played : (m : Memory) → 4 ≤ length (m .row) → (z : CallList plan-A (delivered (after-read text-A m)) zeros true closed) ×
+pub worst-case-played : (m : Memory) → 4 ≤ length (m .row) → (z : CallList plan-A (delivered (after-read text-A m)) zeros Running closed) ×
     (exchanges plan-A (delivered (after-read text-A m)) z ≡ worst-of-A)
 worst-case-played m room = worst.worst-A (after-read text-A m) (table-written text-A m plan-A (plan-A-read m room))
 
@@ -174,14 +180,14 @@ worst-case-played m room = worst.worst-A (after-read text-A m) (table-written te
 
 -- Rule 11, the table: every call on an idle state is refused by 11 exactly when no accepted text, read into whatever memory, leaves this one.
 pub table-good-exactly : (m : Memory) (s : State) → state-of s .running ≡ false → (c : Call) →
-    (delivered m .respond s c .answer ≡ refused 11) ↔ ((text : List ℕ) (before : Memory) (p : Plan) → ReadAs text before p → ¬ (after-read text before ≡ m))
+    (delivered m .respond s c .answer ≡ Refused 11) ↔ ((text : List ℕ) (before : Memory) (p : Plan) → ReadAs text before p → ¬ (after-read text before ≡ m))
 table-good-exactly = reached.broken-exactly
 
 -- Rule 11, the state: on the table of an accepted plan every call on a running state is refused by 11 exactly when the state neither stands at the release
 -- with the times of the release, nor stands where some run of the plan stands, at its last point, open loops and calls with its visit counts, with that
 -- run's 33 remaining times.
 pub state-good-exactly : (p : Plan) (m : Memory) → TableOf p m → (s : State) → state-of s .running ≡ true → (c : Call) →
-    (delivered m .respond s c .answer ≡ refused 11) ↔ ¬ StandsSomewhere p (state-of s)
+    (delivered m .respond s c .answer ≡ Refused 11) ↔ ¬ StandsSomewhere p (state-of s)
 state-good-exactly = reached.nowhere-exactly
 
 -- The marked cases m1 to m12 hold, in one table: in every memory that holds the table of the case's plan.

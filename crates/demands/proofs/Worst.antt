@@ -1,6 +1,6 @@
 -- The worst case of plan A: a timed run in which every visit takes the most ticks that it may, and the switch too. Its answers are those of the marked
 -- case m3.
-use mathlib.Core.Bool.{Bool, true, false}
+use mathlib.Core.Bool.{true, false}
 use mathlib.Core.List.{List, [], _∷_}
 use mathlib.Core.Path.{_≡_, refl, ap, subst}
 use Prim.Native.Nat.{ℕ, _+_, _≤_}
@@ -8,8 +8,13 @@ use native.Mathlib.Omega.{arith}
 use Rattle.model.specs.Plan.{Block, Plan}
 use Rattle.model.specs.Forms.{forms, linked, last, main}
 use Rattle.model.specs.Runs.{Run, ends, visit, leave, turn, visits}
-use Rattle.model.specs.Calls.{Call, release, report, end, Answer, Controller, others-after, clock-after}
-use Rattle.model.specs.Timed.{Phase, opened, closed, Open, cost, passed-point, passed-silent, CallList, stops, releases, silent-visit, point-visit}
+use Rattle.model.specs.declared.Call.{Call}
+use Rattle.model.specs.declared.Call.the-variants.{Release, Report, End}
+use Rattle.model.specs.declared.Answer.{Answer}
+use Rattle.model.specs.declared.Others.{Others}
+use Rattle.model.specs.declared.Others.the-variants.{Running}
+use Rattle.model.specs.Calls.{Controller, cost, others-after, clock-after}
+use Rattle.model.specs.Timed.{Phase, opened, closed, Open, passed-point, passed-silent, CallList, stops, releases, silent-visit, point-visit}
 use Rattle.model.specs.Timed as timed
 use Rattle.model.specs.Histories.{Exchange, _gets_, Answered}
 use Rattle.model.specs.Acceptance.{size, sizes}
@@ -30,7 +35,7 @@ use Rattle.demands.proofs.Cases.{each-right}
 
 module _ {S : Type 0} (p : Plan) (k : Controller S) where
   -- A list of calls from a state on, with these exchanges.
-  abbrev Played : S → Bool → Phase → List Exchange → Type 0
+  abbrev Played : S → Others → Phase → List Exchange → Type 0
   Played s others phase xs = (z : CallList p k s others phase) × (exchanges p k z ≡ xs)
 
   -- The first answer, and those behind it.
@@ -39,38 +44,38 @@ module _ {S : Type 0} (p : Plan) (k : Controller S) where
   first-answer s c a xs e = e
 
   -- Lists that begin with a release, a silent visit, a point's visit and an end, where the answers are known.
-  release-played : {s : S} {others : Bool} {a : Answer} {xs : List Exchange} (r : Run (main p)) (switch : ℕ) → switch ≤ p .switch →
-      Answered k s ((release gets a) ∷ xs) →
-      (Answered k (k .respond s release .state) xs →
-      Played (k .respond s release .state) (others-after a others) (opened (timed.released (clock-after a switch 0) (visits r))) xs) →
-      Played s others closed ((release gets a) ∷ xs)
+  release-played : {s : S} {others : Others} {a : Answer} {xs : List Exchange} (r : Run (main p)) (switch : ℕ) → switch ≤ p .switch →
+      Answered k s ((Release gets a) ∷ xs) →
+      (Answered k (k .respond s Release .state) xs →
+      Played (k .respond s Release .state) (others-after a others) (opened (timed.released (clock-after a switch 0) (visits r))) xs) →
+      Played s others closed ((Release gets a) ∷ xs)
   unfolding exchanges
   release-played {s} {others} {a} {xs} r switch q e f =
-      let (i, j) = first-answer s release a xs e in
-      subst (λ y. Played (k .respond s release .state) (others-after y others) (opened (timed.released (clock-after y switch 0) (visits r))) xs → Played s others closed ((release gets y) ∷ xs)) i
-      (λ (z, w). (releases r switch q z, ap (λ l. (release gets k .respond s release .answer) ∷ l) w)) (f j)
+      let (i, j) = first-answer s Release a xs e in
+      subst (λ y. Played (k .respond s Release .state) (others-after y others) (opened (timed.released (clock-after y switch 0) (visits r))) xs → Played s others closed ((Release gets y) ∷ xs)) i
+      (λ (z, w). (releases r switch q z, ap (λ l. (Release gets k .respond s Release .answer) ∷ l) w)) (f j)
 
-  silent-played : {s : S} {others : Bool} {o : Open} {xs : List Exchange} (b : Block) (w : List Block) (ticks : ℕ) → o .to-come ≡ b ∷ w → b .point ≡ false →
+  silent-played : {s : S} {others : Others} {o : Open} {xs : List Exchange} (b : Block) (w : List Block) (ticks : ℕ) → o .to-come ≡ b ∷ w → b .point ≡ false →
       ticks ≤ cost others b → Played s others (opened (passed-silent o w ticks)) xs → Played s others (opened o) xs
   unfolding exchanges
   silent-played b w ticks d q h (z, i) = (silent-visit b w ticks d q h z, i)
 
-  point-played : {s : S} {others : Bool} {o : Open} {a : Answer} {xs : List Exchange} (b : Block) (w : List Block) (switch ticks : ℕ) →
-      o .to-come ≡ b ∷ w → b .point ≡ true → switch ≤ p .switch → Answered k s ((report (b .number) (o .clock) gets a) ∷ xs) → ticks ≤ cost (others-after a others) b →
-      (Answered k (k .respond s (report (b .number) (o .clock)) .state) xs →
-      Played (k .respond s (report (b .number) (o .clock)) .state) (others-after a others) (opened (passed-point o (b .number) w (clock-after a switch (o .clock) + ticks))) xs) →
-      Played s others (opened o) ((report (b .number) (o .clock) gets a) ∷ xs)
+  point-played : {s : S} {others : Others} {o : Open} {a : Answer} {xs : List Exchange} (b : Block) (w : List Block) (switch ticks : ℕ) →
+      o .to-come ≡ b ∷ w → b .point ≡ true → switch ≤ p .switch → Answered k s ((Report (b .number) (o .clock) gets a) ∷ xs) → ticks ≤ cost (others-after a others) b →
+      (Answered k (k .respond s (Report (b .number) (o .clock)) .state) xs →
+      Played (k .respond s (Report (b .number) (o .clock)) .state) (others-after a others) (opened (passed-point o (b .number) w (clock-after a switch (o .clock) + ticks))) xs) →
+      Played s others (opened o) ((Report (b .number) (o .clock) gets a) ∷ xs)
   unfolding exchanges
   point-played {s} {others} {o} {a} {xs} b w switch ticks d q h e l f =
-      let c = report (b .number) (o .clock) in
+      let c = Report (b .number) (o .clock) in
       let (i, j) = first-answer s c a xs e in
       subst (λ y. ticks ≤ cost (others-after y others) b → Played (k .respond s c .state) (others-after y others) (opened (passed-point o (b .number) w (clock-after y switch (o .clock) + ticks))) xs → Played s others (opened o) ((c gets y) ∷ xs)) i
       (λ l (z, v). (point-visit b w switch ticks d q h l z, ap (λ l. (c gets k .respond s c .answer) ∷ l) v)) l (f j)
 
-  end-played : {s : S} {others : Bool} {o : Open} {a : Answer} → o .to-come ≡ [] → Answered k s ((end (o .clock) gets a) ∷ []) →
-      Played s others (opened o) ((end (o .clock) gets a) ∷ [])
+  end-played : {s : S} {others : Others} {o : Open} {a : Answer} → o .to-come ≡ [] → Answered k s ((End (o .clock) gets a) ∷ []) →
+      Played s others (opened o) ((End (o .clock) gets a) ∷ [])
   unfolding exchanges
-  end-played {s} {others} {o} {a} d e = (timed.ends d stops, ap (λ y. (end (o .clock) gets y) ∷ []) (first-answer s (end (o .clock)) a [] e .0))
+  end-played {s} {others} {o} {a} d e = (timed.ends d stops, ap (λ y. (End (o .clock) gets y) ∷ []) (first-answer s (End (o .clock)) a [] e .0))
 
 -- Plan A's longest run: three rounds of the loop.
 run-A : Run (main plan-A)
@@ -78,7 +83,7 @@ unfolding plan-A forms linked last
 run-A = visit (turn (visit ends) (turn (visit ends) (turn (visit ends) (leave (visit ends)))))
 
 -- The list of calls that it makes, where the calls have these answers.
-played-A : {S : Type 0} (k : Controller S) (s : S) → Answered k s worst-of-A → Played plan-A k s true closed worst-of-A
+played-A : {S : Type 0} (k : Controller S) (s : S) → Answered k s worst-of-A → Played plan-A k s Running closed worst-of-A
 unfolding run-A worst-of-A plan-A forms linked last visits
 played-A k s e =
     release-played plan-A k run-A 0 (omega arith) e (λ e.
@@ -99,7 +104,7 @@ unfolding cases EachRight
 answers-A m o = each-right .2 .2 .2 .1 m o .answered
 
 -- In every memory that holds the table of plan A there is a list of calls with these exchanges.
-pub worst-A : (m : Memory) → TableOf plan-A m → Played plan-A (delivered m) zeros true closed worst-of-A
+pub worst-A : (m : Memory) → TableOf plan-A m → Played plan-A (delivered m) zeros Running closed worst-of-A
 worst-A m o = played-A (delivered m) zeros (answers-A m o)
 
 -- The text of plan A is the one that plan A is printed as.

@@ -13,7 +13,7 @@ use Rattle.demands.specs.Rules.{TableOf}
 -- A case holds in a memory: its totals stand in the head, its stretches in the row, and the delivered calls answer as it says.
 pub record RightIn (m : Memory) (c : Case) : Type 0 where
   pub total-is : m .head .total ≡ c .total
-  pub max-total-is : m .head .loaded ≡ c .max-total
+  pub max-total-is : m .head .«max_load_total» ≡ c .max-total
   pub stretches-are : map (λ (l : Leaf). l .stretch) (take (m .head .leaves) (m .row)) ≡ c .stretches
   pub answered : Answered (delivered m) zeros (c .exchanges)
 

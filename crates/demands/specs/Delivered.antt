@@ -6,14 +6,11 @@ use mathlib.Core.Path.{_≡_}
 use Prim.Native.Nat.{ℕ}
 use lib.ListN.{length, replicate}
 use Rattle.model.specs.Plan.{Plan}
-use Rattle.model.specs.Calls as calls
-use Rattle.model.specs.Calls.{refused, go, suspend, stay, resume, ended, Controller}
+use Rattle.model.specs.Calls.{Controller}
 use Rattle.reader.specs.Outcome.{plan}
 use Rattle.reader.specs.declared.Answer as reader
 use Rattle.table.specs.declared.Head.{Head}
 use Rattle.table.specs.Reading.{verdict, verdict-of}
-use Rattle.control.specs.declared.Answer.{Answer}
-use Rattle.control.specs.declared.Answer.the-variants.{Refused, Go, Suspend, Stay, Resume, Ended}
 use Rattle.rolsipay.specs.declared.Leaf.{Leaf}
 use Rattle.rolsipay.specs.declared.State.{State}
 use Rattle.rolsipay.specs.Reading.{row-after}
@@ -40,23 +37,13 @@ ReadAs text m p = verdict (length (m .row)) text ≡ plan p
 
 -- RELEASE, REPORT AND END
 
--- What a returned answer says.
-abbrev pub meant : Answer → calls.Answer
-meant (Refused n) = refused n
-meant (Go r m late) = go r m late
-meant (Suspend r m late) = suspend r m late
-meant (Stay r m late) = stay r m late
-meant (Resume late) = resume late
-meant (Ended late) = ended late
-
 -- A fresh state in the caller's memory: every number in it 0 (01).
 abbrev pub zeros : State
 zeros = record { running = 0; suspended = 0; reading = 0; level = 0; leaves = replicate 33 0; earlier = replicate 33 0; times = replicate 33 0 }
 
 -- The delivered calls on lent memory: to each state and call the state that is left and the answer that is returned.
 abbrev pub delivered : Memory → Controller State
-delivered m =
-    record {
-      fresh = zeros;
-      respond = λ s c. record { state = called (m .row) (m .head) s c .state; answer = meant (called (m .row) (m .head) s c .answer) };
-    }
+delivered m = record {
+  fresh = zeros;
+  respond = λ s c. record { state = called (m .row) (m .head) s c .state; answer = called (m .row) (m .head) s c .answer };
+}

@@ -9,11 +9,13 @@ use lib.ListN.{length}
 use Rattle.model.specs.Plan.{C, M, Plan}
 use Rattle.model.specs.Forms.{main}
 use Rattle.model.specs.Runs.{Run, visits, sum}
-use Rattle.model.specs.Remaining.{Reported, Ended}
+use Rattle.model.specs.Remaining.{Reported, Complete}
 use Rattle.model.specs.Levels.{Standing, so-far, history, stack}
 use Rattle.model.specs.Acceptance.{Formed, Fits, Seen-all, Called, Accepted}
-use Rattle.model.specs.Calls.{Call, release, report, end}
-use Rattle.model.specs.Timed.{PointOf, Fit}
+use Rattle.model.specs.declared.Call.{Call}
+use Rattle.model.specs.declared.Call.the-variants.{Release, Report, End}
+use Rattle.model.specs.Decisions.{Fit}
+use Rattle.model.specs.Timed.{PointOf}
 use Rattle.reader.specs.Print.{print}
 use Rattle.refusals.specs.Refusal.{RefusedAt}
 use Rattle.control.specs.declared.State.{State}
@@ -64,8 +66,8 @@ pub data CanReport (p : Plan) (s : State) (n : ℕ) : Type 0 where
 
 -- Some run that stands where the state stands ends without a further report.
 pub data CanEnd (p : Plan) (s : State) : Type 0 where
-  from-the-release : stack-of s ≡ [] → Ended (main p) [] → CanEnd p s
-  from-a-report : (x : Standing (main p)) → stack [] (so-far x) ≡ stack-of s → Ended (main p) (history x) → CanEnd p s
+  from-the-release : stack-of s ≡ [] → Complete (main p) [] → CanEnd p s
+  from-a-report : (x : Standing (main p)) → stack [] (so-far x) ≡ stack-of s → Complete (main p) (history x) → CanEnd p s
 
 -- The rules refuse this call, on the table in this memory and on this state, by this number. Release: 11, 12, 13. Report: 11, 14, 15, 16, 17. End: 11, 14, 16, 17.
 pub data Refuses (m : Memory) (s : State) : Call → ℕ → Type 0 where
@@ -74,17 +76,17 @@ pub data Refuses (m : Memory) (s : State) : Call → ℕ → Type 0 where
   -- 11: the state is running and no run on this table stands where it stands, or its remaining times aren't those of that place.
   nowhere : {c : Call} {p : Plan} → TableOf p m → s .running ≡ true → ¬ StandsSomewhere p s → Refuses m s c 11
   -- 12: release before the end.
-  busy : {p : Plan} → Underway p m s → Refuses m s release 12
+  busy : {p : Plan} → Underway p m s → Refuses m s Release 12
   -- 13: total + T over D.
-  unfit : {p : Plan} → TableOf p m → s .running ≡ false → ¬ Fit p → Refuses m s release 13
+  unfit : {p : Plan} → TableOf p m → s .running ≡ false → ¬ Fit p → Refuses m s Release 13
   -- 14: report or end without a release.
-  idle-report : {p : Plan} {n r : ℕ} → TableOf p m → s .running ≡ false → Refuses m s (report n r) 14
-  idle-end : {p : Plan} {r : ℕ} → TableOf p m → s .running ≡ false → Refuses m s (end r) 14
+  idle-report : {p : Plan} {n r : ℕ} → TableOf p m → s .running ≡ false → Refuses m s (Report n r) 14
+  idle-end : {p : Plan} {r : ℕ} → TableOf p m → s .running ≡ false → Refuses m s (End r) 14
   -- 15: the number isn't a point of the plan.
-  stranger : {p : Plan} {n r : ℕ} → Underway p m s → ¬ PointOf p n → Refuses m s (report n r) 15
+  stranger : {p : Plan} {n r : ℕ} → Underway p m s → ¬ PointOf p n → Refuses m s (Report n r) 15
   -- 16: a reading below the last accepted one.
-  backward-report : {p : Plan} {n r : ℕ} → Underway p m s → PointOf p n → r < s .reading → Refuses m s (report n r) 16
-  backward-end : {p : Plan} {r : ℕ} → Underway p m s → r < s .reading → Refuses m s (end r) 16
+  backward-report : {p : Plan} {n r : ℕ} → Underway p m s → PointOf p n → r < s .reading → Refuses m s (Report n r) 16
+  backward-end : {p : Plan} {r : ℕ} → Underway p m s → r < s .reading → Refuses m s (End r) 16
   -- 17: no run that stands there reports this point next; for end, none can end there.
-  astray-report : {p : Plan} {n r : ℕ} → Underway p m s → PointOf p n → s .reading ≤ r → ¬ CanReport p s n → Refuses m s (report n r) 17
-  astray-end : {p : Plan} {r : ℕ} → Underway p m s → s .reading ≤ r → ¬ CanEnd p s → Refuses m s (end r) 17
+  astray-report : {p : Plan} {n r : ℕ} → Underway p m s → PointOf p n → s .reading ≤ r → ¬ CanReport p s n → Refuses m s (Report n r) 17
+  astray-end : {p : Plan} {r : ℕ} → Underway p m s → s .reading ≤ r → ¬ CanEnd p s → Refuses m s (End r) 17

@@ -4,7 +4,7 @@ use mathlib.Core.List.{map}
 use mathlib.Core.Path.{_≡_}
 use Prim.Native.Nat.{ℕ}
 use lib.ListN.{getD}
-use Rattle.model.specs.Plan.{Plan}
+use Rattle.model.specs.Plan.{Plan, M}
 use Rattle.model.specs.Forms.{main}
 use Rattle.model.specs.Total.{Total, MaxLoadTotal}
 use Rattle.model.specs.Stretch.{Stretch, ReleaseStretch}
@@ -17,6 +17,6 @@ pub record Numbers (p : Plan) (m : Memory) : Type 0 where
   pub deadline : m .head .deadline ≡ p .deadline
   pub switch : m .head .switch ≡ p .switch
   pub total : Total (main p) (m .head .total)
-  pub max-load-total : MaxLoadTotal (main p) (m .head .loaded)
-  pub release-stretch : ReleaseStretch (main p) (m .head .stretch)
-  pub stretch : (n : ℕ) → PointOf p n → Stretch (main p) n (getD (map (λ (l : Leaf). l .stretch) (m .row)) n 0)
+  pub max-load-total : MaxLoadTotal (main p) (m .head .«max_load_total»)
+  pub release-stretch : ReleaseStretch M (main p) (m .head .stretch)
+  pub stretch : (n : ℕ) → PointOf p n → Stretch M (main p) n (getD (map (λ (l : Leaf). l .stretch) (m .row)) n 0)

@@ -3,8 +3,8 @@
 use mathlib.Core.List.{List, [], _∷_, _++_}
 use mathlib.Core.Path.{_≡_}
 use Prim.Native.Nat.{ℕ}
-use Rattle.model.specs.Calls.{Call, release, report, Answer, Accepts, Controller}
-use Rattle.model.specs.Timed.{Decision}
+use Rattle.model.specs.Decisions.{Decision}
+use Rattle.model.specs.Calls.{Call, Release, Report, Answer, Accepts, Controller}
 
 -- A call and its answer.
 pub record Exchange : Type 0 where
@@ -25,10 +25,10 @@ module _ {S : Type 0} (k : Controller S) where
   -- The state is the one after an accepted release and accepted reports of these points, in this order; with the decisions that these were, the latest
   -- first. (Refused calls keep the state, so any number of them may stand anywhere between.)
   pub data Since : S → List ℕ → List Decision → Type 0 where
-    released : Accepts (k .respond (k .fresh) release .answer) →
-        Since (k .respond (k .fresh) release .state) [] (record { history = []; reading = 0 } ∷ [])
-    reported : {s : S} {h : List ℕ} {ds : List Decision} → Since s h ds → (n r : ℕ) → Accepts (k .respond s (report n r) .answer) →
-        Since (k .respond s (report n r) .state) (h ++ (n ∷ [])) (record { history = h ++ (n ∷ []); reading = r } ∷ ds)
+    released : Accepts (k .respond (k .fresh) Release .answer) →
+        Since (k .respond (k .fresh) Release .state) [] (record { history = []; reading = 0 } ∷ [])
+    reported : {s : S} {h : List ℕ} {ds : List Decision} → Since s h ds → (n r : ℕ) → Accepts (k .respond s (Report n r) .answer) →
+        Since (k .respond s (Report n r) .state) (h ++ (n ∷ [])) (record { history = h ++ (n ∷ []); reading = r } ∷ ds)
 
   -- These calls, made one after the other from a state on, each on the state that the last one left, have these answers.
   unfoldable pub Answered : S → List Exchange → Type 0

@@ -12,32 +12,32 @@ use Rattle.model.specs.Forms.{Forms, done, leaf, call, loop, cond, _⊕_}
 use Rattle.model.specs.Places.{pick, _or_, when, _⊕?_, at, passes, seek}
 use Rattle.model.specs.Stack.{from, suffix}
 use Rattle.model.proofs.Places.{never, or-some, ⊕?-some}
-use Rattle.place.specs.Scan.{_▹_, _⊘_, mark, look, trail, beyond, verdict, tracked, Headed}
+use Rattle.place.specs.Private.{Nonempty, _▹_, _⊘_, at-block, look, trail, beyond, scan-answer, tracked}
 use Rattle.place.proofs.Trailing.{truth}
 
-pub verdict-small : (o : Option Forms) (s : Bool) → verdict o s ≤ 2
-unfolding verdict
+pub verdict-small : (o : Option Forms) (s : Bool) → scan-answer o s ≤ 2
+unfolding scan-answer
 verdict-small (some g) s = omega arith
 verdict-small none true = omega arith
 verdict-small none false = omega arith
 
-one-is : 1 ≡ verdict none true
-unfolding verdict
+one-is : 1 ≡ scan-answer none true
+unfolding scan-answer
 one-is = refl
 
-mark-verdict : (b : Block) (x : ℕ) (fs : Forms) (v : ℕ) (o : Option Forms) (s : Bool) → v ≡ verdict o s →
-    mark b x v ≡ verdict (at b x fs o) (pick (b .point) false s)
-unfolding verdict
+mark-verdict : (b : Block) (x : ℕ) (fs : Forms) (v : ℕ) (o : Option Forms) (s : Bool) → v ≡ scan-answer o s →
+    at-block b x v ≡ scan-answer (at b x fs o) (pick (b .point) false s)
+unfolding scan-answer
 mark-verdict b x fs v o s e = go (b .point) (eqb (b .number) x)
   where
-    go : (p q : Bool) → pick p (pick q 2 0) v ≡ verdict (pick p (pick q (some fs) none) o) (pick p false s)
+    go : (p q : Bool) → pick p (pick q 2 0) v ≡ scan-answer (pick p (pick q (some fs) none) o) (pick p false s)
     go true true = refl
     go true false = refl
     go false q = e
 
 parts-verdict : (u v z : Option Forms) (s k q : Bool) (r : Forms) →
-    max (verdict u s) (verdict v k) ▹ verdict z q ≡ verdict (u ⊕? r or v ⊕? r or when (s || k) z) ((s || k) && q)
-unfolding verdict
+    max (scan-answer u s) (scan-answer v k) ▹ scan-answer z q ≡ scan-answer (u ⊕? r or v ⊕? r or when (s || k) z) ((s || k) && q)
+unfolding scan-answer
 parts-verdict (some u) (some v) z s k q r = refl
 parts-verdict (some u) none z s true q r = refl
 parts-verdict (some u) none z s false q r = refl
@@ -48,7 +48,7 @@ parts-verdict none none z true false q r = refl
 parts-verdict none none z false true q r = refl
 parts-verdict none none z false false q r = refl
 
-pub look-is : (f : Forms) (x : ℕ) → look f x ≡ verdict (seek f x) (passes f)
+pub look-is : (f : Forms) (x : ℕ) → look f x ≡ scan-answer (seek f x) (passes f)
 unfolding look seek passes
 look-is done x = one-is
 look-is (leaf b r) x = mark-verdict b x (leaf b r) (look r x) (seek r x) (passes r) (look-is r x)
@@ -65,7 +65,7 @@ look-small f x = rw (look-is f x) (verdict-small (seek f x) (passes f))
 ▹-assoc : (u v w : ℕ) → u ▹ (v ▹ w) ≡ (u ▹ v) ▹ w
 ▹-assoc u v w = elim (truth (eqb u 1)) [ inl k ↦ rw k | inr k ↦ rw (k, k) ]
 
-mark-▹ : (b : Block) (x u v w : ℕ) → u ≡ v ▹ w → mark b x u ≡ mark b x v ▹ w
+mark-▹ : (b : Block) (x u v w : ℕ) → u ≡ v ▹ w → at-block b x u ≡ at-block b x v ▹ w
 mark-▹ b x u v w e = go (b .point) (eqb (b .number) x)
   where
     go : (p q : Bool) → pick p (pick q 2 0) u ≡ pick p (pick q 2 0) v ▹ w
@@ -85,7 +85,7 @@ look-⊕ (cond b t e r) g x =
 ▹-small : (u v : ℕ) → u ≤ 2 → v ≤ 2 → u ▹ v ≤ 2
 ▹-small u v p q = elim (truth (eqb u 1)) [ inl k ↦ rw k q | inr k ↦ rw k p ]
 
-pub beyond-small : (f : Forms) (x : ℕ) → Headed f → beyond f x ≤ 2
+pub beyond-small : (f : Forms) (x : ℕ) → Nonempty f → beyond f x ≤ 2
 unfolding beyond
 beyond-small done x h = absurd h
 beyond-small (leaf b r) x h = look-small r x
@@ -93,7 +93,7 @@ beyond-small (call b fun r) x h = look-small r x
 beyond-small (loop b n body r) x h = look-small r x
 beyond-small (cond b t e r) x h = ▹-small (max (look t x) (look e x)) (look r x) (omega (arith, look-small t x, look-small e x)) (look-small r x)
 
-pub beyond-⊕ : (f g : Forms) (x : ℕ) → Headed f → beyond (f ⊕ g) x ≡ beyond f x ▹ look g x
+pub beyond-⊕ : (f g : Forms) (x : ℕ) → Nonempty f → beyond (f ⊕ g) x ≡ beyond f x ▹ look g x
 unfolding beyond _⊕_
 beyond-⊕ done g x h = absurd h
 beyond-⊕ (leaf b r) g x h = look-⊕ r g x
@@ -102,7 +102,7 @@ beyond-⊕ (loop b n body r) g x h = look-⊕ r g x
 beyond-⊕ (cond b t e r) g x h = rw (look-⊕ r g x) (▹-assoc (max (look t x) (look e x)) (look r x) (look g x))
 
 -- a suffix is never empty.
-headed-⊕ : (f g : Forms) → Headed f → Headed (f ⊕ g)
+headed-⊕ : (f g : Forms) → Nonempty f → Nonempty (f ⊕ g)
 unfolding _⊕_
 headed-⊕ done g h = absurd h
 headed-⊕ (leaf b r) g h = tt
@@ -118,10 +118,10 @@ from-cases b n fs on g e = go (eqb (b .number) n) refl e
     go true k e = inl (eqb-true (b .number) n k, cc)
     go false k e = inr (eqb-false (b .number) n k, e)
 
-headed-same : {f g : Forms} → f ≡ g → Headed f → Headed g
+headed-same : {f g : Forms} → f ≡ g → Nonempty f → Nonempty g
 headed-same e h = rw e at h
 
-pub suffix-headed : (f : Forms) (p : ℕ) (g : Forms) → suffix f p ≡ some g → Headed g
+pub suffix-headed : (f : Forms) (p : ℕ) (g : Forms) → suffix f p ≡ some g → Nonempty g
 unfolding suffix
 suffix-headed done p g e = never e
 suffix-headed (leaf b r) p g e = elim (from-cases b p (leaf b r) (suffix r p) g e) [ inl k ↦ headed-same (k .1) tt | inr k ↦ suffix-headed r p g (k .1) ]
@@ -148,7 +148,7 @@ tracked-pick false v c g o x e f = f
 below-three : (v c : ℕ) → v ≤ 2 → v ⊘ c ≡ v
 below-three v c h = rw (ne-eqb v 3 (λ z. omega arith))
 
-tracked-or : (o : Option Forms) (r : Forms) (x c : ℕ) (k : Option Forms) → ((g : Forms) → o ≡ some g → Headed g) → c ≡ tracked k x →
+tracked-or : (o : Option Forms) (r : Forms) (x c : ℕ) (k : Option Forms) → ((g : Forms) → o ≡ some g → Nonempty g) → c ≡ tracked k x →
     (tracked o x ▹ look r x) ⊘ c ≡ tracked (o ⊕? r or k) x
 unfolding tracked
 tracked-or none r x c k h e = e

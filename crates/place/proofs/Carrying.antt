@@ -9,7 +9,7 @@ use native.Mathlib.Omega.{arith}
 use Rattle.model.specs.Forms.{Forms, done, leaf, call, loop, cond, _⊕_}
 use Rattle.model.specs.Places.{passes, seek}
 use Rattle.model.specs.Stack.{Levels, behind, _else-at_, given, onto, seek-at, onward-at}
-use Rattle.place.specs.Times.{Times, rest-of}
+use Rattle.place.specs.Times.{TimesAt, outer-levels}
 
 never-at : {k : Levels} → none ≡ some k → {A : Type 0} → A
 never-at {k} e = absurd (let z : _≡_ {A = ℕ} 0 1 = cc in omega arith)
@@ -23,13 +23,13 @@ given-some true p ls e = e
 given-some false p ls e = never-at e
 
 module _ (main : Forms) (r : List ℕ) where
-  onto-times : (ks : Levels) (o : Option Forms) (ls : Levels) → onto ks o ≡ some ls → Times main r ks → Times main r (rest-of ls)
-  unfolding rest-of
+  onto-times : (ks : Levels) (o : Option Forms) (ls : Levels) → onto ks o ≡ some ls → TimesAt main r ks → TimesAt main r (outer-levels ls)
+  unfolding outer-levels
   onto-times ks none ls e t = never-at e
   onto-times ks (some g) ls e t = let z : _≡_ {A = Levels} (g ∷ ks) ls = cc in rw (← z) t
 
-  pub seek-times : (f : Forms) (ks : Levels) (x : ℕ) (ls : Levels) → seek-at f ks x ≡ some ls → Times main r ks → Times main r (rest-of ls)
-  unfolding seek-at Times
+  pub seek-times : (f : Forms) (ks : Levels) (x : ℕ) (ls : Levels) → seek-at f ks x ≡ some ls → TimesAt main r ks → TimesAt main r (outer-levels ls)
+  unfolding seek-at TimesAt
   seek-times f [] x ls e t = onto-times [] (seek f x) ls e t
   seek-times f (g ∷ ks) x ls e t =
       elim (else-some (onto (g ∷ ks) (seek f x)) (given (passes f) (seek-at (behind g) ks x)) ls e) [
@@ -37,8 +37,8 @@ module _ (main : Forms) (r : List ℕ) where
         | inr q ↦ seek-times (behind g) ks x ls (given-some (passes f) (seek-at (behind g) ks x) ls q) (t .1)
       ]
 
-  pub onward-times : (ks : Levels) (x : ℕ) (ls : Levels) → onward-at ks x ≡ some ls → Times main r ks → Times main r (rest-of ls)
-  unfolding onward-at Times
+  pub onward-times : (ks : Levels) (x : ℕ) (ls : Levels) → onward-at ks x ≡ some ls → TimesAt main r ks → TimesAt main r (outer-levels ls)
+  unfolding onward-at TimesAt
   onward-times [] x ls e t = never-at e
   onward-times (done ∷ ks) x ls e t = never-at e
   onward-times (leaf b k ∷ ks) x ls e t = seek-times k ks x ls e (t .1)

@@ -13,7 +13,8 @@ use Rattle.model.proofs.Places.{known, never}
 use Rattle.model.proofs.Located.{traceable-remains}
 use Rattle.model.proofs.Steps.{Prefix, remains, ⊕-done}
 use Rattle.place.proofs.Coming.{Comes, stands}
-use Rattle.place.specs.Stack.{Level, Stands, ground, frames}
+use Rattle.place.specs.Stack.{frames}
+use Rattle.place.specs.Private.{Level, Stands, ground}
 
 abbrev up : Option Levels → (Levels → Option Levels) → Option Levels
 up none k = none

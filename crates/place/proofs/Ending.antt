@@ -14,10 +14,10 @@ use Rattle.model.specs.Forms.{Forms, done, leaf, call, loop, cond, _⊕_, forms
 use Rattle.model.specs.Places.{pick, passes, seek, can-end}
 use Rattle.model.specs.Stack.{Levels, behind, below, whole, onto, suffix, turned}
 use Rattle.model.proofs.Places.{⊕-assoc, known}
-use Rattle.rows.specs.Rows.{field, block-at}
-use Rattle.place.specs.Pieces.{Piece, Spanned}
-use Rattle.place.specs.Scan.{look, verdict, quits}
-use Rattle.place.specs.Stack.{Table, Stands, Placed, ground, out-at, leaves-at, Lands, Finds, inner-from, inner-to}
+use Rattle.rows.specs.Rows.{kind-at, point-at, block-at, Piece}
+use Rattle.place.specs.Pieces.{Spanned}
+use Rattle.place.specs.Private.{look, scan-answer, quits, Stands, Placed, ground, out-at, leaves-at, Lands, Finds, inner-from, inner-to}
+use Rattle.place.specs.Stack.{FunctionTable}
 use Rattle.place.proofs.Suffixes.{suffix-in, seek-suffix}
 use Rattle.place.proofs.Views.{View, a-leaf, a-call, a-loop, an-if, level-spanned}
 use Rattle.place.proofs.Falling.{verdict-two, passes-at-is}
@@ -86,10 +86,10 @@ module _ (ks : Levels) where
       rw (e, leaves-is (cond b t s r) ks, ← ⊕-assoc t r (below ks), ← ⊕-assoc s r (below ks), still-join (t ⊕ r) (below ks), still-join (s ⊕ r) (below ks))
       (or-and (passes (t ⊕ r)) (passes (s ⊕ r)) (passes (below ks)))
 
-can-end-view : {w : List ℕ} {G : List Forms} {k p v e : ℕ} {g : Forms} → View w G k p v e g → (field w p 0 ≡ 1 → ⊥) → field w p 1 ≡ 1 → (ks : Levels) → can-end (whole (g ∷ ks)) ≡ leaves-at (g ∷ ks)
+can-end-view : {w : List ℕ} {G : List Forms} {k p v e : ℕ} {g : Forms} → View w G k p v e g → (kind-at w p ≡ 1 → ⊥) → point-at w p ≡ 1 → (ks : Levels) → can-end (whole (g ∷ ks)) ≡ leaves-at (g ∷ ks)
 can-end-view {w} {p = p} {g = g} (a-leaf k r z) a m ks = can-end-leaf ks (block-at w p) r g z
 can-end-view (a-call k t r z) a m ks = absurd (a k)
-can-end-view {w} {G} {p = p} {g = g} (a-loop k q cs le n s r z) a m ks = can-end-loop ks (block-at w p) n (forms G (q .part .lines)) r g z (eq-eqb (field w p 1) 1 m)
+can-end-view {w} {G} {p = p} {g = g} (a-loop k q cs le n s r z) a m ks = can-end-loop ks (block-at w p) n (forms G (q .part .lines)) r g z (eq-eqb (point-at w p) 1 m)
 can-end-view {w} {p = p} {g = g} (an-if k t s r z) a m ks = can-end-cond ks (block-at w p) t s r g z
 
 -- No leaf has so large a number.
@@ -106,15 +106,15 @@ no-seek {w} {G} {k} {i} {e} {f} sp x h =
     ]
 
 -- So the scan says whether the forms can be passed.
-one-is : (s : Bool) → eqb (verdict none s) 1 ≡ s
-unfolding verdict
+one-is : (s : Bool) → eqb (scan-answer none s) 1 ≡ s
+unfolding scan-answer
 one-is true = refl
 one-is false = refl
 
 pub passes-is : {w : List ℕ} {G : List Forms} {k i e : ℕ} {f : Forms} → Spanned w G k i e f → (x : ℕ) → length w ≤ x → {v : ℕ} →
     ((p : Piece w 62 i e) (G : List Forms) → v ≡ look (forms G (p .part .lines)) x) → eqb v 1 ≡ passes f
 passes-is {f = f} sp x h {v} hv =
-    ap (λ (v : ℕ). eqb v 1) (looked sp x v hv ∙ ap (λ (o : Option Forms). verdict o (passes f)) (no-seek sp x h)) ∙ one-is (passes f)
+    ap (λ (v : ℕ). eqb v 1) (looked sp x v hv ∙ ap (λ (o : Option Forms). scan-answer o (passes f)) (no-seek sp x h)) ∙ one-is (passes f)
 
 module _ {w starts : List ℕ} {n : ℕ} {leaves counts : List ℕ} {l : ℕ} (q : Placed w starts n leaves counts l) (one : 1 ≤ l) (x : ℕ) (far : length w ≤ x) where
   abbrev main-of : Forms
@@ -140,7 +140,7 @@ module _ {w starts : List ℕ} {n : ℕ} {leaves counts : List ℕ} {l : ℕ} (q
   whole-leaves : leaves-at (front q one .place ∷ front q one .under) ≡ leaves-at (q .levels)
   whole-leaves = ap leaves-at (sym (front q one .same))
 
-  flat-closes : (field w (getD leaves l 0) 0 ≡ 1 → ⊥) → can-end (whole (q .levels)) ≡ leaves-at (q .levels)
+  flat-closes : (kind-at w (getD leaves l 0) ≡ 1 → ⊥) → can-end (whole (q .levels)) ≡ leaves-at (q .levels)
   flat-closes k = let (e, v, lt, r) = there q one in sym whole-closes ∙ can-end-view v k (q .marked l one (omega arith)) (front q one .under) ∙ whole-leaves
 
   call-closes : {hd : ℕ} (c : CallTop w starts (q .table .funs) n hd (front q one .place)) → can-end (whole (q .levels)) ≡ (passes (c .fun) && leaves-at (q .levels))
@@ -158,16 +158,16 @@ module _ {w starts : List ℕ} {n : ℕ} {leaves counts : List ℕ} {l : ℕ} (q
   end-not z nz =
       elim (left-is z) [
         | inl y ↦ absurd (nz (y .0))
-        | inr y ↦ elim (truth (eqb (field w (getD leaves l 0) 0) 1)) [
-          | inl k ↦ let c = call-top q one (eqb-true (field w (getD leaves l 0) 0) 1 k) in sym (call-closes c ∙ rw (y .1) (and-false (passes (c .fun))))
-          | inr k ↦ sym (flat-closes (eqb-false (field w (getD leaves l 0) 0) 1 k) ∙ y .1)
+        | inr y ↦ elim (truth (eqb (kind-at w (getD leaves l 0)) 1)) [
+          | inl k ↦ let c = call-top q one (eqb-true (kind-at w (getD leaves l 0)) 1 k) in sym (call-closes c ∙ rw (y .1) (and-false (passes (c .fun))))
+          | inr k ↦ sym (flat-closes (eqb-false (kind-at w (getD leaves l 0)) 1 k) ∙ y .1)
         ]
       ]
 
-  pub end-flat : {r hd kd : ℕ} → Lands main-of leaves counts (q .levels) x r → r ≡ 0 → hd ≡ getD leaves l 0 → kd ≡ field w hd 0 → (kd ≡ 1 → ⊥) → true ≡ can-end (whole (q .levels))
+  pub end-flat : {r hd kd : ℕ} → Lands main-of leaves counts (q .levels) x r → r ≡ 0 → hd ≡ getD leaves l 0 → kd ≡ kind-at w hd → (kd ≡ 1 → ⊥) → true ≡ can-end (whole (q .levels))
   end-flat z ez hh hk k =
       elim (left-is z) [
-        | inl y ↦ sym (flat-closes (λ e. k (hk ∙ ap (λ (p : ℕ). field w p 0) hh ∙ e)) ∙ y .1)
+        | inl y ↦ sym (flat-closes (λ e. k (hk ∙ ap (λ (p : ℕ). kind-at w p) hh ∙ e)) ∙ y .1)
         | inr y ↦ absurd (y .0 ez)
       ]
 
@@ -183,7 +183,7 @@ module _ {w starts : List ℕ} {n : ℕ} {leaves counts : List ℕ} {l : ℕ} (q
 found-suffix : {w : List ℕ} {G : List Forms} {k i e : ℕ} {f : Forms} → Spanned w G k i e f → (x : ℕ) (g : Forms) → seek f x ≡ some g → suffix f x ≡ some g
 found-suffix {w} {G} {k} {i} {e} sp x g c = ap (λ (f : Forms). suffix f x) (sp .same) ∙ seek-suffix w (sp .piece .level) i e (sp .piece .part .lines) G x g (sp .piece .part .rep) (rw (sp .same) at c)
 
-module _ {w starts : List ℕ} {n : ℕ} (p : Table w starts n) where
+module _ {w starts : List ℕ} {n : ℕ} (p : FunctionTable w starts n) where
   pub main-spanned : {i e : ℕ} → i ≡ getD starts (n - 1) 0 → e ≡ getD starts n 0 → Spanned w (p .funs) n i e (getD (p .funs) (n - 1) done)
   main-spanned hi he =
       let h : n - 1 + 1 ≡ n = omega (arith, p .count) in
@@ -193,12 +193,12 @@ module _ {w starts : List ℕ} {n : ℕ} (p : Table w starts n) where
   module _ (leaves counts : List ℕ) (x : ℕ) {i e v : ℕ} (hi : i ≡ getD starts (n - 1) 0) (he : e ≡ getD starts n 0)
       (hv : (z : Piece w 62 i e) (G : List Forms) → v ≡ look (forms G (z .part .lines)) x) where
     pub first-none : (v ≡ 2 → ⊥) → Finds 0 (getD (p .funs) (n - 1) done) leaves counts (onto [] (seek (getD (p .funs) (n - 1) done) x)) x 0 0
-    unfolding verdict
+    unfolding scan-answer
     first-none two =
         let main = getD (p .funs) (n - 1) done in
         elim (known (seek main x)) [
           | inl c ↦ inl (refl, rw c)
-          | inr c ↦ absurd (two (looked (main-spanned hi he) x v hv ∙ ap (λ (o : Option Forms). verdict o (passes main)) (c .1)))
+          | inr c ↦ absurd (two (looked (main-spanned hi he) x v hv ∙ ap (λ (o : Option Forms). scan-answer o (passes main)) (c .1)))
         ]
 
     pub first-some : v ≡ 2 → Finds 0 (getD (p .funs) (n - 1) done) leaves counts (onto [] (seek (getD (p .funs) (n - 1) done) x)) x 1 0

@@ -10,7 +10,7 @@ use Rattle.model.specs.Plan.{C}
 use Rattle.model.specs.Forms.{Forms}
 use Rattle.model.specs.Total.{total}
 use Rattle.model.specs.Stack.{Levels, whole, kept, times}
-use Rattle.place.specs.Times.{Times}
+use Rattle.place.specs.Times.{TimesAt}
 
 kept-length : (ls : Levels) → length (kept ls) ≡ length ls
 unfolding kept
@@ -18,8 +18,8 @@ kept-length [] = refl
 kept-length (g ∷ ks) = omega (arith, length-append (kept ks) (total C (whole (g ∷ ks)) ∷ []), kept-length ks)
 
 -- The entries from level 1 on.
-kept-entries : (main : Forms) (r : List ℕ) (ls : Levels) → Times main r ls → (j : ℕ) → j < length ls → getD r (j + 1) 0 ≡ getD (kept ls) j 0
-unfolding Times kept
+kept-entries : (main : Forms) (r : List ℕ) (ls : Levels) → TimesAt main r ls → (j : ℕ) → j < length ls → getD r (j + 1) 0 ≡ getD (kept ls) j 0
+unfolding TimesAt kept
 kept-entries main r [] t j h = absurd (omega arith)
 kept-entries main r (g ∷ ks) t j h =
     let n = kept-length ks in
@@ -31,8 +31,8 @@ kept-entries main r (g ∷ ks) t j h =
       | no q ↦ kept-entries main r ks (t .1) j (omega arith) ∙ sym (List·getD-append (kept ks) (total C (whole (g ∷ ks)) ∷ []) 0 j (omega arith))
     ]
 
-entry-none : (main : Forms) (r : List ℕ) (ls : Levels) → Times main r ls → getD r 0 0 ≡ total C main
-unfolding Times
+entry-none : (main : Forms) (r : List ℕ) (ls : Levels) → TimesAt main r ls → getD r 0 0 ≡ total C main
+unfolding TimesAt
 entry-none main r [] t = t
 entry-none main r (g ∷ ks) t = entry-none main r ks (t .1)
 
@@ -53,7 +53,7 @@ times-above main ls zero h = absurd (omega arith)
 times-above main ls (suc j) h =
     past (kept ls) (replicate (32 - length ls) 0) j (omega (arith, kept-length ls)) ∙ zeros (32 - length ls) (j - length (kept ls))
 
-pub entries : (main : Forms) (r : List ℕ) (ls : Levels) → Times main r ls → ((k : ℕ) → length ls < k → getD r k 0 ≡ 0) → (k : ℕ) →
+pub entries : (main : Forms) (r : List ℕ) (ls : Levels) → TimesAt main r ls → ((k : ℕ) → length ls < k → getD r k 0 ≡ 0) → (k : ℕ) →
     getD r k 0 ≡ getD (times main ls) k 0
 entries main r ls t above zero = entry-none main r ls t
 entries main r ls t above (suc j) =
@@ -75,14 +75,14 @@ replicate-length : (n : ℕ) → length {A = ℕ} (replicate n 0) ≡ n
 replicate-length zero = refl
 replicate-length (suc n) = omega (arith, replicate-length n)
 
-pub all-times : (main : Forms) (r : List ℕ) (ls : Levels) → length r ≡ 33 → length ls ≤ 32 → Times main r ls → ((k : ℕ) → length ls < k → getD r k 0 ≡ 0) → r ≡ times main ls
+pub all-times : (main : Forms) (r : List ℕ) (ls : Levels) → length r ≡ 33 → length ls ≤ 32 → TimesAt main r ls → ((k : ℕ) → length ls < k → getD r k 0 ≡ 0) → r ≡ times main ls
 all-times main r ls e h t above =
     same-list r (times main ls)
     (omega (arith, length-append (kept ls) (replicate (32 - length ls) 0), kept-length ls, replicate-length (32 - length ls))) (entries main r ls t above)
 
 -- The model's list is right, level by level.
-times-right : (main : Forms) (r : List ℕ) (ls : Levels) → getD r 0 0 ≡ total C main → ((j : ℕ) → j < length ls → getD r (j + 1) 0 ≡ getD (kept ls) j 0) → Times main r ls
-unfolding Times kept
+times-right : (main : Forms) (r : List ℕ) (ls : Levels) → getD r 0 0 ≡ total C main → ((j : ℕ) → j < length ls → getD r (j + 1) 0 ≡ getD (kept ls) j 0) → TimesAt main r ls
+unfolding TimesAt kept
 times-right main r [] z h = z
 times-right main r (g ∷ ks) z h =
     let n = kept-length ks in (
@@ -90,7 +90,7 @@ times-right main r (g ∷ ks) z h =
       times-right main r ks z (λ j q. h j (omega arith) ∙ List·getD-append (kept ks) (total C (whole (g ∷ ks)) ∷ []) 0 j (omega arith)),
     )
 
-pub times-are : (main : Forms) (r : List ℕ) (ls : Levels) → r ≡ times main ls → Times main r ls
+pub times-are : (main : Forms) (r : List ℕ) (ls : Levels) → r ≡ times main ls → TimesAt main r ls
 times-are main r ls e =
     times-right main r ls (ap (λ (r : List ℕ). getD r 0 0) e)
     (λ j h. let z : j + 1 ≡ suc j = omega arith in

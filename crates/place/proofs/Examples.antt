@@ -2,9 +2,9 @@
 use mathlib.Core.List.{List, [], _∷_}
 use mathlib.Core.Option.{some}
 use mathlib.Core.Path.{_≡_, refl}
-use Prim.Native.Nat.{ℕ, zero, suc, _+_, _*_, _≤_, _<_}
+use Prim.Native.Nat.{ℕ, zero, suc, _<_}
 use native.Mathlib.Omega.{arith}
-use lib.ListN.{length, getD}
+use lib.ListN.{getD}
 use Rattle.model.specs.Plan.{C, close, leaves, all-leaves}
 use Rattle.model.specs.Forms.{done, leaf, call, loop, forms, linked, last, main, _⊕_}
 use Rattle.model.specs.Total.{total, tally, tallies}
@@ -13,49 +13,15 @@ use Rattle.model.specs.Stack.{Levels, behind, below, whole, kept, times, suffix
 use Rattle.model.specs.Worked.{point-block, silent-block, plan-A, plan-B}
 use Rattle.model.proofs.Points.{AllPoints}
 use Rattle.model.proofs.Worked.{plan-A-accepted, plan-B-accepted}
-use Rattle.rows.specs.Rows.{Rep}
+use Rattle.rows.specs.Worked.{row-A, row-B}
+use Rattle.rows.proofs.Worked.{in-row-A, in-row-B}
 use Rattle.place.specs.Stack.{frames}
-use Rattle.place.specs.Times.{Priced, Costed, level-time}
-use Rattle.place.specs.Plans.{Laid, Filled}
+use Rattle.place.specs.Times.{Priced, CostedStack}
+use Rattle.place.specs.Private.{level-time}
+use Rattle.place.specs.Plans.{PlanColumns}
 use Rattle.place.proofs.Meaning.{costed}
 
--- Plan A: a leaf, a loop of three rounds around a silent leaf, a silent leaf.
-abbrev pub row-A : List ℕ
-row-A =
-    0 ∷ 1 ∷ 5 ∷ 9 ∷ 0 ∷ 0 ∷ 1 ∷ 1 ∷
-    2 ∷ 1 ∷ 2 ∷ 4 ∷ 3 ∷ 0 ∷ 3 ∷ 1 ∷
-    0 ∷ 0 ∷ 10 ∷ 20 ∷ 0 ∷ 0 ∷ 3 ∷ 2 ∷
-    0 ∷ 0 ∷ 6 ∷ 8 ∷ 0 ∷ 0 ∷ 4 ∷ 1 ∷ []
-
-abbrev pub starts-A : List ℕ
-starts-A = 0 ∷ 4 ∷ []
-
-laid-each-A : (f : ℕ) → f < 1 → Rep row-A 1 (getD starts-A f 0) (getD starts-A (f + 1) 0) (getD (plan-A .functions) f close)
-unfolding plan-A Rep
-laid-each-A zero h = (
-  (refl, refl, omega arith, refl),
-  refl,
-  refl,
-  refl,
-  (
-    (refl, refl, omega arith, refl),
-    refl,
-    refl,
-    ((refl, refl, omega arith, refl), refl, refl, refl, refl),
-    ((refl, refl, omega arith, refl), refl, refl, refl, refl),
-  ),
-)
-laid-each-A (suc f) h = absurd (omega arith)
-
-pub laid-A : Laid row-A starts-A plan-A
-unfolding plan-A
-laid-A = record { fits = omega arith; first = refl; each = laid-each-A; room = room }
-  where
-    room : (f : ℕ) → f < 1 → getD starts-A (f + 1) 0 * 8 ≤ length row-A
-    room zero h = omega arith
-    room (suc f) h = absurd (omega arith)
-
--- Its columns: the tails, the turns (a round of the loop takes 2 + 10), the total.
+-- The columns of plan A: the tails, the turns (a round of the loop takes 2 + 10), the total.
 abbrev pub tails-A : List ℕ
 tails-A = 49 ∷ 44 ∷ 42 ∷ 6 ∷ []
 
@@ -70,7 +36,7 @@ unfolding plan-A tally tallies Priced
 filled-A zero h = (refl, (refl, refl, (refl, refl, (refl, refl, tt), (refl, refl, tt))))
 filled-A (suc f) h = absurd (omega arith)
 
-pub columns-A : Filled plan-A tails-A turns-A totals-A
+pub columns-A : PlanColumns plan-A tails-A turns-A totals-A
 unfolding plan-A size sizes
 columns-A = record { long-tails = omega arith; long-turns = omega arith; totals-are = λ f h. filled-A f h .0; priced = λ f h. filled-A f h .1 }
 
@@ -93,44 +59,15 @@ unfolding plan-A AllPoints frames all-leaves leaves
 points-A = ((point-block 1 2 4, (point-block 0 5 9 ∷ [], silent-block 2 10 20 ∷ silent-block 3 6 8 ∷ [], refl), refl, refl), tt)
 
 -- All that the functions ask for there, and what remains: a round less than at the loop's first visit.
-pub costed-A : Costed row-A tails-A turns-A totals-A leaves-A counts-A 1 1
+pub costed-A : CostedStack row-A tails-A turns-A totals-A leaves-A counts-A 1 1
 unfolding plan-A
-costed-A = costed plan-A plan-A-accepted laid-A leaves-A counts-A 1 place-A (omega arith) decoded-A points-A columns-A
+costed-A = costed plan-A plan-A-accepted in-row-A leaves-A counts-A 1 place-A (omega arith) decoded-A points-A columns-A
 
 pub time-A : (level-time row-A tails-A turns-A totals-A leaves-A counts-A (49 ∷ []) 1 ≡ 32) × (getD (times (main plan-A) place-A) 1 0 ≡ 32)
 unfolding plan-A linked forms last kept whole below total _⊕_
 time-A = (refl, refl)
 
--- Plan B: function 0 is one leaf; the main function calls it in the then part of an if, and once more behind the if.
-abbrev pub row-B : List ℕ
-row-B =
-    0 ∷ 1 ∷ 3 ∷ 4 ∷ 0 ∷ 0 ∷ 1 ∷ 1 ∷ 3 ∷ 1 ∷ 2 ∷ 3 ∷ 0 ∷ 3 ∷ 4 ∷ 1 ∷ 1 ∷ 1 ∷ 1 ∷ 2 ∷ 0 ∷ 0 ∷ 3 ∷ 1 ∷ 0 ∷ 0 ∷ 9 ∷ 10 ∷ 0 ∷ 0 ∷ 4 ∷ 1 ∷ 1 ∷ 1 ∷ 1 ∷ 2 ∷ 0 ∷ 0 ∷ 5 ∷ 1 ∷ []
-
-abbrev pub starts-B : List ℕ
-starts-B = 0 ∷ 1 ∷ 5 ∷ []
-
-laid-each-B : (f : ℕ) → f < 2 → Rep row-B 1 (getD starts-B f 0) (getD starts-B (f + 1) 0) (getD (plan-B .functions) f close)
-unfolding plan-B Rep
-laid-each-B zero h = ((refl, refl, omega arith, refl), refl, refl, refl, refl)
-laid-each-B (suc zero) h = (
-  (refl, refl, omega arith, refl),
-  refl,
-  ((refl, refl, omega arith, refl), refl, refl, refl, refl),
-  ((refl, refl, omega arith, refl), refl, refl, refl, refl),
-  ((refl, refl, omega arith, refl), refl, refl, refl, refl),
-)
-laid-each-B (suc (suc f)) h = absurd (omega arith)
-
-pub laid-B : Laid row-B starts-B plan-B
-unfolding plan-B
-laid-B = record { fits = omega arith; first = refl; each = laid-each-B; room = room }
-  where
-    room : (f : ℕ) → f < 2 → getD starts-B (f + 1) 0 * 8 ≤ length row-B
-    room zero h = omega arith
-    room (suc zero) h = omega arith
-    room (suc (suc f)) h = absurd (omega arith)
-
--- Its columns: the tails, no turns, the totals of its two functions.
+-- The columns of plan B: the tails, no turns, the totals of its two functions.
 abbrev pub tails-B : List ℕ
 tails-B = 3 ∷ 15 ∷ 8 ∷ 13 ∷ 4 ∷ []
 
@@ -146,7 +83,7 @@ filled-B zero h = (refl, (refl, refl, tt))
 filled-B (suc zero) h = (refl, (refl, refl, (refl, refl, tt), (refl, refl, tt), (refl, refl, tt)))
 filled-B (suc (suc f)) h = absurd (omega arith)
 
-pub columns-B : Filled plan-B tails-B turns-B totals-B
+pub columns-B : PlanColumns plan-B tails-B turns-B totals-B
 unfolding plan-B size sizes
 columns-B = record { long-tails = omega arith; long-turns = omega arith; totals-are = λ f h. filled-B f h .0; priced = λ f h. filled-B f h .1 }
 
@@ -172,9 +109,9 @@ points-B = (
 )
 
 -- All that the functions ask for there, and what remains: the called leaf's own time.
-pub costed-B : Costed row-B tails-B turns-B totals-B leaves-B counts-B 2 2
+pub costed-B : CostedStack row-B tails-B turns-B totals-B leaves-B counts-B 2 2
 unfolding plan-B
-costed-B = costed plan-B plan-B-accepted laid-B leaves-B counts-B 2 place-B (omega arith) decoded-B points-B columns-B
+costed-B = costed plan-B plan-B-accepted in-row-B leaves-B counts-B 2 place-B (omega arith) decoded-B points-B columns-B
 
 pub time-B : (level-time row-B tails-B turns-B totals-B leaves-B counts-B (15 ∷ 4 ∷ []) 2 ≡ 3) × (getD (times (main plan-B) place-B) 2 0 ≡ 3)
 unfolding plan-B linked forms last kept whole below behind total _⊕_

@@ -15,37 +15,37 @@ use Rattle.model.specs.Forms.{Forms, done, leaf, call, loop, cond, forms}
 use Rattle.model.specs.Places.{pick, passes, seek}
 use Rattle.model.specs.Stack.{Levels, behind, _else-at_, given, onto, seek-at, suffix, turned, inside-of}
 use Rattle.model.proofs.Places.{never}
-use Rattle.rows.specs.Rows.{field, block-at}
-use Rattle.place.specs.Pieces.{Piece, Spanned}
-use Rattle.place.specs.Scan.{trail, beyond, next, quits, verdict, tracked, Headed}
-use Rattle.place.specs.Stack.{Table, Level, Stands, Running, ground, return-at, fall-at, passes-at, out-at, leaves-at, visits, Moved, Lands, Head, base-from, base-to}
+use Rattle.rows.specs.Rows.{kind-at, point-at, detail-at, block-at, Piece}
+use Rattle.place.specs.Pieces.{Spanned}
+use Rattle.place.specs.Private.{Nonempty, trail, beyond, next-beyond, quits, scan-answer, tracked, Level, Stands, Running, ground, return-at, fall-at, passes-at, out-at, leaves-at, visits-there, Moved, Lands, Enterable, base-from, base-to}
+use Rattle.place.specs.Stack.{FunctionTable}
 use Rattle.place.proofs.Answers.{trail-is, suffix-headed}
 use Rattle.place.proofs.Suffixes.{beyond-is, next-suffix}
 use Rattle.place.proofs.Views.{View, a-leaf, a-call, a-loop, an-if, view, level-spanned}
 
 -- From a verdict back.
-pub verdict-two : (o : Option Forms) (s : Bool) → verdict o s ≡ 2 → (g : Forms) × (o ≡ some g)
-unfolding verdict
+pub verdict-two : (o : Option Forms) (s : Bool) → scan-answer o s ≡ 2 → (g : Forms) × (o ≡ some g)
+unfolding scan-answer
 verdict-two (some g) s e = (g, refl)
 verdict-two none true e = absurd (omega arith)
 verdict-two none false e = absurd (omega arith)
 
-pub verdict-one : (o : Option Forms) (s : Bool) → verdict o s ≡ 1 → (o ≡ none) × (s ≡ true)
-unfolding verdict
+pub verdict-one : (o : Option Forms) (s : Bool) → scan-answer o s ≡ 1 → (o ≡ none) × (s ≡ true)
+unfolding scan-answer
 verdict-one (some g) s e = absurd (omega arith)
 verdict-one none true e = (refl, refl)
 verdict-one none false e = absurd (omega arith)
 
-pub verdict-zero : (o : Option Forms) (s : Bool) → (verdict o s ≡ 2 → ⊥) → (verdict o s ≡ 1 → ⊥) → (o ≡ none) × (s ≡ false)
-unfolding verdict
+pub verdict-zero : (o : Option Forms) (s : Bool) → (scan-answer o s ≡ 2 → ⊥) → (scan-answer o s ≡ 1 → ⊥) → (o ≡ none) × (s ≡ false)
+unfolding scan-answer
 verdict-zero (some g) s d e = absurd (d refl)
 verdict-zero none true d e = absurd (e refl)
 verdict-zero none false d e = (refl, refl)
 
 -- Visits of a loop do not change what comes when it is left.
-pub turned-next : (v : ℕ) (s g : Forms) (x : ℕ) → turned s v ≡ some g → Headed s → (beyond s x ≡ beyond g x) × (next s x ≡ next g x) × Headed g
-unfolding turned beyond next
-turned-next zero s g x e h = let q : s ≡ g = cc in (ap (λ (f : Forms). beyond f x) q, ap (λ (f : Forms). next f x) q, rw q at h)
+pub turned-next : (v : ℕ) (s g : Forms) (x : ℕ) → turned s v ≡ some g → Nonempty s → (beyond s x ≡ beyond g x) × (next-beyond s x ≡ next-beyond g x) × Nonempty g
+unfolding turned beyond next-beyond
+turned-next zero s g x e h = let q : s ≡ g = cc in (ap (λ (f : Forms). beyond f x) q, ap (λ (f : Forms). next-beyond f x) q, rw q at h)
 turned-next (suc v) done g x e h = never e
 turned-next (suc v) (leaf b r) g x e h = never e
 turned-next (suc v) (call b fun r) g x e h = never e
@@ -124,7 +124,7 @@ module _ {w starts leaves : List ℕ} {n l : ℕ} where
       Spanned w (q .table .funs) n (base-from w starts n leaves l) (base-to w starts n leaves l) (top q h .level .level)
   spanned q h = let t = top q h in rw (t .depth) at (level-spanned (q .table) leaves (q .counts) (t .under) (t .stands) (t .level .level) (t .level .opens) .0)
 
-  pub head-of : (q : Running w starts n leaves l) → 2 ≤ l → Head w starts (getD leaves (l - 1) 0)
+  pub head-of : (q : Running w starts n leaves l) → 2 ≤ l → Enterable w starts (getD leaves (l - 1) 0)
   head-of q h =
       let t = top q (omega arith) in
       let e : length (t .under) ≡ l - 1 = omega (arith, t .depth) in
@@ -146,19 +146,19 @@ module _ {w starts leaves : List ℕ} {n l : ℕ} where
 module _ {w starts leaves : List ℕ} {n l : ℕ} (q : Running w starts n leaves l) (h : 1 ≤ l) (x : ℕ) where
   -- The answer of the scan.
   pub scanned : {i e v : ℕ} → i ≡ base-from w starts n leaves l → e ≡ base-to w starts n leaves l → {p : ℕ} → p ≡ getD leaves l 0 →
-      ((z : Piece w 62 i e) (G : List Forms) → v ≡ trail (forms G (z .part .lines)) p x) → v ≡ verdict (next (top q h .place) x) (quits (top q h .place))
+      ((z : Piece w 62 i e) (G : List Forms) → v ≡ trail (forms G (z .part .lines)) p x) → v ≡ scan-answer (next-beyond (top q h .place) x) (quits (top q h .place))
   unfolding tracked
   scanned {i} {e} {v} hi he {p} hp hv =
       let t = top q h in
       let sp = spanned q h in
       let lv = t .level in
-      let z : Piece w 62 i e = record { hs = sp .piece .hs; level = sp .piece .level; part = rw (hi, he) (sp .piece .part) } in
+      let z : Piece w 62 i e = record { heights = sp .piece .heights; level = sp .piece .level; part = rw (hi, he) (sp .piece .part) } in
       let o = turned-next (getD (q .counts) l 0) (lv .start) (t .place) x (lv .turns) (suffix-headed (lv .level) (getD leaves l 0) (lv .start) (lv .found)) in
       hv z (q .table .funs) ∙ ap (λ (f : Forms). trail f p x) (sym (sp .same)) ∙ ap (λ (p : ℕ). trail (lv .level) p x) hp ∙ trail-is (lv .level) (getD leaves l 0) x ∙
       ap (λ (o : Option Forms). tracked o x) (lv .found) ∙ o .0 ∙ beyond-is (t .place) x (o .2)
 
   -- x comes next at this level.
-  comes-here : (g : Forms) → next (top q h .place) x ≡ some g → Lands (getD (q .table .funs) (n - 1) done) leaves (q .counts) (top q h .place ∷ top q h .under) x l
+  comes-here : (g : Forms) → next-beyond (top q h .place) x ≡ some g → Lands (getD (q .table .funs) (n - 1) done) leaves (q .counts) (top q h .place ∷ top q h .under) x l
   unfolding fall-at turned
   comes-here g c =
       let t = top q h in
@@ -186,7 +186,7 @@ module _ {w starts leaves : List ℕ} {n l : ℕ} (q : Running w starts n leaves
       ))
 
 -- The loop or call that is open below a level.
-as-loop : {w : List ℕ} {G : List Forms} {k p v e : ℕ} {g : Forms} → View w G k p v e g → (f : Forms) → inside-of g ≡ some f → field w p 0 ≡ 2 →
+as-loop : {w : List ℕ} {G : List Forms} {k p v e : ℕ} {g : Forms} → View w G k p v e g → (f : Forms) → inside-of g ≡ some f → kind-at w p ≡ 2 →
     (m : ℕ) × (body : Forms) × (r : Forms) × (g ≡ loop (block-at w p) (suc m) body r)
 unfolding inside-of
 as-loop (a-leaf k r z) f c h = absurd (omega arith)
@@ -195,11 +195,11 @@ as-loop (a-loop k q cs le zero s r z) f c h = never (rw z at c)
 as-loop {G = G} (a-loop k q cs le (suc m) s r z) f c h = (m, forms G (q .part .lines), r, z)
 as-loop (an-if k t s r z) f c h = absurd (omega arith)
 
-as-call : {w : List ℕ} {G : List Forms} {k p v e : ℕ} {g : Forms} → View w G k p v e g → (f : Forms) → inside-of g ≡ some f → (field w p 0 ≡ 2 → ⊥) →
+as-call : {w : List ℕ} {G : List Forms} {k p v e : ℕ} {g : Forms} → View w G k p v e g → (f : Forms) → inside-of g ≡ some f → (kind-at w p ≡ 2 → ⊥) →
     (fun : Forms) × (r : Forms) × (g ≡ call (block-at w p) fun r)
 unfolding inside-of
 as-call (a-leaf k r z) f c h = never (rw z at c)
-as-call {w = w} {G = G} {p = p} (a-call k t r z) f c h = (getD G (field w p 4) done, r, z)
+as-call {w = w} {G = G} {p = p} (a-call k t r z) f c h = (getD G (detail-at w p) done, r, z)
 as-call (a-loop k q cs le m s r z) f c h = absurd (h k)
 as-call (an-if k t s r z) f c h = never (rw z at c)
 
@@ -211,7 +211,7 @@ return-loop b m body r g ks x e h =
     (ap (λ (g : Forms). seek-at (behind g) ks x) e ∙ seek-loop b m body r ks x h, ap (λ (g : Forms). passes-at (behind g) ks) e ∙ still-loop b m body r ks h)
 
 return-call : (b : Block) (fun r g : Forms) (ks : Levels) (x : ℕ) → g ≡ call b fun r → (return-at (g ∷ ks) x ≡ fall-at (g ∷ ks) x) × (out-at (g ∷ ks) ≡ leaves-at (g ∷ ks))
-unfolding return-at out-at fall-at leaves-at behind next quits
+unfolding return-at out-at fall-at leaves-at behind next-beyond quits
 return-call b fun r g ks x e =
     (rw e (seek-at-is r ks x), rw e (passes-at-is r ks))
 
@@ -222,7 +222,7 @@ bottom [] x z = (refl, refl)
 bottom (g ∷ ks) x z = absurd (omega arith)
 
 -- Past the level in silence.
-pass-down : (g : Forms) (ks : Levels) (x : ℕ) → next g x ≡ none → quits g ≡ true → (fall-at (g ∷ ks) x ≡ return-at ks x) × (leaves-at (g ∷ ks) ≡ out-at ks)
+pass-down : (g : Forms) (ks : Levels) (x : ℕ) → next-beyond g x ≡ none → quits g ≡ true → (fall-at (g ∷ ks) x ≡ return-at ks x) × (leaves-at (g ∷ ks) ≡ out-at ks)
 unfolding fall-at leaves-at
 pass-down g ks x a b = (rw (a, b), rw b)
 
@@ -232,24 +232,24 @@ module _ {w starts leaves : List ℕ} {n l : ℕ} (q : Running w starts n leaves
       Lands (getD (q .table .funs) (n - 1) done) leaves (q .counts) (q .levels) x r
   whole-lands {r} z = rw (top q h .same) z
 
-  pub fall-found : {v : ℕ} → v ≡ verdict (next (top q h .place) x) (quits (top q h .place)) → v ≡ 2 →
+  pub fall-found : {v : ℕ} → v ≡ scan-answer (next-beyond (top q h .place) x) (quits (top q h .place)) → v ≡ 2 →
       Lands (getD (q .table .funs) (n - 1) done) leaves (q .counts) (q .levels) x l
-  fall-found e two = let (g, c) = verdict-two (next (top q h .place) x) (quits (top q h .place)) (sym e ∙ two) in whole-lands {r = l} (comes-here q h x g c)
+  fall-found e two = let (g, c) = verdict-two (next-beyond (top q h .place) x) (quits (top q h .place)) (sym e ∙ two) in whole-lands {r = l} (comes-here q h x g c)
 
-  pub fall-stuck : {v : ℕ} → v ≡ verdict (next (top q h .place) x) (quits (top q h .place)) → (v ≡ 2 → ⊥) → (v ≡ 1 → ⊥) →
+  pub fall-stuck : {v : ℕ} → v ≡ scan-answer (next-beyond (top q h .place) x) (quits (top q h .place)) → (v ≡ 2 → ⊥) → (v ≡ 1 → ⊥) →
       Lands (getD (q .table .funs) (n - 1) done) leaves (q .counts) (q .levels) x 33
   unfolding fall-at leaves-at
   fall-stuck e two one =
-      let (a, b) = verdict-zero (next (top q h .place) x) (quits (top q h .place)) (λ z. two (e ∙ z)) (λ z. one (e ∙ z)) in
+      let (a, b) = verdict-zero (next-beyond (top q h .place) x) (quits (top q h .place)) (λ z. two (e ∙ z)) (λ z. one (e ∙ z)) in
       whole-lands {r = 33} (inl (refl, rw (a, b), rw b))
 
-  down : {v : ℕ} → v ≡ verdict (next (top q h .place) x) (quits (top q h .place)) → v ≡ 1 →
+  down : {v : ℕ} → v ≡ scan-answer (next-beyond (top q h .place) x) (quits (top q h .place)) → v ≡ 1 →
       (fall-at (top q h .place ∷ top q h .under) x ≡ return-at (top q h .under) x) × (leaves-at (top q h .place ∷ top q h .under) ≡ out-at (top q h .under))
   down e one =
-      let (a, b) = verdict-one (next (top q h .place) x) (quits (top q h .place)) (sym e ∙ one) in
+      let (a, b) = verdict-one (next-beyond (top q h .place) x) (quits (top q h .place)) (sym e ∙ one) in
       pass-down (top q h .place) (top q h .under) x a b
 
-  pub fall-out : {v : ℕ} → v ≡ verdict (next (top q h .place) x) (quits (top q h .place)) → v ≡ 1 → l ≡ 1 →
+  pub fall-out : {v : ℕ} → v ≡ scan-answer (next-beyond (top q h .place) x) (quits (top q h .place)) → v ≡ 1 → l ≡ 1 →
       Lands (getD (q .table .funs) (n - 1) done) leaves (q .counts) (q .levels) x 0
   fall-out e one low =
       let (a, b) = down e one in
@@ -257,19 +257,19 @@ module _ {w starts leaves : List ℕ} {n l : ℕ} (q : Running w starts n leaves
       whole-lands {r = 0} (inr (inl (refl, a ∙ c, b ∙ d)))
 
 -- At the head of a level, one level down: g is the open loop or call, k its level.
-module _ {w starts : List ℕ} {n : ℕ} (pr : Table w starts n) (leaves counts : List ℕ) (g : Forms) (ks : Levels) (k : ℕ)
+module _ {w starts : List ℕ} {n : ℕ} (pr : FunctionTable w starts n) (leaves counts : List ℕ) (g : Forms) (ks : Levels) (k : ℕ)
     (st : Stands (getD (pr .funs) (n - 1) done) leaves counts ks) (lv : Level (getD (pr .funs) (n - 1) done) ks (getD leaves k 0) (getD counts k 0) g)
-    (deep : length ks + 1 ≡ k) (f : Forms) (ins : inside-of g ≡ some f) (mark : field w (getD leaves k 0) 1 ≡ 1) (x : ℕ) where
+    (deep : length ks + 1 ≡ k) (f : Forms) (ins : inside-of g ≡ some f) (mark : point-at w (getD leaves k 0) ≡ 1) (x : ℕ) where
   head-view : (e : ℕ) × View w (pr .funs) n (getD leaves k 0) (getD counts k 0) e g
   head-view = (_, view (level-spanned pr leaves counts ks st (lv .level) (lv .opens) .0) (getD leaves k 0) (getD counts k 0) (lv .start) g (lv .found) (lv .turns) .0)
 
-  head-again : field w (getD leaves k 0) 0 ≡ 2 → getD leaves k 0 ≡ x →
-      (zs : Levels) × (return-at (g ∷ ks) x ≡ some zs) × Moved (getD (pr .funs) (n - 1) done) leaves counts k x (visits leaves counts k x) zs
+  head-again : kind-at w (getD leaves k 0) ≡ 2 → getD leaves k 0 ≡ x →
+      (zs : Levels) × (return-at (g ∷ ks) x ≡ some zs) × Moved (getD (pr .funs) (n - 1) done) leaves counts k x (visits-there leaves counts k x) zs
   head-again kind hx =
       let (m, body, r, e) = as-loop (head-view .1) f ins kind in
       let b = block-at w (getD leaves k 0) in
       let z : eqb (getD leaves k 0) x ≡ true = eq-eqb (getD leaves k 0) x hx in
-      let (c, d) = return-loop b m body r g ks x e (eq-eqb (field w (getD leaves k 0) 1) 1 mark) in
+      let (c, d) = return-loop b m body r g ks x e (eq-eqb (point-at w (getD leaves k 0)) 1 mark) in
       let o = turned-once (getD counts k 0) (lv .start) b m body r (lv .turns ∙ ap some e) in (
         loop b m body r ∷ ks,
         c ∙ rw z,
@@ -289,14 +289,14 @@ module _ {w starts : List ℕ} {n : ℕ} (pr : Table w starts n) (leaves counts 
         },
       )
 
-  head-other : field w (getD leaves k 0) 0 ≡ 2 → (getD leaves k 0 ≡ x → ⊥) → (return-at (g ∷ ks) x ≡ none) × (out-at (g ∷ ks) ≡ false)
+  head-other : kind-at w (getD leaves k 0) ≡ 2 → (getD leaves k 0 ≡ x → ⊥) → (return-at (g ∷ ks) x ≡ none) × (out-at (g ∷ ks) ≡ false)
   head-other kind hx =
       let (m, body, r, e) = as-loop (head-view .1) f ins kind in
       let z : eqb (getD leaves k 0) x ≡ false = ne-eqb (getD leaves k 0) x hx in
-      let (c, d) = return-loop (block-at w (getD leaves k 0)) m body r g ks x e (eq-eqb (field w (getD leaves k 0) 1) 1 mark) in
+      let (c, d) = return-loop (block-at w (getD leaves k 0)) m body r g ks x e (eq-eqb (point-at w (getD leaves k 0)) 1 mark) in
       (c ∙ rw z, d)
 
-  head-call : (field w (getD leaves k 0) 0 ≡ 2 → ⊥) → (return-at (g ∷ ks) x ≡ fall-at (g ∷ ks) x) × (out-at (g ∷ ks) ≡ leaves-at (g ∷ ks))
+  head-call : (kind-at w (getD leaves k 0) ≡ 2 → ⊥) → (return-at (g ∷ ks) x ≡ fall-at (g ∷ ks) x) × (out-at (g ∷ ks) ≡ leaves-at (g ∷ ks))
   head-call kind =
       let (fun, r, e) = as-call (head-view .1) f ins kind in
       return-call (block-at w (getD leaves k 0)) fun r g ks x e
@@ -307,10 +307,10 @@ module _ {w starts leaves : List ℕ} {n l : ℕ} (q : Running w starts n leaves
   main-of = getD (q .table .funs) (n - 1) done
 
   pub record Under (ks : Levels) : Type 0 where
-    pub again : field w (getD leaves (l - 1) 0) 0 ≡ 2 → getD leaves (l - 1) 0 ≡ x →
-        (zs : Levels) × (return-at ks x ≡ some zs) × Moved main-of leaves (q .counts) (l - 1) x (visits leaves (q .counts) (l - 1) x) zs
-    pub other : field w (getD leaves (l - 1) 0) 0 ≡ 2 → (getD leaves (l - 1) 0 ≡ x → ⊥) → (return-at ks x ≡ none) × (out-at ks ≡ false)
-    pub calling : (field w (getD leaves (l - 1) 0) 0 ≡ 2 → ⊥) → (return-at ks x ≡ fall-at ks x) × (out-at ks ≡ leaves-at ks)
+    pub again : kind-at w (getD leaves (l - 1) 0) ≡ 2 → getD leaves (l - 1) 0 ≡ x →
+        (zs : Levels) × (return-at ks x ≡ some zs) × Moved main-of leaves (q .counts) (l - 1) x (visits-there leaves (q .counts) (l - 1) x) zs
+    pub other : kind-at w (getD leaves (l - 1) 0) ≡ 2 → (getD leaves (l - 1) 0 ≡ x → ⊥) → (return-at ks x ≡ none) × (out-at ks ≡ false)
+    pub calling : (kind-at w (getD leaves (l - 1) 0) ≡ 2 → ⊥) → (return-at ks x ≡ fall-at ks x) × (out-at ks ≡ leaves-at ks)
 
   under-of : (ks : Levels) → length ks ≡ l - 1 → Stands main-of leaves (q .counts) ks → (f : Forms) → ground main-of ks ≡ some f → Under ks
   unfolding Stands ground
@@ -329,29 +329,29 @@ module _ {w starts leaves : List ℕ} {n l : ℕ} (q : Running w starts n leaves
   under = let t = top q one-up in under-of (t .under) (omega (arith, t .depth)) (t .stands) (t .level .level) (t .level .opens)
 
   -- The answers down there.
-  pub fall-again : {v k hd : ℕ} → v ≡ verdict (next (top q one-up .place) x) (quits (top q one-up .place)) → v ≡ 1 → hd ≡ getD leaves (l - 1) 0 → k ≡ field w hd 0 → k ≡ 2 → hd ≡ x →
+  pub fall-again : {v k hd : ℕ} → v ≡ scan-answer (next-beyond (top q one-up .place) x) (quits (top q one-up .place)) → v ≡ 1 → hd ≡ getD leaves (l - 1) 0 → k ≡ kind-at w hd → k ≡ 2 → hd ≡ x →
       Lands main-of leaves (q .counts) (q .levels) x (l - 1)
   fall-again {v} {k} {hd} e one hh hk two hx =
       let (a, b) = down q one-up x e one in
-      let kind : field w (getD leaves (l - 1) 0) 0 ≡ 2 = ap (λ (p : ℕ). field w p 0) (sym hh) ∙ sym hk ∙ two in
+      let kind : kind-at w (getD leaves (l - 1) 0) ≡ 2 = ap (λ (p : ℕ). kind-at w p) (sym hh) ∙ sym hk ∙ two in
       let (zs, c, m) = under .again kind (sym hh ∙ hx) in
       whole-lands q one-up x {r = l - 1} (inr (inr (omega arith, omega (arith, top q one-up .depth), (zs, a ∙ c, m))))
 
-  pub fall-other : {v k hd : ℕ} → v ≡ verdict (next (top q one-up .place) x) (quits (top q one-up .place)) → v ≡ 1 → hd ≡ getD leaves (l - 1) 0 → k ≡ field w hd 0 → k ≡ 2 → (hd ≡ x → ⊥) →
+  pub fall-other : {v k hd : ℕ} → v ≡ scan-answer (next-beyond (top q one-up .place) x) (quits (top q one-up .place)) → v ≡ 1 → hd ≡ getD leaves (l - 1) 0 → k ≡ kind-at w hd → k ≡ 2 → (hd ≡ x → ⊥) →
       Lands main-of leaves (q .counts) (q .levels) x 33
   fall-other {v} {k} {hd} e one hh hk two hx =
       let (a, b) = down q one-up x e one in
-      let kind : field w (getD leaves (l - 1) 0) 0 ≡ 2 = ap (λ (p : ℕ). field w p 0) (sym hh) ∙ sym hk ∙ two in
+      let kind : kind-at w (getD leaves (l - 1) 0) ≡ 2 = ap (λ (p : ℕ). kind-at w p) (sym hh) ∙ sym hk ∙ two in
       let (c, d) = under .other kind (λ z. hx (hh ∙ z)) in
       whole-lands q one-up x {r = 33} (inl (refl, a ∙ c, b ∙ d))
 
-  pub fall-on : {v k hd r : ℕ} → v ≡ verdict (next (top q one-up .place) x) (quits (top q one-up .place)) → v ≡ 1 → hd ≡ getD leaves (l - 1) 0 → k ≡ field w hd 0 → (k ≡ 2 → ⊥) →
+  pub fall-on : {v k hd r : ℕ} → v ≡ scan-answer (next-beyond (top q one-up .place) x) (quits (top q one-up .place)) → v ≡ 1 → hd ≡ getD leaves (l - 1) 0 → k ≡ kind-at w hd → (k ≡ 2 → ⊥) →
       ((z : Running w starts n leaves (l - 1)) → Lands (getD (z .table .funs) (n - 1) done) leaves (z .counts) (z .levels) x r) →
       Lands main-of leaves (q .counts) (q .levels) x r
   unfolding lower
   fall-on {v} {k} {hd} {r} e one hh hk two rec =
       let (a, b) = down q one-up x e one in
-      let kind : field w (getD leaves (l - 1) 0) 0 ≡ 2 → ⊥ = λ z. two (hk ∙ ap (λ (p : ℕ). field w p 0) hh ∙ z) in
+      let kind : kind-at w (getD leaves (l - 1) 0) ≡ 2 → ⊥ = λ z. two (hk ∙ ap (λ (p : ℕ). kind-at w p) hh ∙ z) in
       let (c, d) = under .calling kind in
       let t = top q one-up in
       let z : Running w starts n leaves (l - 1) =

@@ -15,10 +15,10 @@ use Rattle.model.specs.Forms.{Forms, done, leaf, call, loop, cond, forms}
 use Rattle.model.specs.Places.{pick, passes, seek, Traceable}
 use Rattle.model.specs.Stack.{Levels, whole, _else-at_, given, onto, onward-at, suffix, turned, inside-of}
 use Rattle.model.proofs.Places.{never}
-use Rattle.rows.specs.Rows.{field, block-at}
-use Rattle.place.specs.Pieces.{Piece, Spanned}
-use Rattle.place.specs.Scan.{look, verdict}
-use Rattle.place.specs.Stack.{Table, Stands, Running, Placed, ground, fall-at, Moved, Lands, Finds, Head, inner-from, inner-to}
+use Rattle.rows.specs.Rows.{kind-at, point-at, detail-at, block-at, Piece}
+use Rattle.place.specs.Pieces.{Spanned}
+use Rattle.place.specs.Private.{look, scan-answer, Stands, Running, Placed, ground, fall-at, Moved, Lands, Finds, Enterable, inner-from, inner-to}
+use Rattle.place.specs.Stack.{FunctionTable}
 use Rattle.place.proofs.Answers.{look-is}
 use Rattle.place.proofs.Suffixes.{seek-suffix}
 use Rattle.place.proofs.Views.{View, a-leaf, a-call, a-loop, an-if, view, level-spanned, open-call, open-loop, turned-loop}
@@ -40,7 +40,7 @@ turned-suc v (loop b zero body r) g e = never e
 turned-suc v (loop b (suc m) body r) g e = let (k, p, q) = turned-loop v b m body r g e in (b, k, body, r, q)
 turned-suc v (cond b t s r) g e = never e
 
-pub loop-bound : {w : List ℕ} {G : List Forms} {k p v e : ℕ} {g : Forms} → View w G k p v e g → (b : Block) (m : ℕ) (body r : Forms) → g ≡ loop b m body r → v ≤ field w p 4
+pub loop-bound : {w : List ℕ} {G : List Forms} {k p v e : ℕ} {g : Forms} → View w G k p v e g → (b : Block) (m : ℕ) (body r : Forms) → g ≡ loop b m body r → v ≤ detail-at w p
 loop-bound (a-leaf k r z) b m body s e = absurd (let y : leaf _ r ≡ loop b m body s = sym z ∙ e in let z : _≡_ {A = ℕ} 0 1 = cc in omega arith)
 loop-bound (a-call k t r z) b m body s e = absurd (let y = sym z ∙ e in let z : _≡_ {A = ℕ} 0 1 = cc in omega arith)
 loop-bound (a-loop k q cs le m s r z) b o body u e = omega arith
@@ -84,14 +84,14 @@ module _ {w starts : List ℕ} {n : ℕ} {leaves counts : List ℕ} {l : ℕ} (q
       ]
 
   -- a loop's visits stay within its bound.
-  visits-fit : (r v : ℕ) (ks : Levels) → Moved main-of leaves counts r x (v + 1) ks → v + 1 ≤ field w x 4
+  visits-fit : (r v : ℕ) (ks : Levels) → Moved main-of leaves counts r x (v + 1) ks → v + 1 ≤ detail-at w x
   visits-fit r v ks m =
       let lv = m .level in
       let sp = level-spanned (q .table) leaves counts (m .under) (m .stands) (lv .level) (lv .opens) .0 in
       let (b, k, body, s, e) = turned-suc v (lv .start) (m .place) (ap (λ (v : ℕ). turned (lv .start) v) (sym (add-one v)) ∙ lv .turns) in
       loop-bound (view sp x (v + 1) (lv .start) (m .place) (lv .found) (lv .turns) .0) b k body s e
 
-  pub again-fits : {r hd : ℕ} → (r ≡ 0 → ⊥) → r ≤ 32 → hd ≡ getD leaves r 0 → hd ≡ x → Lands main-of leaves counts (q .levels) x r → getD counts r 0 + 1 ≤ field w x 4
+  pub again-fits : {r hd : ℕ} → (r ≡ 0 → ⊥) → r ≤ 32 → hd ≡ getD leaves r 0 → hd ≡ x → Lands main-of leaves counts (q .levels) x r → getD counts r 0 + 1 ≤ detail-at w x
   again-fits {r} a b hh hx z =
       elim (below-again {r = r} a b hh hx z) [ inl y ↦ absurd (a (y .0)) | inr y ↦ visits-fit r (getD counts r 0) (y .2 .0) (y .2 .2) ]
 
@@ -101,27 +101,27 @@ pub record CallTop (w starts : List ℕ) (G : List Forms) (n p : ℕ) (g : Forms
   pub later : Forms
   pub shape : g ≡ call (block-at w p) fun later
   pub spanned : Spanned w G n (inner-from w starts p) (inner-to w starts p) fun
-  pub head : Head w starts p
+  pub head : Enterable w starts p
 
 pub record LoopTop (w starts : List ℕ) (G : List Forms) (n p v : ℕ) (g : Forms) : Type 0 where
   pub rounds : ℕ
   pub body : Forms
   pub later : Forms
   pub shape : g ≡ loop (block-at w p) rounds body later
-  pub bound : rounds + v ≡ field w p 4
+  pub bound : rounds + v ≡ detail-at w p
   pub spanned : Spanned w G n (inner-from w starts p) (inner-to w starts p) body
-  pub head : Head w starts p
+  pub head : Enterable w starts p
 
-module _ {w starts : List ℕ} {n : ℕ} (pr : Table w starts n) {p v e : ℕ} {g : Forms} (lt : p < e) (room : e * 8 ≤ length w) where
-  as-call-top : View w (pr .funs) n p v e g → field w p 0 ≡ 1 → CallTop w starts (pr .funs) n p g
+module _ {w starts : List ℕ} {n : ℕ} (pr : FunctionTable w starts n) {p v e : ℕ} {g : Forms} (lt : p < e) (room : e * 8 ≤ length w) where
+  as-call-top : View w (pr .funs) n p v e g → kind-at w p ≡ 1 → CallTop w starts (pr .funs) n p g
   as-call-top (a-leaf k r z) h = absurd (omega arith)
   as-call-top (a-call k t r z) h =
       let (sp, hd) = open-call pr p e k t lt room in
-      record { fun = getD (pr .funs) (field w p 4) done; later = r; shape = z; spanned = sp; head = hd }
+      record { fun = getD (pr .funs) (detail-at w p) done; later = r; shape = z; spanned = sp; head = hd }
   as-call-top (a-loop k q cs le m s r z) h = absurd (omega arith)
   as-call-top (an-if k t s r z) h = absurd (omega arith)
 
-  as-loop-top : View w (pr .funs) n p v e g → field w p 0 ≡ 2 → LoopTop w starts (pr .funs) n p v g
+  as-loop-top : View w (pr .funs) n p v e g → kind-at w p ≡ 2 → LoopTop w starts (pr .funs) n p v g
   as-loop-top (a-leaf k r z) h = absurd (omega arith)
   as-loop-top (a-call k t r z) h = absurd (omega arith)
   as-loop-top (a-loop k q cs le m s r z) h =
@@ -129,7 +129,7 @@ module _ {w starts : List ℕ} {n : ℕ} (pr : Table w starts n) {p v e : ℕ} {
       record { rounds = m; body = forms (pr .funs) (q .part .lines); later = r; shape = z; bound = s; spanned = sp; head = hd }
   as-loop-top (an-if k t s r z) h = absurd (omega arith)
 
-  flat-onward : View w (pr .funs) n p v e g → (field w p 0 ≡ 1 → ⊥) → (field w p 0 ≡ 2 → ⊥) → (ks : Levels) (x : ℕ) → Traceable (whole (g ∷ ks)) → onward-at (g ∷ ks) x ≡ fall-at (g ∷ ks) x
+  flat-onward : View w (pr .funs) n p v e g → (kind-at w p ≡ 1 → ⊥) → (kind-at w p ≡ 2 → ⊥) → (ks : Levels) (x : ℕ) → Traceable (whole (g ∷ ks)) → onward-at (g ∷ ks) x ≡ fall-at (g ∷ ks) x
   flat-onward (a-leaf k r z) a b ks x traceable = onward-leaf ks x (block-at w p) r g z
   flat-onward (a-call k t r z) a b ks x traceable = absurd (a k)
   flat-onward (a-loop k q cs le m s r z) a b ks x traceable = absurd (b k)
@@ -137,7 +137,7 @@ module _ {w starts : List ℕ} {n : ℕ} (pr : Table w starts n) {p v e : ℕ} {
 
 -- What a scan inside answered.
 pub looked : {w : List ℕ} {G : List Forms} {n i e : ℕ} {f : Forms} → Spanned w G n i e f → (x v : ℕ) → ((p : Piece w 62 i e) (G : List Forms) → v ≡ look (forms G (p .part .lines)) x) →
-    v ≡ verdict (seek f x) (passes f)
+    v ≡ scan-answer (seek f x) (passes f)
 looked {G = G} {f = f} sp x v h = h (sp .piece) G ∙ ap (λ (f : Forms). look f x) (sym (sp .same)) ∙ look-is f x
 
 pub zero-or : (m : ℕ) → (m ≡ 0) ⊎ ((k : ℕ) × (m ≡ suc k))
@@ -173,10 +173,10 @@ module _ {w starts : List ℕ} {n : ℕ} {leaves counts : List ℕ} {l : ℕ} (q
   pub leaf-room : {hd : ℕ} → hd ≡ getD leaves l 0 → hd * 8 + 8 ≤ length w
   leaf-room hh = let (e, v, lt, r) = there in omega arith
 
-  pub call-top : field w (getD leaves l 0) 0 ≡ 1 → CallTop w starts (q .table .funs) n (getD leaves l 0) (front .place)
+  pub call-top : kind-at w (getD leaves l 0) ≡ 1 → CallTop w starts (q .table .funs) n (getD leaves l 0) (front .place)
   call-top k = let (e, v, lt, r) = there in as-call-top (q .table) lt r v k
 
-  pub loop-top : field w (getD leaves l 0) 0 ≡ 2 → LoopTop w starts (q .table .funs) n (getD leaves l 0) (getD counts l 0) (front .place)
+  pub loop-top : kind-at w (getD leaves l 0) ≡ 2 → LoopTop w starts (q .table .funs) n (getD leaves l 0) (getD counts l 0) (front .place)
   loop-top k = let (e, v, lt, r) = there in as-loop-top (q .table) lt r v k
 
   front-traceable : Traceable (whole (front .place ∷ front .under))
@@ -185,11 +185,11 @@ module _ {w starts : List ℕ} {n : ℕ} {leaves counts : List ℕ} {l : ℕ} (q
       rw (front .same) at z
 
   -- The same of the leaf as the code read it: hd the leaf, kd its kind.
-  pub call-here : {hd kd : ℕ} → hd ≡ getD leaves l 0 → kd ≡ field w hd 0 → kd ≡ 1 → CallTop w starts (q .table .funs) n hd (front .place)
-  call-here {hd} hh hk k = rw hh (call-top (ap (λ (p : ℕ). field w p 0) (sym hh) ∙ sym hk ∙ k))
+  pub call-here : {hd kd : ℕ} → hd ≡ getD leaves l 0 → kd ≡ kind-at w hd → kd ≡ 1 → CallTop w starts (q .table .funs) n hd (front .place)
+  call-here {hd} hh hk k = rw hh (call-top (ap (λ (p : ℕ). kind-at w p) (sym hh) ∙ sym hk ∙ k))
 
-  pub loop-here : {hd kd : ℕ} → hd ≡ getD leaves l 0 → kd ≡ field w hd 0 → kd ≡ 2 → LoopTop w starts (q .table .funs) n hd (getD counts l 0) (front .place)
-  loop-here {hd} hh hk k = rw hh (loop-top (ap (λ (p : ℕ). field w p 0) (sym hh) ∙ sym hk ∙ k))
+  pub loop-here : {hd kd : ℕ} → hd ≡ getD leaves l 0 → kd ≡ kind-at w hd → kd ≡ 2 → LoopTop w starts (q .table .funs) n hd (getD counts l 0) (front .place)
+  loop-here {hd} hh hk k = rw hh (loop-top (ap (λ (p : ℕ). kind-at w p) (sym hh) ∙ sym hk ∙ k))
 
   -- Into the form that the innermost level opens with.
   push : (x : ℕ) (f : Forms) → inside-of (front .place) ≡ some f → {i e : ℕ} → Spanned w (q .table .funs) n i e f → (h : Forms) → seek f x ≡ some h →
@@ -232,10 +232,10 @@ module _ {w starts : List ℕ} {n : ℕ} {leaves counts : List ℕ} {l : ℕ} (q
   none-found x h u = elim u [ inl y ↦ y .1 | inr y ↦ absurd (omega (arith, y .0)) ]
 
   -- a leaf or an if.
-  pub find-flat : (x : ℕ) {hd kd r v : ℕ} → hd ≡ getD leaves l 0 → kd ≡ field w hd 0 → (kd ≡ 1 → ⊥) → (kd ≡ 2 → ⊥) → Under x r v → Answers x r v
+  pub find-flat : (x : ℕ) {hd kd r v : ℕ} → hd ≡ getD leaves l 0 → kd ≡ kind-at w hd → (kd ≡ 1 → ⊥) → (kd ≡ 2 → ⊥) → Under x r v → Answers x r v
   find-flat x {hd} hh hk a b u =
       let (e, v, lt, room) = there in
-      let k = hk ∙ ap (λ (p : ℕ). field w p 0) hh in
+      let k = hk ∙ ap (λ (p : ℕ). kind-at w p) hh in
       finds-as x (whole-onward x (flat-onward (q .table) lt room v (λ z. a (k ∙ z)) (λ z. b (k ∙ z)) (front .under) x front-traceable) ∙ whole-fall x) u
 
   -- a call: the scan of its function.
@@ -266,7 +266,7 @@ module _ {w starts : List ℕ} {n : ℕ} {leaves counts : List ℕ} {l : ℕ} (q
   -- a loop that is a point.
   module _ (x : ℕ) {hd : ℕ} (hh : hd ≡ getD leaves l 0) (c : LoopTop w starts (q .table .funs) n hd (getD counts l 0) (front .place)) where
     marked-here : (block-at w hd) .point ≡ true
-    marked-here = eq-eqb (field w hd 1) 1 (ap (λ (p : ℕ). field w p 1) hh ∙ q .marked l one (omega arith))
+    marked-here = eq-eqb (point-at w hd) 1 (ap (λ (p : ℕ). point-at w p) hh ∙ q .marked l one (omega arith))
 
     spent : c .rounds ≡ 0 → onward-at (q .levels) x ≡ fall-at (q .levels) x
     spent z =
@@ -295,11 +295,11 @@ module _ {w starts : List ℕ} {n : ℕ} {leaves counts : List ℕ} {l : ℕ} (q
           ]
         ]
 
-    pub loop-spent : {r v k : ℕ} → r ≤ 0 → Under x r v → k ≡ field w hd 4 → k ≤ getD counts l 0 → Answers x 0 0
+    pub loop-spent : {r v k : ℕ} → r ≤ 0 → Under x r v → k ≡ detail-at w hd → k ≤ getD counts l 0 → Answers x 0 0
     loop-spent h u hk le = inl (refl, spent (omega (arith, c .bound)) ∙ none-found x h u)
 
     -- It turns again.
-    module _ {k o u : ℕ} (zr : o ≤ 0) (un : Under x o u) (hk : k ≡ field w hd 4) (less : getD counts l 0 < k) {v : ℕ}
+    module _ {k o u : ℕ} (zr : o ≤ 0) (un : Under x o u) (hk : k ≡ detail-at w hd) (less : getD counts l 0 < k) {v : ℕ}
         (hv : (p : Piece w 62 (inner-from w starts hd) (inner-to w starts hd)) (G : List Forms) → v ≡ look (forms G (p .part .lines)) x) where
       round : (m : ℕ) × (c .rounds ≡ suc m)
       round = elim rounds-of [ inl z ↦ absurd (omega (arith, c .bound, z)) | inr z ↦ z ]
@@ -308,7 +308,7 @@ module _ {w starts : List ℕ} {n : ℕ} {leaves counts : List ℕ} {l : ℕ} (q
       unfolding inside-of
       inside = ap inside-of (c .shape ∙ ap (λ (m : ℕ). loop (block-at w hd) m (c .body) (c .later)) (round .1))
 
-      seen : v ≡ verdict (seek (c .body) x) (passes (c .body))
+      seen : v ≡ scan-answer (seek (c .body) x) (passes (c .body))
       seen = looked (c .spanned) x v hv
 
       pub loop-enter : v ≡ 2 → Answers x (l + 1) 0

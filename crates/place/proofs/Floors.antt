@@ -11,8 +11,9 @@ use Rattle.model.specs.Forms.{Forms, done, call, loop, forms}
 use Rattle.model.specs.Total.{total}
 use Rattle.model.specs.Stack.{Levels, suffix, turned, inside-of}
 use Rattle.model.proofs.Places.{never}
-use Rattle.rows.specs.Rows.{field, block-at}
-use Rattle.place.specs.Stack.{Table, Stands, ground}
+use Rattle.rows.specs.Rows.{kind-at, isolated-at, detail-at, block-at}
+use Rattle.place.specs.Stack.{FunctionTable}
+use Rattle.place.specs.Private.{Stands, ground}
 use Rattle.place.specs.Times.{Columns}
 use Rattle.place.proofs.Views.{View, a-leaf, a-call, a-loop, an-if, view, level-spanned}
 use Rattle.place.proofs.Pricing.{Inner, At, inner-same, priced-suffix, rules-below, turned-back}
@@ -20,9 +21,9 @@ use Rattle.place.proofs.Pricing.{Inner, At, inner-same, priced-suffix, 
 -- How the forms f of the level above ks, which e follows in their function, stand over the head p of the level.
 pub data Under (w tails totals : List ℕ) (n p : ℕ) (ks : Levels) (f : Forms) (e : ℕ) : Type 0 where
   lowest : ks ≡ [] → e ≡ 0 → Under w tails totals n p ks f e
-  in-call : field w p 0 ≡ 1 → field w p 4 < n → getD totals (field w p 4) 0 ≡ total C f → (r : Forms) (ls : Levels) → ks ≡ call (block-at w p) f r ∷ ls → e ≡ 0 →
+  in-call : kind-at w p ≡ 1 → detail-at w p < n → getD totals (detail-at w p) 0 ≡ total C f → (r : Forms) (ls : Levels) → ks ≡ call (block-at w p) f r ∷ ls → e ≡ 0 →
       Under w tails totals n p ks f e
-  in-loop : field w p 0 ≡ 2 → (m : ℕ) (r : Forms) (ls : Levels) → ks ≡ loop (block-at w p) (suc m) f r ∷ ls → getD tails p 0 ≡ field w p 2 + total C f + e →
+  in-loop : kind-at w p ≡ 2 → (m : ℕ) (r : Forms) (ls : Levels) → ks ≡ loop (block-at w p) (suc m) f r ∷ ls → getD tails p 0 ≡ isolated-at w p + total C f + e →
       Under w tails totals n p ks f e
 
 -- The tail of a loop is its own visit, one pass of its body, and what follows the body.
@@ -34,14 +35,14 @@ loop-tail b k body r t e h q =
     let i : k * (total C body + C b) ≡ suc (k - 1) * (total C body + C b) = ap (λ (j : ℕ). j * (total C body + C b)) z in
     omega (arith, q, i, suc-mul (k - 1) (total C body + C b))
 
-module _ {w starts : List ℕ} {n : ℕ} (t : Table w starts n) {tails turns totals : List ℕ} (cs : Columns t tails turns totals) where
+module _ {w starts : List ℕ} {n : ℕ} (t : FunctionTable w starts n) {tails turns totals : List ℕ} (cs : Columns t tails turns totals) where
   fun-inner : (f : ℕ) → f < n → Inner totals tails turns (t .funs) n (getD (t .funs) f done) 0
   fun-inner f h =
       let sp = t .each f h in
       record {
         lines = sp .piece .part .lines;
         same = sp .same;
-        calls = rules-below (sp .piece .hs) 62 (sp .piece .level) n (sp .piece .part .lines) (sp .few) (sp .piece .part .rules);
+        calls = rules-below (sp .piece .heights) 62 (sp .piece .level) n (sp .piece .part .lines) (sp .few) (sp .piece .part .rules);
         priced = cs .priced f h;
       }
 
@@ -57,11 +58,11 @@ module _ {w starts : List ℕ} {n : ℕ} (t : Table w starts n) {tails turns tot
   open-priced p v stop s g f d ls (a-leaf k r z) a u c = never (rw z at c)
   open-priced p v stop s g f d ls (an-if k x y r z) a u c = never (rw z at c)
   open-priced p v stop s g f d ls (a-call k h r z) a u c =
-      let i : getD (t .funs) (field w p 4) done ≡ f = let y : some (getD (t .funs) (field w p 4) done) ≡ some f = rw z at c in cc in
+      let i : getD (t .funs) (detail-at w p) done ≡ f = let y : some (getD (t .funs) (detail-at w p) done) ≡ some f = rw z at c in cc in
       record {
         e = 0;
-        inner = rw i at (fun-inner (field w p 4) h);
-        under = in-call k h (cs .totals-are (field w p 4) h ∙ ap (total C) i) r ls (ap (λ (g : Forms). g ∷ ls) (z ∙ ap (λ (f : Forms). call (block-at w p) f r) i)) refl;
+        inner = rw i at (fun-inner (detail-at w p) h);
+        under = in-call k h (cs .totals-are (detail-at w p) h ∙ ap (total C) i) r ls (ap (λ (g : Forms). g ∷ ls) (z ∙ ap (λ (f : Forms). call (block-at w p) f r) i)) refl;
       }
   open-priced p v stop s g f d ls (a-loop k q few le zero b r z) a u c = never (rw z at c)
   open-priced p v stop s g f d ls (a-loop k q few le (suc m) b r z) a u c =

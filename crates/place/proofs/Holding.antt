@@ -14,11 +14,11 @@ use Rattle.model.specs.Plan.{Block}
 use Rattle.model.specs.Forms.{Forms, done, loop, forms}
 use Rattle.model.specs.Stack.{Levels, suffix, turned, inside-of}
 use Rattle.model.proofs.Places.{never, known}
-use Rattle.rows.specs.Rows.{field, block-at}
+use Rattle.rows.specs.Rows.{point-at, block-at, Piece}
 use Rattle.rows.specs.Answers.{Says}
-use Rattle.place.specs.Pieces.{Piece, Spanned}
-use Rattle.place.specs.Scan.{trail, tracked}
-use Rattle.place.specs.Stack.{Table, Level, Stands, Placed, ground, Enters, Counted, Settled, Held, Decodes, Head, inner-from, inner-to, base-from, base-to}
+use Rattle.place.specs.Pieces.{Spanned}
+use Rattle.place.specs.Private.{trail, tracked, Level, Stands, Placed, ground, Enters, Counted, Settled, StackStands, Enterable, inner-from, inner-to, base-from, base-to}
+use Rattle.place.specs.Stack.{FunctionTable, Decodes}
 use Rattle.place.proofs.Answers.{trail-is, beyond-small, suffix-headed}
 use Rattle.place.proofs.Suffixes.{suffix-in}
 use Rattle.place.proofs.Views.{View, a-leaf, a-call, a-loop, an-if, view, level-spanned}
@@ -81,7 +81,7 @@ module _ {w : List ℕ} {G : List Forms} {n i e : ℕ} {f : Forms} (sp : Spanned
   present nz = elim (known (suffix f p)) [ inl c ↦ absurd (nz (no-leaf sp p x hv ∙ ap (λ (o : Option Forms). tracked o x) c)) | inr c ↦ c ]
 
   -- Its visits.
-  pub counts-so : (v ≡ 3 → ⊥) → field w p 1 ≡ 1 → Counted w p count → Settled w f p count
+  pub counts-so : (v ≡ 3 → ⊥) → point-at w p ≡ 1 → Counted w p count → Settled w f p count
   unfolding turned
   counts-so nz mk cs =
       let (s, c) = present nz in
@@ -105,24 +105,24 @@ in-room {w} {i} {e} q room p x hv nz =
     ]
 
 -- The main function of a table.
-abbrev mainOf : {w starts : List ℕ} {n : ℕ} → Table w starts n → Forms
+abbrev mainOf : {w starts : List ℕ} {n : ℕ} → FunctionTable w starts n → Forms
 mainOf {n = n} p = getD (p .funs) (n - 1) done
 
 -- The levels of a stack that holds.
-abbrev pub placed-held : {w starts : List ℕ} {n : ℕ} (p : Table w starts n) {leaves counts : List ℕ} {l : ℕ} → Held w (getD (p .funs) (n - 1) done) leaves counts l → Placed w starts n leaves counts l
+abbrev pub placed-held : {w starts : List ℕ} {n : ℕ} (p : FunctionTable w starts n) {leaves counts : List ℕ} {l : ℕ} → StackStands w (getD (p .funs) (n - 1) done) leaves counts l → Placed w starts n leaves counts l
 placed-held p h = record { table = p; levels = h .levels; depth = h .depth; stands = h .stands; marked = h .marked }
 
-pub held-none : (w : List ℕ) (main : Forms) (leaves counts : List ℕ) (l : ℕ) → l ≡ 0 → Held w main leaves counts l
+pub held-none : (w : List ℕ) (main : Forms) (leaves counts : List ℕ) (l : ℕ) → l ≡ 0 → StackStands w main leaves counts l
 unfolding Stands
 held-none w main leaves counts l e = record { levels = []; depth = sym e; stands = tt; marked = λ k a b. absurd (omega arith) }
 
-module _ {w starts : List ℕ} {n : ℕ} (p : Table w starts n) {leaves counts : List ℕ} {l : ℕ} (one : 1 ≤ l) where
-  pub held-down : Held w (mainOf p) leaves counts l → Held w (mainOf p) leaves counts (l - 1)
+module _ {w starts : List ℕ} {n : ℕ} (p : FunctionTable w starts n) {leaves counts : List ℕ} {l : ℕ} (one : 1 ≤ l) where
+  pub held-down : StackStands w (mainOf p) leaves counts l → StackStands w (mainOf p) leaves counts (l - 1)
   held-down h =
       let t = front (placed-held p h) one in
       record { levels = t .under; depth = omega (arith, t .depth); stands = t .stands; marked = λ k a b. h .marked k a (omega arith) }
 
-  held-up : (h : Held w (mainOf p) leaves counts (l - 1)) (f : Forms) → ground (mainOf p) (h .levels) ≡ some f → Settled w f (getD leaves l 0) (getD counts l 0) → Held w (mainOf p) leaves counts l
+  held-up : (h : StackStands w (mainOf p) leaves counts (l - 1)) (f : Forms) → ground (mainOf p) (h .levels) ≡ some f → Settled w f (getD leaves l 0) (getD counts l 0) → StackStands w (mainOf p) leaves counts l
   unfolding Stands
   held-up h f c s =
       let e : l ≡ length (h .levels) + 1 = omega (arith, h .depth) in
@@ -132,25 +132,25 @@ module _ {w starts : List ℕ} {n : ℕ} (p : Table w starts n) {leaves counts :
         depth = omega (arith, h .depth);
         stands = (h .stands, rw e at lv);
         marked = λ k a b. elim (decLe l k) [
-          | yes g ↦ let i : k ≡ l = omega arith in ap (λ (j : ℕ). field w (getD leaves j 0) 1) i ∙ s .mark
+          | yes g ↦ let i : k ≡ l = omega arith in ap (λ (j : ℕ). point-at w (getD leaves j 0)) i ∙ s .mark
           | no g ↦ h .marked k a (omega arith)
         ];
       }
 
-  held-settled : (h : Held w (mainOf p) leaves counts l) → Settled w (front (placed-held p h) one .level .level) (getD leaves l 0) (getD counts l 0)
+  held-settled : (h : StackStands w (mainOf p) leaves counts l) → Settled w (front (placed-held p h) one .level .level) (getD leaves l 0) (getD counts l 0)
   held-settled h =
       let lv = front (placed-held p h) one .level in
       record { mark = h .marked l one (omega arith); start = lv .start; found = lv .found; left = front (placed-held p h) one .place; turns = lv .turns }
 
   -- The answer of the test of the level l, over the records of that level.
-  says-held : (r : Bool) {i e : ℕ} → i ≡ base-from w starts n leaves l → e ≡ base-to w starts n leaves l → (h : Held w (mainOf p) leaves counts (l - 1)) →
+  says-held : (r : Bool) {i e : ℕ} → i ≡ base-from w starts n leaves l → e ≡ base-to w starts n leaves l → (h : StackStands w (mainOf p) leaves counts (l - 1)) →
       ((f : Forms) × (ground (mainOf p) (h .levels) ≡ some f) × Spanned w (p .funs) n i e f) →
-      ((n : ℕ) (G : List Forms) (f : Forms) → Spanned w G n i e f → Says r (Settled w f (getD leaves l 0) (getD counts l 0))) → Says r (Held w (mainOf p) leaves counts l)
+      ((n : ℕ) (G : List Forms) (f : Forms) → Spanned w G n i e f → Says r (Settled w f (getD leaves l 0) (getD counts l 0))) → Says r (StackStands w (mainOf p) leaves counts l)
   says-held true hi he h o u = let (f, c, sp) = o in held-up h f c (u n (p .funs) f sp)
   says-held false hi he h o u = λ k. u n (p .funs) (front (placed-held p k) one .level .level) (rw (hi, he) (spanned (running (placed-held p k)) one)) (held-settled k)
 
-  pub says-first : (r : Bool) {i e q c : ℕ} → l ≡ 1 → i ≡ getD starts (n - 1) 0 → e ≡ getD starts n 0 → Held w (mainOf p) leaves counts (l - 1) → q ≡ getD leaves l 0 → c ≡ getD counts l 0 →
-      ((n : ℕ) (G : List Forms) (f : Forms) → Spanned w G n i e f → Says r (Settled w f q c)) → Says r (Held w (mainOf p) leaves counts l)
+  pub says-first : (r : Bool) {i e q c : ℕ} → l ≡ 1 → i ≡ getD starts (n - 1) 0 → e ≡ getD starts n 0 → StackStands w (mainOf p) leaves counts (l - 1) → q ≡ getD leaves l 0 → c ≡ getD counts l 0 →
+      ((n : ℕ) (G : List Forms) (f : Forms) → Spanned w G n i e f → Says r (Settled w f q c)) → Says r (StackStands w (mainOf p) leaves counts l)
   unfolding ground held-none
   says-first r {i} {e} {q} {c} l1 hi he h hq hc u =
       let z : eqb l 1 ≡ true = eq-eqb l 1 l1 in
@@ -165,7 +165,7 @@ view-enters (a-loop k q cs le zero s r z) f c = never (rw z at c)
 view-enters (a-loop k q cs le (suc m) s r z) f c = inr (k, omega arith)
 view-enters (an-if k t s r z) f c = never (rw z at c)
 
-open-enters : {w starts : List ℕ} {n : ℕ} (p : Table w starts n) (leaves counts : List ℕ) (k : ℕ) (ks : Levels) → length ks ≡ k → 1 ≤ k → Stands (mainOf p) leaves counts ks → (f : Forms) → ground (mainOf p) ks ≡ some f → Enters w (getD leaves k 0) (getD counts k 0)
+open-enters : {w starts : List ℕ} {n : ℕ} (p : FunctionTable w starts n) (leaves counts : List ℕ) (k : ℕ) (ks : Levels) → length ks ≡ k → 1 ≤ k → Stands (mainOf p) leaves counts ks → (f : Forms) → ground (mainOf p) ks ≡ some f → Enters w (getD leaves k 0) (getD counts k 0)
 unfolding Stands ground
 open-enters p leaves counts k [] d h st f c = absurd (omega arith)
 open-enters p leaves counts k (g ∷ ks) d h st f c =
@@ -174,19 +174,19 @@ open-enters p leaves counts k (g ∷ ks) d h st f c =
     let sp = level-spanned p leaves counts ks (st .0) (lv .level) (lv .opens) .0 in
     view-enters (view sp (getD leaves k 0) (getD counts k 0) (lv .start) g (lv .found) (lv .turns) .0) f c
 
-opens-ground : {w starts : List ℕ} {n : ℕ} (p : Table w starts n) (ks : Levels) (g : Forms) (us : Levels) (f : Forms) → ks ≡ g ∷ us → inside-of g ≡ some f → ground (mainOf p) ks ≡ some f
+opens-ground : {w starts : List ℕ} {n : ℕ} (p : FunctionTable w starts n) (ks : Levels) (g : Forms) (us : Levels) (f : Forms) → ks ≡ g ∷ us → inside-of g ≡ some f → ground (mainOf p) ks ≡ some f
 unfolding ground
 opens-ground p ks g us f e c = ap (λ (ks : Levels). ground (mainOf p) ks) e ∙ c
 
-module _ {w starts : List ℕ} {n : ℕ} (p : Table w starts n) {leaves counts : List ℕ} {l : ℕ} (two : 2 ≤ l) where
-  pub held-enters : Held w (mainOf p) leaves counts l → Enters w (getD leaves (l - 1) 0) (getD counts (l - 1) 0)
+module _ {w starts : List ℕ} {n : ℕ} (p : FunctionTable w starts n) {leaves counts : List ℕ} {l : ℕ} (two : 2 ≤ l) where
+  pub held-enters : StackStands w (mainOf p) leaves counts l → Enters w (getD leaves (l - 1) 0) (getD counts (l - 1) 0)
   held-enters h =
       let t = front (placed-held p h) (omega arith) in
       open-enters p leaves counts (l - 1) (t .under) (omega (arith, t .depth)) (omega arith) (t .stands) (t .level .level) (t .level .opens)
 
-  enters-open : (h : Held w (mainOf p) leaves counts (l - 1)) → Enters w (getD leaves (l - 1) 0) (getD counts (l - 1) 0) →
+  enters-open : (h : StackStands w (mainOf p) leaves counts (l - 1)) → Enters w (getD leaves (l - 1) 0) (getD counts (l - 1) 0) →
       ((f : Forms) × (ground (mainOf p) (h .levels) ≡ some f) × Spanned w (p .funs) n (inner-from w starts (getD leaves (l - 1) 0)) (inner-to w starts (getD leaves (l - 1) 0)) f) ×
-      Head w starts (getD leaves (l - 1) 0)
+      Enterable w starts (getD leaves (l - 1) 0)
   unfolding inside-of
   enters-open h (inl k) =
       let q = placed-held p h in
@@ -207,21 +207,21 @@ module _ {w starts : List ℕ} {n : ℕ} (p : Table w starts n) {leaves counts :
         c .head,
       )
 
-  pub head-room : Held w (mainOf p) leaves counts (l - 1) → {hd : ℕ} → hd ≡ getD leaves (l - 1) 0 → hd * 8 + 8 ≤ length w
+  pub head-room : StackStands w (mainOf p) leaves counts (l - 1) → {hd : ℕ} → hd ≡ getD leaves (l - 1) 0 → hd * 8 + 8 ≤ length w
   head-room h hh = leaf-room (placed-held p h) (omega arith) hh
 
-  pub head-open : Held w (mainOf p) leaves counts (l - 1) → {hd c : ℕ} → hd ≡ getD leaves (l - 1) 0 → c ≡ getD counts (l - 1) 0 → Enters w hd c → Head w starts hd
+  pub head-open : StackStands w (mainOf p) leaves counts (l - 1) → {hd c : ℕ} → hd ≡ getD leaves (l - 1) 0 → c ≡ getD counts (l - 1) 0 → Enters w hd c → Enterable w starts hd
   head-open h hh hc en = rw hh (enters-open h (rw (hh, hc) at en) .1)
 
-  pub open-plan : Held w (mainOf p) leaves counts (l - 1) → {hd c i e : ℕ} → hd ≡ getD leaves (l - 1) 0 → c ≡ getD counts (l - 1) 0 → Enters w hd c →
+  pub open-plan : StackStands w (mainOf p) leaves counts (l - 1) → {hd c i e : ℕ} → hd ≡ getD leaves (l - 1) 0 → c ≡ getD counts (l - 1) 0 → Enters w hd c →
       i ≡ inner-from w starts hd → e ≡ inner-to w starts hd → (e * 8 ≤ length w) × Piece w 62 i e
   open-plan h hh hc en hi he =
       let sp = enters-open h (rw (hh, hc) at en) .0 .2 in
       (rw (he, hh) (sp .room), rw (hi, he, hh) (sp .piece))
 
   pub says-up : (r : Bool) {hd c i e q d : ℕ} → hd ≡ getD leaves (l - 1) 0 → c ≡ getD counts (l - 1) 0 → Enters w hd c → i ≡ inner-from w starts hd → e ≡ inner-to w starts hd →
-      Held w (mainOf p) leaves counts (l - 1) → q ≡ getD leaves l 0 → d ≡ getD counts l 0 →
-      ((n : ℕ) (G : List Forms) (f : Forms) → Spanned w G n i e f → Says r (Settled w f q d)) → Says r (Held w (mainOf p) leaves counts l)
+      StackStands w (mainOf p) leaves counts (l - 1) → q ≡ getD leaves l 0 → d ≡ getD counts l 0 →
+      ((n : ℕ) (G : List Forms) (f : Forms) → Spanned w G n i e f → Says r (Settled w f q d)) → Says r (StackStands w (mainOf p) leaves counts l)
   says-up r {hd} {c} {i} {e} {q} {d} hh hc en hi he h hq hd′ u =
       let z : eqb l 1 ≡ false = ne-eqb l 1 (λ y. omega arith) in
       let o = enters-open h (rw (hh, hc) at en) .0 in
@@ -230,12 +230,12 @@ module _ {w starts : List ℕ} {n : ℕ} (p : Table w starts n) {leaves counts :
       says-held p (omega arith) r (rw z i′) (rw z e′) h (o .0, o .1, rw (i′, e′) (o .2)) (rw (hq, hd′) at u)
 
 pub says-counted : {w : List ℕ} {G : List Forms} {n i e : ℕ} {f : Forms} (sp : Spanned w G n i e f) (p x count : ℕ) {v m : ℕ}
-    (hv : (q : Piece w 62 i e) (G : List Forms) → v ≡ trail (forms G (q .part .lines)) p x) → (v ≡ 3 → ⊥) → m ≡ field w p 1 → m ≡ 1 → (r : Bool) → Says r (Counted w p count) → Says r (Settled w f p count)
+    (hv : (q : Piece w 62 i e) (G : List Forms) → v ≡ trail (forms G (q .part .lines)) p x) → (v ≡ 3 → ⊥) → m ≡ point-at w p → m ≡ 1 → (r : Bool) → Says r (Counted w p count) → Says r (Settled w f p count)
 says-counted sp p x count hv nz hm m1 true h = counts-so sp p x count hv nz (sym hm ∙ m1) h
 says-counted sp p x count hv nz hm m1 false h = counts-not sp p x count hv h
 
 -- a stack that holds is one that the model decodes.
-pub says-decodes : (w : List ℕ) (main : Forms) (leaves counts : List ℕ) (l : ℕ) → (l ≡ 0 → ⊥) → l ≤ 32 → (r : Bool) → Says r (Held w main leaves counts l) → Says r (Decodes w main leaves counts l)
+pub says-decodes : (w : List ℕ) (main : Forms) (leaves counts : List ℕ) (l : ℕ) → (l ≡ 0 → ⊥) → l ≤ 32 → (r : Bool) → Says r (StackStands w main leaves counts l) → Says r (Decodes w main leaves counts l)
 says-decodes w main leaves counts l nz le true h =
     let t = stands-levels main leaves counts (h .levels) (omega (arith, h .depth)) (h .stands) in
     record { least = omega arith; most = le; levels = h .levels; decodes = rw (h .depth) at t; marked = h .marked }

@@ -5,7 +5,7 @@ use mathlib.Core.Bool.{Bool, true, false}
 use mathlib.Core.List.{List, []}
 use mathlib.Core.Option.{some}
 use mathlib.Core.Path.{_≡_, sym, ap, _∙_, subst}
-use Prim.Native.Nat.{ℕ, zero, suc, _+_, _-_, _≤_, _<_}
+use Prim.Native.Nat.{ℕ, _-_, _≤_, _<_}
 use native.Mathlib.Omega.{arith}
 use lib.ListN.{length, getD}
 use Rattle.model.specs.Plan.{Plan}
@@ -19,13 +19,14 @@ use Rattle.model.proofs.Levels.{flat-seek, flat-onward}
 use Rattle.model.proofs.Points.{AllPoints}
 use Rattle.model.proofs.Statics.{main-last}
 use Rattle.model.proofs.Theorems.{standing-has-stack, stack-is-of-points, stack-has-run}
-use Rattle.rows.specs.Rows.{field}
+use Rattle.rows.specs.Rows.{point-at}
 use Rattle.rows.specs.Answers.{Says}
-use Rattle.rows.proofs.Shape.{rep-le}
-use Rattle.place.specs.Stack.{Table, Decoded, Decodes, Next, frames}
-use Rattle.place.specs.Times.{Times, Costed, Clocked, rest-of}
-use Rattle.place.specs.Plans.{Laid, Filled}
-use Rattle.place.specs.Scan.{Headed}
+use Rattle.rows.specs.Plans.{Plan-in}
+use Rattle.rows.proofs.Plans.{bound-in}
+use Rattle.place.specs.Stack.{FunctionTable, Decoded, Decodes, NextStack, frames}
+use Rattle.place.specs.Times.{TimesAt, CostedStack, Clocked, outer-levels}
+use Rattle.place.specs.Plans.{PlanColumns}
+use Rattle.place.specs.Private.{Nonempty}
 use Rattle.place.proofs.Answers.{suffix-headed}
 use Rattle.place.proofs.Views.{leaf-low}
 use Rattle.place.proofs.Falling.{turned-next, top-of}
@@ -36,7 +37,7 @@ use Rattle.place.proofs.Entries.{all-times, times-are}
 use Rattle.place.proofs.Carrying.{seek-times, onward-times}
 
 -- Forms that are not empty have a next visit.
-step-of : (g : Forms) → Headed g → Step g
+step-of : (g : Forms) → Nonempty g → Step g
 step-of done h = absurd h
 step-of (leaf b r) h = past
 step-of (call b fun r) h = into
@@ -49,24 +50,15 @@ unfolding below
 first-is-seek f x = flat-seek f [] x ∙ ap (λ (g : Forms). seek g x) (⊕-done f)
 
 -- Where the old times are the model's, they are right up to the level below the new place's: at a first report, and behind a report.
-pub first-times : (p : Plan) (x : ℕ) (ls : Levels) (old : List ℕ) → seek-at (main p) [] x ≡ some ls → old ≡ times (main p) [] → Times (main p) old (rest-of ls)
+pub first-times : (p : Plan) (x : ℕ) (ls : Levels) (old : List ℕ) → seek-at (main p) [] x ≡ some ls → old ≡ times (main p) [] → TimesAt (main p) old (outer-levels ls)
 first-times p x ls old e z = seek-times (main p) old (main p) [] x ls e (times-are (main p) old [] z)
 
-pub later-times : (p : Plan) (x : ℕ) (ks ls : Levels) (old : List ℕ) → onward-at ks x ≡ some ls → old ≡ times (main p) ks → Times (main p) old (rest-of ls)
+pub later-times : (p : Plan) (x : ℕ) (ks ls : Levels) (old : List ℕ) → onward-at ks x ≡ some ls → old ≡ times (main p) ks → TimesAt (main p) old (outer-levels ls)
 later-times p x ks ls old e z = onward-times (main p) old ks x ls e (times-are (main p) old ks z)
 
-module _ {w starts : List ℕ} (p : Plan) (a : Accepted p) (d : Laid w starts p) where
+module _ {w starts : List ℕ} (p : Plan) (a : Accepted p) (d : Plan-in w starts p) where
   abbrev pub count : ℕ
   count = length (p .functions)
-
-  rising : (k j : ℕ) → j + k ≤ count → getD starts j 0 ≤ getD starts (j + k) 0
-  rising zero j h = let z : j + 0 ≡ j = omega arith in omega (arith, ap (λ (i : ℕ). getD starts i 0) z)
-  rising (suc k) j h =
-      let z : j + k + 1 ≡ j + suc k = omega arith in
-      omega (arith, rising k j (omega arith), rep-le w 1 (getD starts (j + k) 0) (getD starts (j + k + 1) 0) _ (d .each (j + k) (omega arith)), ap (λ (i : ℕ). getD starts i 0) z)
-
-  within : (j : ℕ) → j < count → getD starts (j + 1) 0 ≤ getD starts count 0
-  within j h = let z : j + 1 + (count - (j + 1)) ≡ count = omega arith in rw z at (rising (count - (j + 1)) (j + 1) (omega arith))
 
   -- Where the stack of l levels decodes to ls, its leaves are marked as points exactly when they are points of the plan.
   module _ (leaves counts : List ℕ) (l : ℕ) (ls : Levels) (one : 1 ≤ l) (h : decode (main p) [] (frames leaves counts 1 l) ≡ some ls) where
@@ -76,15 +68,15 @@ module _ {w starts : List ℕ} (p : Plan) (a : Accepted p) (d : Laid w starts p)
     leaf-in : (k : ℕ) → 1 ≤ k → k ≤ l → getD leaves k 0 < getD starts count 0
     leaf-in k lo hi =
         let (st, e) = levels-stand (getD (linked [] (p .functions)) (count - 1) done) leaves counts l ls one by-table in
-        leaf-low (table-of p a d) (getD starts count 0) within leaves counts ls st k lo (omega (arith, e))
+        leaf-low (table-of p a d) (getD starts count 0) (bound-in d) leaves counts ls st k lo (omega (arith, e))
 
     pub depth-is : length ls ≡ l
     depth-is = levels-stand (getD (linked [] (p .functions)) (count - 1) done) leaves counts l ls one by-table .1
 
-    pub marks : AllPoints p (frames leaves counts 1 l) → (k : ℕ) → 1 ≤ k → k ≤ l → field w (getD leaves k 0) 1 ≡ 1
+    pub marks : AllPoints p (frames leaves counts 1 l) → (k : ℕ) → 1 ≤ k → k ≤ l → point-at w (getD leaves k 0) ≡ 1
     marks u k lo hi = point-mark p a d (getD leaves k 0) (leaf-in k lo hi) (each-point p leaves counts 1 l u k lo (omega arith))
 
-    pub points : ((k : ℕ) → 1 ≤ k → k ≤ l → field w (getD leaves k 0) 1 ≡ 1) → AllPoints p (frames leaves counts 1 l)
+    pub points : ((k : ℕ) → 1 ≤ k → k ≤ l → point-at w (getD leaves k 0) ≡ 1) → AllPoints p (frames leaves counts 1 l)
     points m = all-points p leaves counts 1 l (λ j lo hi. mark-point p a d (getD leaves j 0) (leaf-in j lo (omega arith)) (m j lo (omega arith)))
 
     -- The next place by levels is the next place in all that is left to run.
@@ -104,25 +96,25 @@ module _ {w starts : List ℕ} (p : Plan) (a : Accepted p) (d : Laid w starts p)
 
       -- `next_place`: the new stack decodes to the model's next place, `onward-at ls x`; or there is none.
       pub next-place-is : (x : ℕ) (new more : List ℕ) (r : ℕ) →
-          ((q : Decoded w starts count leaves counts l) → Next w (getD (q .table .funs) (count - 1) done) (onward-at (q .levels) x) leaves counts x new more r) →
-          Next w (main p) (onward-at ls x) leaves counts x new more r
+          ((q : Decoded w starts count leaves counts l) → NextStack w (getD (q .table .funs) (count - 1) done) (onward-at (q .levels) x) leaves counts x new more r) →
+          NextStack w (main p) (onward-at ls x) leaves counts x new more r
       next-place-is x new more r e = rw (main-last p) (e decoded)
 
       -- `can_end`: the model's possible end of what is left to run.
       pub can-end-is : (r : Bool) → ((q : Decoded w starts count leaves counts l) → r ≡ can-end (whole (q .levels))) → r ≡ can-end (whole ls)
       can-end-is r e = e decoded
 
-      module _ {tails turns totals : List ℕ} (c : Filled p tails turns totals) where
-        abbrev pub costed : Costed w tails turns totals leaves counts count l
+      module _ {tails turns totals : List ℕ} (c : PlanColumns p tails turns totals) where
+        abbrev pub costed : CostedStack w tails turns totals leaves counts count l
         costed = record { starts = starts; decoded = decoded; columns = columns-of p a d c }
 
-        abbrev pub clocked : {old : List ℕ} → Times (main p) old (rest-of ls) → Clocked w tails turns totals leaves counts l old
+        abbrev pub clocked : {old : List ℕ} → TimesAt (main p) old (outer-levels ls) → Clocked w tails turns totals leaves counts l old
         clocked {old} t = record { n = count; costed = costed; lower = rw (sym (main-last p)) t }
 
         -- `next_times`, where the old times are right up to the level below: all 33 are the model's.
-        pub next-times-are : l ≤ 32 → (old new : List ℕ) → Times (main p) old (rest-of ls) → length new ≡ 33 →
+        pub next-times-are : l ≤ 32 → (old new : List ℕ) → TimesAt (main p) old (outer-levels ls) → length new ≡ 33 →
             ((q : Clocked w tails turns totals leaves counts l old)
-            → Times (getD (q .costed .decoded .table .funs) (q .n - 1) done) new (q .costed .decoded .levels) × ((k : ℕ) → l < k → getD new k 0 ≡ 0)) →
+            → TimesAt (getD (q .costed .decoded .table .funs) (q .n - 1) done) new (q .costed .decoded .levels) × ((k : ℕ) → l < k → getD new k 0 ≡ 0)) →
             new ≡ times (main p) ls
         next-times-are most old new t e h =
             let (y, z) = h (clocked {old = old} t) in
@@ -130,24 +122,24 @@ module _ {w starts : List ℕ} (p : Plan) (a : Accepted p) (d : Laid w starts p)
 
         -- `times_ok`, where the times above the place's level are 0: all 33 are the model's, or not.
         pub times-ok-is : l ≤ 32 → (ts : List ℕ) → length ts ≡ 33 → ((k : ℕ) → l < k → getD ts k 0 ≡ 0) → (r : Bool) →
-            ((q : Costed w tails turns totals leaves counts count l) → Says r (Times (getD (q .decoded .table .funs) (count - 1) done) ts (q .decoded .levels))) →
+            ((q : CostedStack w tails turns totals leaves counts count l) → Says r (TimesAt (getD (q .decoded .table .funs) (count - 1) done) ts (q .decoded .levels))) →
             Says r (ts ≡ times (main p) ls)
         times-ok-is most ts e above true h = all-times (main p) ts ls e (omega (arith, depth-is)) (rw (main-last p) (h costed)) (λ k lt. above k (omega (arith, depth-is)))
         times-ok-is most ts e above false h = λ z. h costed (rw (sym (main-last p)) (times-are (main p) ts ls z))
 
   -- `first_place`: the new stack decodes to the model's first place, `seek-at (main p) [] x`; or there is none.
   pub first-place-is : (leaves counts : List ℕ) (x : ℕ) (new more : List ℕ) (r : ℕ) →
-      ((t : Table w starts count) → Next w (getD (t .funs) (count - 1) done) (onto [] (seek (getD (t .funs) (count - 1) done) x)) leaves counts x new more r) →
-      Next w (main p) (seek-at (main p) [] x) leaves counts x new more r
+      ((t : FunctionTable w starts count) → NextStack w (getD (t .funs) (count - 1) done) (onto [] (seek (getD (t .funs) (count - 1) done) x)) leaves counts x new more r) →
+      NextStack w (main p) (seek-at (main p) [] x) leaves counts x new more r
   unfolding seek-at
   first-place-is leaves counts x new more r e = rw (main-last p) (e (table-of p a d))
 
   -- `first_end`: whether the main function can be passed in silence.
-  pub first-end-is : (r : Bool) → ((t : Table w starts count) → r ≡ passes (getD (t .funs) (count - 1) done)) → r ≡ passes (main p)
+  pub first-end-is : (r : Bool) → ((t : FunctionTable w starts count) → r ≡ passes (getD (t .funs) (count - 1) done)) → r ≡ passes (main p)
   first-end-is r e = e (table-of p a d) ∙ ap passes (sym (main-last p))
 
   -- `place_ok`: whether some run of the plan stands at exactly this stack.
-  pub place-ok-is : (leaves counts : List ℕ) (l : ℕ) (r : Bool) → ((t : Table w starts count) → Says r (Decodes w (getD (t .funs) (count - 1) done) leaves counts l)) →
+  pub place-ok-is : (leaves counts : List ℕ) (l : ℕ) (r : Bool) → ((t : FunctionTable w starts count) → Says r (Decodes w (getD (t .funs) (count - 1) done) leaves counts l)) →
       Says r ((1 ≤ l) × (l ≤ 32) × ((s : Standing (main p)) × (stack [] (so-far s) ≡ frames leaves counts 1 l)))
   place-ok-is leaves counts l true e =
       let q = e (table-of p a d) in

@@ -13,9 +13,8 @@ use Rattle.model.specs.Places.{pick, _or_, when, _⊕?_, passes, seek, Traceabl
 use Rattle.model.specs.Stack.{Levels, behind, below, whole, _else-at_, given, onto, seek-at, onward-at, flat}
 use Rattle.model.proofs.Places.{never, seek-⊕, seek-has}
 use Rattle.model.proofs.Levels.{flat-seek}
-use Rattle.model.proofs.Ending.{passes-⊕}
-use Rattle.place.specs.Scan.{next, quits}
-use Rattle.place.specs.Stack.{return-at, fall-at}
+use Rattle.model.proofs.Closing.{passes-⊕}
+use Rattle.place.specs.Private.{next-beyond, quits, return-at, fall-at}
 use Rattle.place.proofs.Suffixes.{seek-split}
 use Rattle.place.proofs.Falling.{seek-at-is, seek-loop}
 
@@ -60,25 +59,25 @@ clear-below t e r ks x c f a s b =
 
 module _ (ks : Levels) (x : ℕ) where
   pub onward-leaf : (b : Block) (r g : Forms) → g ≡ leaf b r → onward-at (g ∷ ks) x ≡ fall-at (g ∷ ks) x
-  unfolding onward-at fall-at next quits
+  unfolding onward-at fall-at next-beyond quits
   onward-leaf b r g e = rw e (seek-at-is r ks x)
 
   pub onward-if : (b : Block) (t s r g : Forms) → g ≡ cond b t s r → Traceable (whole (g ∷ ks)) → onward-at (g ∷ ks) x ≡ fall-at (g ∷ ks) x
-  unfolding onward-at fall-at next quits whole _⊕_ Traceable
+  unfolding onward-at fall-at next-beyond quits whole _⊕_ Traceable
   onward-if b t s r g e traceable =
       let c : Traceable (cond b t s (r ⊕ below ks)) = rw e at traceable in
       rw (e, seek-at-is (t ⊕ r) ks x, seek-at-is (s ⊕ r) ks x)
       (two-ways ks (seek (t ⊕ r) x) (seek (s ⊕ r) x) (passes (t ⊕ r)) (passes (s ⊕ r)) (return-at ks x) (λ f a q z. clear-below t s r ks x (c .2) f a q z))
 
   pub onward-call : (b : Block) (fun r g : Forms) → g ≡ call b fun r → onward-at (g ∷ ks) x ≡ onto (g ∷ ks) (seek fun x) else-at given (passes fun) (fall-at (g ∷ ks) x)
-  unfolding onward-at fall-at next quits seek-at behind
+  unfolding onward-at fall-at next-beyond quits seek-at behind
   onward-call b fun r g e = rw (e, seek-at-is r ks x)
 
   pub onward-spent : (b : Block) (body r g : Forms) → g ≡ loop b zero body r → onward-at (g ∷ ks) x ≡ fall-at (g ∷ ks) x
-  unfolding onward-at fall-at next quits
+  unfolding onward-at fall-at next-beyond quits
   onward-spent b body r g e = rw e (seek-at-is r ks x)
 
   pub onward-loop : (b : Block) (m : ℕ) (body r g : Forms) → g ≡ loop b (suc m) body r → b .point ≡ true →
       onward-at (g ∷ ks) x ≡ fall-at (g ∷ ks) x else-at (onto (g ∷ ks) (seek body x) else-at given (passes body) (pick (eqb (b .number) x) (some (loop b m body r ∷ ks)) none))
-  unfolding onward-at fall-at next quits seek-at behind
+  unfolding onward-at fall-at next-beyond quits seek-at behind
   onward-loop b m body r g e p = rw (e, seek-at-is r ks x, seek-loop b m body r ks x p)

@@ -13,41 +13,41 @@ use Rattle.model.specs.Timed.{PointOf}
 use Rattle.model.proofs.Among.{among-first, among-later, among-left, among-right}
 use Rattle.model.proofs.Points.{AllPoints}
 use Rattle.model.proofs.Theorems.{number-tells-leaf}
-use Rattle.rows.specs.Rows.{field, end-at, block-at, Rep}
+use Rattle.rows.specs.Rows.{point-at, other-at, after-at, block-at, Rep}
+use Rattle.rows.specs.Plans.{Lies, Plan-in}
 use Rattle.place.specs.Stack.{frames}
-use Rattle.place.specs.Plans.{Laid}
 
 -- A record of the lines is one of their leaves.
 among-lines : (w : List ℕ) (lv i e : ℕ) (l : Lines) (x : ℕ) → Rep w lv i e l → i ≤ x → x < e → Among (block-at w x) (leaves l)
 unfolding Rep leaves
 among-lines w lv i e close x h lo hi = absurd (omega arith)
 among-lines w lv i e (leaf-line b r) x h lo hi =
-    elim (decLe (end-at w i) x) [
-      | yes q ↦ among-later (block-at w x) b (leaves r) (among-lines w lv (end-at w i) e r x (h .4) q hi)
+    elim (decLe (after-at w i) x) [
+      | yes q ↦ among-later (block-at w x) b (leaves r) (among-lines w lv (after-at w i) e r x (h .4) q hi)
       | no q ↦ let z : i ≡ x = omega (arith, h .3) in among-first (block-at w x) b (leaves r) (h .0 .1 ∙ ap (block-at w) z)
     ]
 among-lines w lv i e (call-line b f r) x h lo hi =
-    elim (decLe (end-at w i) x) [
-      | yes q ↦ among-later (block-at w x) b (leaves r) (among-lines w lv (end-at w i) e r x (h .4) q hi)
+    elim (decLe (after-at w i) x) [
+      | yes q ↦ among-later (block-at w x) b (leaves r) (among-lines w lv (after-at w i) e r x (h .4) q hi)
       | no q ↦ let z : i ≡ x = omega (arith, h .3) in among-first (block-at w x) b (leaves r) (h .0 .1 ∙ ap (block-at w) z)
     ]
 among-lines w lv i e (loop-line b n body r) x h lo hi =
-    elim (decLe (end-at w i) x) [
-      | yes q ↦ among-later (block-at w x) b (leaves body ++ leaves r) (among-right (block-at w x) (leaves body) (leaves r) (among-lines w lv (end-at w i) e r x (h .4) q hi))
+    elim (decLe (after-at w i) x) [
+      | yes q ↦ among-later (block-at w x) b (leaves body ++ leaves r) (among-right (block-at w x) (leaves body) (leaves r) (among-lines w lv (after-at w i) e r x (h .4) q hi))
       | no q ↦ elim (decLe (i + 1) x) [
         | yes k ↦ among-later (block-at w x) b (leaves body ++ leaves r)
-            (among-left (block-at w x) (leaves body) (leaves r) (among-lines w (suc lv) (i + 1) (end-at w i) body x (h .3) k (omega arith)))
+            (among-left (block-at w x) (leaves body) (leaves r) (among-lines w (suc lv) (i + 1) (after-at w i) body x (h .3) k (omega arith)))
         | no k ↦ let z : i ≡ x = omega arith in among-first (block-at w x) b (leaves body ++ leaves r) (h .0 .1 ∙ ap (block-at w) z)
       ]
     ]
 among-lines w lv i e (if-line b t s r) x h lo hi =
-    elim (decLe (end-at w i) x) [
-      | yes q ↦ deep (among-right (block-at w x) (leaves t) (leaves s ++ leaves r) (among-right (block-at w x) (leaves s) (leaves r) (among-lines w lv (end-at w i) e r x (h .4) q hi)))
-      | no q ↦ elim (decLe (field w i 5) x) [
+    elim (decLe (after-at w i) x) [
+      | yes q ↦ deep (among-right (block-at w x) (leaves t) (leaves s ++ leaves r) (among-right (block-at w x) (leaves s) (leaves r) (among-lines w lv (after-at w i) e r x (h .4) q hi)))
+      | no q ↦ elim (decLe (other-at w i) x) [
         | yes k ↦ deep (among-right (block-at w x) (leaves t) (leaves s ++ leaves r)
-            (among-left (block-at w x) (leaves s) (leaves r) (among-lines w lv (field w i 5) (end-at w i) s x (h .3) k (omega arith))))
+            (among-left (block-at w x) (leaves s) (leaves r) (among-lines w lv (other-at w i) (after-at w i) s x (h .3) k (omega arith))))
         | no k ↦ elim (decLe (i + 1) x) [
-          | yes j ↦ deep (among-left (block-at w x) (leaves t) (leaves s ++ leaves r) (among-lines w lv (i + 1) (field w i 5) t x (h .2) j (omega arith)))
+          | yes j ↦ deep (among-left (block-at w x) (leaves t) (leaves s ++ leaves r) (among-lines w lv (i + 1) (other-at w i) t x (h .2) j (omega arith)))
           | no j ↦ let z : i ≡ x = omega arith in among-first (block-at w x) b (leaves t ++ (leaves s ++ leaves r)) (h .0 .1 ∙ ap (block-at w) z)
         ]
       ]
@@ -56,36 +56,32 @@ among-lines w lv i e (if-line b t s r) x h lo hi =
     deep : Among (block-at w x) (leaves t ++ (leaves s ++ leaves r)) → Among (block-at w x) (b ∷ (leaves t ++ (leaves s ++ leaves r)))
     deep u = among-later (block-at w x) b (leaves t ++ (leaves s ++ leaves r)) u
 
-among-all : (w starts : List ℕ) (ls : List Lines) (k x : ℕ) → ((j : ℕ) → j < length ls → Rep w 1 (getD starts (k + j) 0) (getD starts (k + j + 1) 0) (getD ls j close)) →
-    getD starts k 0 ≤ x → x < getD starts (k + length ls) 0 → Among (block-at w x) (all-leaves ls)
-unfolding all-leaves
+among-all : (w starts : List ℕ) (ls : List Lines) (k x : ℕ) → Lies w starts k ls → getD starts k 0 ≤ x → x < getD starts (k + length ls) 0 →
+    Among (block-at w x) (all-leaves ls)
+unfolding Lies all-leaves
 among-all w starts [] k x h lo hi = let z : k + 0 ≡ k = omega arith in absurd (omega (arith, ap (λ (j : ℕ). getD starts j 0) z))
 among-all w starts (l ∷ ls) k x h lo hi =
-    let a : k + 0 ≡ k = omega arith in
-    let b : k + 0 + 1 ≡ suc k = omega arith in
-    let r : Rep w 1 (getD starts k 0) (getD starts (suc k) 0) l = rw (b, a) at (h 0 (omega arith)) in
-    elim (decLe (getD starts (suc k) 0) x) [
+    elim (decLe (getD starts (k + 1) 0) x) [
       | yes q ↦
-          let z : k + length (l ∷ ls) ≡ suc k + length ls = omega arith in
-          among-right (block-at w x) (leaves l) (all-leaves ls)
-          (among-all w starts ls (suc k) x (λ j i. let y : k + suc j ≡ suc k + j = omega arith in rw y at (h (suc j) (omega arith))) q (rw z at hi))
-      | no q ↦ among-left (block-at w x) (leaves l) (all-leaves ls) (among-lines w 1 (getD starts k 0) (getD starts (suc k) 0) l x r lo (omega arith))
+          let z : k + length (l ∷ ls) ≡ k + 1 + length ls = omega arith in
+          among-right (block-at w x) (leaves l) (all-leaves ls) (among-all w starts ls (k + 1) x (h .1) q (rw z at hi))
+      | no q ↦ among-left (block-at w x) (leaves l) (all-leaves ls) (among-lines w 1 (getD starts k 0) (getD starts (k + 1) 0) l x (h .0) lo (omega arith))
     ]
 
-module _ {w starts : List ℕ} (p : Plan) (a : Accepted p) (d : Laid w starts p) where
+module _ {w starts : List ℕ} (p : Plan) (a : Accepted p) (d : Plan-in w starts p) where
   among-plan : (x : ℕ) → x < getD starts (length (p .functions)) 0 → Among (block-at w x) (all-leaves (p .functions))
   among-plan x h =
-      let z : (j : ℕ) → 0 + j ≡ j = λ j. omega arith in
-      among-all w starts (p .functions) 0 x (λ j q. rw (z j) (d .each j q)) (omega (arith, d .first)) (rw (z (length (p .functions))) h)
+      let z : 0 + length (p .functions) ≡ length (p .functions) = omega arith in
+      among-all w starts (p .functions) 0 x (d .lie) (omega (arith, d .first)) (rw z h)
 
   -- A record is marked as a point exactly when it is one.
-  pub mark-point : (x : ℕ) → x < getD starts (length (p .functions)) 0 → field w x 1 ≡ 1 → PointOf p x
-  mark-point x h m = (block-at w x, among-plan x h, eq-eqb (field w x 1) 1 m, refl)
+  pub mark-point : (x : ℕ) → x < getD starts (length (p .functions)) 0 → point-at w x ≡ 1 → PointOf p x
+  mark-point x h m = (block-at w x, among-plan x h, eq-eqb (point-at w x) 1 m, refl)
 
-  pub point-mark : (x : ℕ) → x < getD starts (length (p .functions)) 0 → PointOf p x → field w x 1 ≡ 1
+  pub point-mark : (x : ℕ) → x < getD starts (length (p .functions)) 0 → PointOf p x → point-at w x ≡ 1
   point-mark x h (b, u, v, z) =
       let e = number-tells-leaf p a b (block-at w x) u (among-plan x h) z in
-      eqb-true (field w x 1) 1 (ap (λ (c : Block). c .point) (sym e) ∙ v)
+      eqb-true (point-at w x) 1 (ap (λ (c : Block). c .point) (sym e) ∙ v)
 
 -- Of the frames of a stack.
 pub all-points : (p : Plan) (leaves counts : List ℕ) (k n : ℕ) → ((j : ℕ) → k ≤ j → j < k + n → PointOf p (getD leaves j 0)) → AllPoints p (frames leaves counts k n)

@@ -17,7 +17,7 @@ use Rattle.model.proofs.Steps.{total-⊕}
 use Rattle.model.proofs.Targets.{Below}
 use Rattle.model.proofs.Ways.{tally-is}
 use Rattle.rows.specs.Rows.{Rules}
-use Rattle.place.specs.Scan.{Headed}
+use Rattle.place.specs.Private.{Nonempty}
 use Rattle.place.specs.Times.{Priced}
 use Rattle.place.proofs.Answers.{from-cases, suffix-headed}
 use Rattle.place.proofs.Views.{turned-loop}
@@ -97,7 +97,7 @@ turned-back (suc v) (loop c (suc n) x k) b m body r e =
 turned-back (suc v) (cond c t d k) b m body r e = never e
 
 -- A sequence that opens with a loop.
-loop-front : (k q : Forms) (b : Block) (m : ℕ) (body r : Forms) → Headed k → k ⊕ q ≡ loop b m body r → (j : Forms) × (k ≡ loop b m body j) × (j ⊕ q ≡ r)
+loop-front : (k q : Forms) (b : Block) (m : ℕ) (body r : Forms) → Nonempty k → k ⊕ q ≡ loop b m body r → (j : Forms) × (k ≡ loop b m body j) × (j ⊕ q ≡ r)
 unfolding _⊕_
 loop-front done q b m body r h e = absurd h
 loop-front (leaf c j) q b m body r h e = absurd (let z : _≡_ {A = ℕ} 0 1 = cc in omega arith)
@@ -128,7 +128,7 @@ module _ (ts tails turns : List ℕ) (G : List Forms) (n : ℕ) (right : (f : �
   inner-same p q i = rw (p, q) at i
 
   -- The leaf is in a part of an if, with r behind it.
-  at-more : (x e : ℕ) (k s : Forms) (r : Lines) → Headed k → Below n r → k ⊕ forms G r ≡ s → At ts tails turns G n x k (tally C ts r + e) → At ts tails turns G n x s e
+  at-more : (x e : ℕ) (k s : Forms) (r : Lines) → Nonempty k → Below n r → k ⊕ forms G r ≡ s → At ts tails turns G n x k (tally C ts r + e) → At ts tails turns G n x s e
   at-more x e k s r h c q a =
       let y = tally-is C ts G n right r c in
       let z = total-⊕ C k (forms G r) in

@@ -4,9 +4,8 @@ use mathlib.Core.List.{List}
 use Prim.Native.Nat.{ℕ, suc, _+_, _-_, _≤_, _<_}
 use native.Mathlib.Omega.{arith}
 use Rattle.model.specs.Plan.{Lines, close, leaf-line, call-line, loop-line, if-line}
-use Rattle.rows.specs.Rows.{field, end-at, Rules}
+use Rattle.rows.specs.Rows.{kind-at, other-at, after-at, Rules, Piece}
 use Rattle.rows.proofs.Shape.{IfAt, if-at, then-in, else-in, after, parts, ends}
-use Rattle.place.specs.Pieces.{Piece}
 
 -- Lines that keep the rules under few open brackets keep them under more.
 pub rules-more : (hs : List ℕ) (k m lv : ℕ) (l : Lines) → k ≤ m → Rules hs k lv l → Rules hs m lv l
@@ -21,26 +20,26 @@ rules-more hs k m lv (if-line b t e r) q h =
 
 module _ {w : List ℕ} {left i e : ℕ} (lt : i < e) (p : Piece w left i e) where
   -- The record at hand is an if's.
-  pub cond-at : field w i 0 ≡ 3 → IfAt w (p .hs) left (p .level) i (p .part .lines)
-  cond-at k = if-at lt (p .part) {v = field w i 0} refl (λ z. omega arith) (λ z. omega arith) (λ z. omega arith)
+  pub cond-at : kind-at w i ≡ 3 → IfAt w (p .heights) left (p .level) i (p .part .lines)
+  cond-at k = if-at lt (p .part) {v = kind-at w i} refl (λ z. omega arith) (λ z. omega arith) (λ z. omega arith)
 
   -- The lines after the first form, which ends at en.
-  abbrev pub piece-after : {en : ℕ} → en ≡ end-at w i → Piece w left en e
-  piece-after he = record { hs = p .hs; level = p .level; part = after lt (p .part) he }
+  abbrev pub piece-after : {en : ℕ} → en ≡ after-at w i → Piece w left en e
+  piece-after he = record { heights = p .heights; level = p .level; part = after lt (p .part) he }
 
   -- The parts of an if, with what the code read: v the kind, mid the start of the else part, en the end.
-  pub then-plan : {v mid : ℕ} → v ≡ field w i 0 → v ≡ 3 → mid ≡ field w i 5 → Piece w (left - 2) (i + 1) mid × (2 ≤ left) × (mid ≤ end-at w i)
+  pub then-plan : {v mid : ℕ} → v ≡ kind-at w i → v ≡ 3 → mid ≡ other-at w i → Piece w (left - 2) (i + 1) mid × (2 ≤ left) × (mid ≤ after-at w i)
   then-plan {v} {mid} hv v3 hm =
       let h = cond-at (sym hv ∙ v3) in
-      (record { hs = p .hs; level = p .level; part = then-in hm h }, h .opens, parts hm refl h .1)
+      (record { heights = p .heights; level = p .level; part = then-in hm h }, h .opens, parts hm refl h .1)
 
-  pub else-plan : {v mid en : ℕ} → v ≡ field w i 0 → v ≡ 3 → mid ≡ field w i 5 → en ≡ end-at w i → Piece w (left - 2) mid en × (2 ≤ left) × (en ≤ e)
+  pub else-plan : {v mid en : ℕ} → v ≡ kind-at w i → v ≡ 3 → mid ≡ other-at w i → en ≡ after-at w i → Piece w (left - 2) mid en × (2 ≤ left) × (en ≤ e)
   else-plan {v} {mid} {en} hv v3 hm he =
       let h = cond-at (sym hv ∙ v3) in
-      (record { hs = p .hs; level = p .level; part = else-in hm he h }, h .opens, omega (arith, ends lt (p .part)))
+      (record { heights = p .heights; level = p .level; part = else-in hm he h }, h .opens, omega (arith, ends lt (p .part)))
 
   pub cond-plans :
-      {v mid en : ℕ} → v ≡ field w i 0 → v ≡ 3 → mid ≡ field w i 5 → en ≡ end-at w i
+      {v mid en : ℕ} → v ≡ kind-at w i → v ≡ 3 → mid ≡ other-at w i → en ≡ after-at w i
       → Piece w (left - 2) (i + 1) mid × Piece w (left - 2) mid en × (mid ≤ en) × (2 ≤ left) × (en ≤ e) × (i < mid)
   cond-plans {v} {mid} {en} hv v3 hm he =
       let h = cond-at (sym hv ∙ v3) in

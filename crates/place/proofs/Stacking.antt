@@ -9,8 +9,9 @@ use native.Mathlib.Decide.{decLe}
 use lib.ListN.{length, getD, replicate}
 use Rattle.model.specs.Forms.{Forms, done}
 use Rattle.model.specs.Stack.{Levels}
-use Rattle.rows.specs.Rows.{field}
-use Rattle.place.specs.Stack.{Level, Stands, Placed, Decoded, Put, Moved, Finds, Next}
+use Rattle.rows.specs.Rows.{point-at}
+use Rattle.place.specs.Stack.{Decoded, Put, NextStack}
+use Rattle.place.specs.Private.{Level, Stands, Placed, Moved, Finds}
 use Rattle.place.proofs.Decode.{stands-levels, levels-stand}
 
 module _ (main : Forms) (leaves counts new more : List ℕ) (l : ℕ)
@@ -37,11 +38,11 @@ placed {n = n} {leaves = leaves} {counts = counts} {l = l} h q =
     record { table = q .table; levels = q .levels; depth = d; stands = st; marked = q .marked }
 
 module _ (w : List ℕ) (l : ℕ) {main : Forms} {leaves counts : List ℕ} {o : Option Levels} {x r v : ℕ} (z : Finds l main leaves counts o x r v) where
-  pub next-none : r ≡ 0 → Next w main o leaves counts x (replicate 33 0) (replicate 33 0) 0
+  pub next-none : r ≡ 0 → NextStack w main o leaves counts x (replicate 33 0) (replicate 33 0) 0
   next-none e = elim z [ inl y ↦ inl (refl, y .1, refl, refl) | inr y ↦ absurd (omega (arith, y .0)) ]
 
-  pub next-some : ((k : ℕ) → 1 ≤ k → k ≤ l → field w (getD leaves k 0) 1 ≡ 1) → (r ≡ 0 → ⊥) → field w x 1 ≡ 1 →
-      {new more : List ℕ} → Put leaves new r x → Put counts more r v → Next w main o leaves counts x new more r
+  pub next-some : ((k : ℕ) → 1 ≤ k → k ≤ l → point-at w (getD leaves k 0) ≡ 1) → (r ≡ 0 → ⊥) → point-at w x ≡ 1 →
+      {new more : List ℕ} → Put leaves new r x → Put counts more r v → NextStack w main o leaves counts x new more r
   next-some marks nz px {new} {more} p c =
       elim z [
         | inl y ↦ absurd (nz (y .0))
@@ -56,8 +57,8 @@ module _ (w : List ℕ) (l : ℕ) {main : Forms} {leaves counts : List ℕ} {o :
               found = e;
               decodes = rw d at t;
               marked = λ k lo hi. elim (decLe r k) [
-                | yes g ↦ let i : k ≡ r = omega arith in ap (λ (j : ℕ). field w (getD new j 0) 1) i ∙ ap (λ (j : ℕ). field w j 1) (p .here) ∙ px
-                | no g ↦ ap (λ (j : ℕ). field w j 1) (p .under k (omega arith)) ∙ marks k lo (omega (arith, y .1 .1))
+                | yes g ↦ let i : k ≡ r = omega arith in ap (λ (j : ℕ). point-at w (getD new j 0)) i ∙ ap (λ (j : ℕ). point-at w j) (p .here) ∙ px
+                | no g ↦ ap (λ (j : ℕ). point-at w j) (p .under k (omega arith)) ∙ marks k lo (omega (arith, y .1 .1))
               ];
               leaf = p;
               count = v;

@@ -15,9 +15,10 @@ use Rattle.model.specs.Total.{total}
 use Rattle.model.specs.Stack.{Levels, below, whole}
 use Rattle.model.proofs.Levels.{behind-call, behind-loop, remaining-level, first-level, inside-call, inside-loop}
 use Rattle.model.proofs.Steps.{Prefix, here, past-by, remains, step-falls}
-use Rattle.rows.specs.Rows.{field, block-at}
-use Rattle.place.specs.Stack.{Stands, Put, ground}
-use Rattle.place.specs.Times.{inner-time, first-time, level-time, Level-fits, Times, rest-of, Fares, Costed, Clocked}
+use Rattle.rows.specs.Rows.{kind-at, isolated-at, detail-at, block-at}
+use Rattle.place.specs.Stack.{Put}
+use Rattle.place.specs.Private.{Stands, ground, inner-time, first-time, level-time, Level-fits, Fares}
+use Rattle.place.specs.Times.{TimesAt, outer-levels, CostedStack, Clocked}
 use Rattle.place.proofs.Views.{leaf-low}
 use Rattle.place.proofs.Falling.{Top, head-of}
 use Rattle.place.proofs.Finding.{running, front}
@@ -36,21 +37,21 @@ falls (past-by s p) = omega (arith, falls p, step-falls C s)
 pub record Inside (w tails totals : List ℕ) (p time tail left : ℕ) : Type 0 where
   pub value : inner-time w tails totals p time tail ≡ left
   pub least : left ≤ time
-  pub loop-fits : field w p 0 ≡ 2 → (tail ≤ getD tails p 0) × (getD tails p 0 - tail ≤ time)
-  pub call-fits : (field w p 0 ≡ 2 → ⊥) →
-      (field w p 4 < 16) × (field w p 2 + getD totals (field w p 4) 0 ≤ time) × (time - field w p 2 - getD totals (field w p 4) 0 + tail ≤ 1099511627776)
+  pub loop-fits : kind-at w p ≡ 2 → (tail ≤ getD tails p 0) × (getD tails p 0 - tail ≤ time)
+  pub call-fits : (kind-at w p ≡ 2 → ⊥) →
+      (detail-at w p < 16) × (isolated-at w p + getD totals (detail-at w p) 0 ≤ time) × (time - isolated-at w p - getD totals (detail-at w p) 0 + tail ≤ 1099511627776)
 
 inside-first : (w tails totals : List ℕ) (n p time tail : ℕ) (ks : Levels) (f s : Forms) (e : ℕ) → Under w tails totals n p ks f e → 1 ≤ length ks →
     tail ≡ total C s + e → total C s ≤ total C f → time ≡ total C (whole ks) → time ≤ 1099511627776 → n ≤ 16 →
     Inside w tails totals p time tail (total C (whole (s ∷ ks)))
 inside-first w tails totals n p time tail ks f s e (lowest z d) one ht le hw small few = absurd (omega (arith, ap length z))
 inside-first w tails totals n p time tail ks f s e (in-call k lt tot r ls z d) one ht le hw small few =
-    let o : eqb (field w p 0) 2 ≡ false = ne-eqb (field w p 0) 2 (λ y. omega arith) in
+    let o : eqb (kind-at w p) 2 ≡ false = ne-eqb (kind-at w p) 2 (λ y. omega arith) in
     let a = inside-call C s (block-at w p) f r ls in
     let b = behind-call C (block-at w p) f r ls in
     let y : time ≡ total C (whole (call (block-at w p) f r ∷ ls)) = hw ∙ ap (λ (ks : Levels). total C (whole ks)) z in
     let u : total C (whole (s ∷ ks)) ≡ total C (whole (s ∷ call (block-at w p) f r ∷ ls)) = ap (λ (ks : Levels). total C (whole (s ∷ ks))) z in
-    let v : time - field w p 2 - getD totals (field w p 4) 0 + tail ≡ total C (whole (s ∷ ks)) = omega (arith, a, b, y, u, tot, d, ht) in
+    let v : time - isolated-at w p - getD totals (detail-at w p) 0 + tail ≡ total C (whole (s ∷ ks)) = omega (arith, a, b, y, u, tot, d, ht) in
     record {
       value = rw o v;
       least = omega (arith, a, y, u, le);
@@ -58,7 +59,7 @@ inside-first w tails totals n p time tail ks f s e (in-call k lt tot r ls z d) o
       call-fits = λ h. (omega arith, omega (arith, b, y, tot), omega (arith, v, a, y, u, le, small));
     }
 inside-first w tails totals n p time tail ks f s e (in-loop k m r ls z d) one ht le hw small few =
-    let o : eqb (field w p 0) 2 ≡ true = eq-eqb (field w p 0) 2 k in
+    let o : eqb (kind-at w p) 2 ≡ true = eq-eqb (kind-at w p) 2 k in
     let a = inside-loop C s (block-at w p) m f r ls in
     let b = behind-loop C (block-at w p) m f r ls in
     let y : time ≡ total C (whole (loop (block-at w p) (suc m) f r ∷ ls)) = hw ∙ ap (λ (ks : Levels). total C (whole ks)) z in
@@ -77,13 +78,13 @@ under-none (lowest z d) h = (z, d)
 under-none (in-call k lt tot r ls z d) h = absurd (omega (arith, ap length z))
 under-none (in-loop k m r ls z d) h = absurd (omega (arith, ap length z))
 
-times-top : (main : Forms) (times : List ℕ) (ks : Levels) → 1 ≤ length ks → Times main times ks → getD times (length ks) 0 ≡ total C (whole ks)
-unfolding Times
+times-top : (main : Forms) (times : List ℕ) (ks : Levels) → 1 ≤ length ks → TimesAt main times ks → getD times (length ks) 0 ≡ total C (whole ks)
+unfolding TimesAt
 times-top main times [] h t = absurd (omega arith)
 times-top main times (g ∷ ks) h t = let z : length ks + 1 ≡ length (g ∷ ks) = omega arith in rw z at (t .0)
 
-times-same : (main : Forms) (old new : List ℕ) (l : ℕ) → ((k : ℕ) → k < l → getD new k 0 ≡ getD old k 0) → (ks : Levels) → length ks < l → Times main old ks → Times main new ks
-unfolding Times
+times-same : (main : Forms) (old new : List ℕ) (l : ℕ) → ((k : ℕ) → k < l → getD new k 0 ≡ getD old k 0) → (ks : Levels) → length ks < l → TimesAt main old ks → TimesAt main new ks
+unfolding TimesAt
 times-same main old new l h [] lt t = h 0 (omega arith) ∙ t
 times-same main old new l h (g ∷ ks) lt t = (h (length ks + 1) (omega arith) ∙ t .0, times-same main old new l h ks (omega arith) (t .1))
 
@@ -128,7 +129,7 @@ module _ {w tails turns totals leaves counts : List ℕ} {n l : ℕ} (q : Fares 
   split : total C (tip q one .level .start) ≡ getD counts l 0 * getD turns (getD leaves l 0) 0 + total C (tip q one .place)
   split = turned-split (getD counts l 0) (tip q one .level .start) (tip q one .place) (getD turns (getD leaves l 0) 0) (λ b m body r z. own q one .round b m body r z .0) (tip q one .level .turns)
 
-  module _ (times : List ℕ) (lower : Times (getD (q .placed .table .funs) (n - 1) done) times (tip q one .under)) where
+  module _ (times : List ℕ) (lower : TimesAt (getD (q .placed .table .funs) (n - 1) done) times (tip q one .under)) where
     -- Inside the open loop or call below.
     above : 2 ≤ l → Inside w tails totals (getD leaves (l - 1) 0) (getD times (l - 1) 0) (getD tails (getD leaves l 0) 0) (total C (whole (tip q one .level .start ∷ tip q one .under)))
     above h =
@@ -191,41 +192,41 @@ module _ {w tails turns totals leaves counts : List ℕ} {n l : ℕ} (q : Fares 
 
 -- The new time, put at its level.
 module _ {w tails turns totals leaves counts : List ℕ} {n l : ℕ} (q : Fares w tails turns totals leaves counts n l) (one : 1 ≤ l) (times : List ℕ) where
-  pub joined : Times (main q one) times (tip q one .under) → getD times l 0 ≡ total C (whole (q .placed .levels)) → Times (main q one) times (q .placed .levels)
-  unfolding Times
+  pub joined : TimesAt (main q one) times (tip q one .under) → getD times l 0 ≡ total C (whole (q .placed .levels)) → TimesAt (main q one) times (q .placed .levels)
+  unfolding TimesAt
   joined z e =
       rw (tip q one .same) (ap (λ (k : ℕ). getD times k 0) (tip q one .depth) ∙ e ∙ ap (λ (ls : Levels). total C (whole ls)) (tip q one .same), z)
 
-  pub lower-part : Times (main q one) times (q .placed .levels) → Times (main q one) times (tip q one .under)
-  unfolding Times
+  pub lower-part : TimesAt (main q one) times (q .placed .levels) → TimesAt (main q one) times (tip q one .under)
+  unfolding TimesAt
   lower-part z = (rw (tip q one .same) at z) .1
 
-  pub top-part : Times (main q one) times (q .placed .levels) → getD times l 0 ≡ total C (whole (q .placed .levels))
-  unfolding Times
+  pub top-part : TimesAt (main q one) times (q .placed .levels) → getD times l 0 ≡ total C (whole (q .placed .levels))
+  unfolding TimesAt
   top-part z =
       ap (λ (k : ℕ). getD times k 0) (sym (tip q one .depth)) ∙ (rw (tip q one .same) at z) .0 ∙ ap (λ (ls : Levels). total C (whole ls)) (sym (tip q one .same))
 
 module _ {w tails turns totals leaves counts : List ℕ} {n l : ℕ} (q : Fares w tails turns totals leaves counts n l) (one : 1 ≤ l) (times : List ℕ) where
-  pub put-times : Times (main q one) times (tip q one .under) → {t : ℕ} {new : List ℕ} → t ≡ level-time w tails turns totals leaves counts times l → Put times new l t →
-      Times (main q one) new (q .placed .levels)
+  pub put-times : TimesAt (main q one) times (tip q one .under) → {t : ℕ} {new : List ℕ} → t ≡ level-time w tails turns totals leaves counts times l → Put times new l t →
+      TimesAt (main q one) new (q .placed .levels)
   put-times z {t} {new} h p =
       joined q one new (times-same (main q one) times new l (p .under) (tip q one .under) (omega (arith, tip q one .depth)) z) (p .here ∙ h ∙ time-is q one times z)
 
   -- The kept times up to level l, where those below it are right.
-  pub time-right : Times (main q one) times (tip q one .under) → {t : ℕ} → t ≡ level-time w tails turns totals leaves counts times l → getD times l 0 ≡ t →
-      Times (main q one) times (q .placed .levels)
+  pub time-right : TimesAt (main q one) times (tip q one .under) → {t : ℕ} → t ≡ level-time w tails turns totals leaves counts times l → getD times l 0 ≡ t →
+      TimesAt (main q one) times (q .placed .levels)
   time-right z h e = joined q one times z (e ∙ h ∙ time-is q one times z)
 
-  pub time-wrong : Times (main q one) times (tip q one .under) → {t : ℕ} → t ≡ level-time w tails turns totals leaves counts times l → (getD times l 0 ≡ t → ⊥) →
-      Times (main q one) times (q .placed .levels) → ⊥
+  pub time-wrong : TimesAt (main q one) times (tip q one .under) → {t : ℕ} → t ≡ level-time w tails turns totals leaves counts times l → (getD times l 0 ≡ t → ⊥) →
+      TimesAt (main q one) times (q .placed .levels) → ⊥
   time-wrong z h e y = e (top-part q one times y ∙ sym (h ∙ time-is q one times z))
 
-  pub lower-wrong : (Times (main q one) times (tip q one .under) → ⊥) → Times (main q one) times (q .placed .levels) → ⊥
+  pub lower-wrong : (TimesAt (main q one) times (tip q one .under) → ⊥) → TimesAt (main q one) times (q .placed .levels) → ⊥
   lower-wrong h z = h (lower-part q one times z)
 
 -- Level 0 holds the total.
-times-none : (main : Forms) (times : List ℕ) (ls : Levels) → length ls ≡ 0 → (getD times 0 0 ≡ total C main → Times main times ls) × (Times main times ls → getD times 0 0 ≡ total C main)
-unfolding Times
+times-none : (main : Forms) (times : List ℕ) (ls : Levels) → length ls ≡ 0 → (getD times 0 0 ≡ total C main → TimesAt main times ls) × (TimesAt main times ls → getD times 0 0 ≡ total C main)
+unfolding TimesAt
 times-none main times [] h = ((λ z. z), λ z. z)
 times-none main times (g ∷ ls) h = absurd (omega arith)
 
@@ -236,17 +237,17 @@ module _ {w tails turns totals leaves counts : List ℕ} {n l : ℕ} (q : Fares 
   main-total : getD totals (n - 1) 0 ≡ total C (getD (q .placed .table .funs) (n - 1) done)
   main-total = q .columns .totals-are (n - 1) (omega (arith, q .placed .table .count))
 
-  pub base-right : (times : List ℕ) → l ≡ 0 → getD times 0 0 ≡ getD totals (n - 1) 0 → Times (getD (q .placed .table .funs) (n - 1) done) times (q .placed .levels)
+  pub base-right : (times : List ℕ) → l ≡ 0 → getD times 0 0 ≡ getD totals (n - 1) 0 → TimesAt (getD (q .placed .table .funs) (n - 1) done) times (q .placed .levels)
   base-right times h e = times-none _ times (q .placed .levels) (q .placed .depth ∙ h) .0 (e ∙ main-total)
 
-  pub base-wrong : (times : List ℕ) → l ≡ 0 → (getD times 0 0 ≡ getD totals (n - 1) 0 → ⊥) → Times (getD (q .placed .table .funs) (n - 1) done) times (q .placed .levels) → ⊥
+  pub base-wrong : (times : List ℕ) → l ≡ 0 → (getD times 0 0 ≡ getD totals (n - 1) 0 → ⊥) → TimesAt (getD (q .placed .table .funs) (n - 1) done) times (q .placed .levels) → ⊥
   base-wrong times h e z = e (times-none _ times (q .placed .levels) (q .placed .depth ∙ h) .1 z ∙ sym main-total)
 
 -- The same of a stack that decodes.
-abbrev pub fares : {w tails turns totals leaves counts : List ℕ} {n l : ℕ} → 1 ≤ l → Costed w tails turns totals leaves counts n l → Fares w tails turns totals leaves counts n l
+abbrev pub fares : {w tails turns totals leaves counts : List ℕ} {n l : ℕ} → 1 ≤ l → CostedStack w tails turns totals leaves counts n l → Fares w tails turns totals leaves counts n l
 fares one q = record { starts = q .starts; placed = placed one (q .decoded); columns = q .columns }
 
 module _ {w tails turns totals leaves counts : List ℕ} {l : ℕ} {times : List ℕ} (one : 1 ≤ l) (q : Clocked w tails turns totals leaves counts l times) where
-  pub lower-times : Times (main (fares one (q .costed)) one) times (tip (fares one (q .costed)) one .under)
-  unfolding rest-of
+  pub lower-times : TimesAt (main (fares one (q .costed)) one) times (tip (fares one (q .costed)) one .under)
+  unfolding outer-levels
   lower-times = rw (tip (fares one (q .costed)) one .same) at (q .lower)

@@ -1,5 +1,5 @@
 pub mod Pieces
-pub mod Scan
 pub mod Stack
 pub mod Times
 pub mod Plans
+pub mod Private

@@ -8,39 +8,24 @@ ghost use lib.ListN.{length, getD};
 ghost use Rattle.model.specs.Forms.{Forms, done, forms};
 ghost use Rattle.model.specs.Places.{seek, passes, can-end};
 ghost use Rattle.model.specs.Stack.{onward-at, onto, whole};
-ghost use Rattle.rows.specs.Rows.{field, end-at};
+ghost use Rattle.rows.specs.Rows.{kind-at, point-at, after-at, Piece};
 ghost use Rattle.rows.specs.Answers.{Says};
-ghost use Rattle.place.specs.Pieces.{Piece, Spanned};
-ghost use Rattle.place.specs.Stack.{Table, Enters, Counted, Settled, Held, Decodes, Head, Running, Placed, Decoded, Put, Next, Lands, Finds, fall-at, inner-from, inner-to, base-from, base-to};
-ghost use Rattle.place.specs.Scan.{look, opened, hits, trail, inner};
-ghost use Rattle.place.specs.Times.{Opens, Level-fits, Fares, Costed, Clocked, Times, inner-time, first-time, level-time};
-
-// Field of a record: its kind.
-const KIND: usize = 0;
-
-// Field of a record: whether it is a point.
-const POINT: usize = 1;
-
-// Field of a record: the isolated cost of a visit.
-const COST: usize = 2;
-
-// Field of a record: the bound of a loop, the target of a call.
-const NUMBER: usize = 4;
-
-// Field of a record: the first leaf of the else part of an if.
-const ELSE: usize = 5;
-
-// Field of a record: the first leaf after the form.
-const END: usize = 6;
-
-// The kind of a call.
-const CALL: u64 = 1;
-
-// The kind of a loop.
-const LOOP: u64 = 2;
-
-// The kind of an if.
-const IF: u64 = 3;
+ghost use Rattle.place.specs.Pieces.{Spanned};
+ghost use Rattle.place.specs.Stack.{FunctionTable, Decodes, Decoded, Put, NextStack};
+ghost use Rattle.place.specs.Private.{Enters, Counted, Settled, StackStands, Enterable, Running, Placed, Lands, Finds, fall-at, inner-from, inner-to, base-from, base-to, look, within-first, hits, trail, inner, Opens, Level-fits, Fares, inner-time, first-time, level-time};
+ghost use Rattle.place.specs.Times.{CostedStack, Clocked, TimesAt};
+use rows::AFTER;
+use rows::CALL;
+use rows::DETAIL;
+use rows::IF;
+use rows::INNER_BRACKETS;
+use rows::ISOLATED;
+use rows::KIND;
+use rows::LOOP;
+use rows::MAX_FUNCTIONS;
+use rows::MAX_LEVEL;
+use rows::OTHER;
+use rows::POINT;
 
 // Answer of a scan: another point comes first.
 const STOP: u64 = 0;
@@ -57,20 +42,17 @@ const ABSENT: u64 = 3;
 // No leaf has this number.
 const NOWHERE: usize = 18446744073709551615;
 
-// As many brackets can be open inside a function.
-const BRACKETS: usize = 62;
-
 // As many levels can be open in a run.
-const LEVELS: usize = 32;
+const LEVELS: usize = MAX_LEVEL as usize;
 
 // No level has this number.
-const NO_LEVEL: usize = 33;
+const NO_LEVEL: usize = LEVELS + 1;
 
 // A number for each level, from 0 on.
-pub type ByLevel = [u64; 33];
+pub type ByLevel = [u64; NO_LEVEL];
 
 // A number for each function.
-pub type Totals = [u64; 16];
+pub type Totals = [u64; MAX_FUNCTIONS];
 
 // What a scan for x answers at the point i.
 fn hit(i: usize, x: usize) -> u64
@@ -84,15 +66,15 @@ fn inside(row: &[u64], i: usize, to: usize, x: usize, left: usize) -> u64
     requires { ⌜ i < to ⌝ }
     requires { ⌜ to * 8 ≤ length (now row) ⌝ }
     requires { ⌜ Piece (now row) left i to ⌝ }
-    ensures { λ r. ⌜ ((p : Piece (now (row .entry)) left i to) (G : List Forms) → r ≡ opened (forms G (p .part .lines)) x) ⌝ }
+    ensures { λ r. ⌜ ((p : Piece (now (row .entry)) left i to) (G : List Forms) → r ≡ within-first (forms G (p .part .lines)) x) ⌝ }
 {
     if rows::get(row, i, KIND) != IF {
         return PASS;
     }
-    let mid = rows::index(row, i, ELSE);
-    let end = rows::index(row, i, END);
-    let a = scan(row, i + 1, mid, x, left - 2);
-    let b = scan(row, mid, end, x, left - 2);
+    let other = rows::index(row, i, OTHER);
+    let after = rows::index(row, i, AFTER);
+    let a = scan(row, i + 1, other, x, left - 2);
+    let b = scan(row, other, after, x, left - 2);
     rows::larger(a, b)
 }
 
@@ -111,14 +93,14 @@ fn scan(row: &[u64], from: usize, to: usize, x: usize, left: usize) -> u64
         if v != PASS {
             return v;
         }
-        i = rows::index(row, i, END);
+        i = rows::index(row, i, AFTER);
     }
     PASS
 }
 
 // What a scan for x answers behind the leaf p of the form at i, as far as the form goes; 3 where p is no leaf of its level.
 fn within(row: &[u64], i: usize, to: usize, p: usize, x: usize, left: usize) -> u64
-    requires { ⌜ (i < to) × (i ≤ p) × (p < end-at (now row) i) ⌝ }
+    requires { ⌜ (i < to) × (i ≤ p) × (p < after-at (now row) i) ⌝ }
     requires { ⌜ to * 8 ≤ length (now row) ⌝ }
     requires { ⌜ Piece (now row) left i to ⌝ }
     ensures { λ r. ⌜ ((q : Piece (now (row .entry)) left i to) (G : List Forms) → r ≡ inner (forms G (q .part .lines)) p x) ⌝ }
@@ -129,12 +111,12 @@ fn within(row: &[u64], i: usize, to: usize, p: usize, x: usize, left: usize) -> 
     if rows::get(row, i, KIND) != IF {
         return ABSENT;
     }
-    let mid = rows::index(row, i, ELSE);
-    if p < mid {
-        return behind(row, i + 1, mid, p, x, left - 2);
+    let other = rows::index(row, i, OTHER);
+    if p < other {
+        return behind(row, i + 1, other, p, x, left - 2);
     }
-    let end = rows::index(row, i, END);
-    behind(row, mid, end, p, x, left - 2)
+    let after = rows::index(row, i, AFTER);
+    behind(row, other, after, p, x, left - 2)
 }
 
 // What a scan for x answers behind the leaf p of the forms from `from` up to `to`; 3 where p is no leaf of their level.
@@ -148,15 +130,15 @@ fn behind(row: &[u64], from: usize, to: usize, p: usize, x: usize, left: usize) 
     }
     let mut i = from;
     while i < to {
-        let end = rows::after(row, i);
-        if p < end {
+        let after = rows::after(row, i);
+        if p < after {
             let v = within(row, i, to, p, x, left);
             if v != PASS {
                 return v;
             }
-            return scan(row, end, to, x, left);
+            return scan(row, after, to, x, left);
         }
-        i = end;
+        i = after;
     }
     ABSENT
 }
@@ -185,17 +167,17 @@ fn leaf_at(leaves: &ByLevel, l: usize) -> usize
 
 // The records inside the loop or call at `head`.
 fn opening(row: &[u64], starts: &[u64], head: usize) -> Records
-    requires { ⌜ Head (now row) (now starts) head ⌝ }
+    requires { ⌜ Enterable (now row) (now starts) head ⌝ }
     ensures { λ r. ⌜ (r .from ≡ inner-from (now (row .entry)) (now (starts .entry)) head) × (r .to ≡ inner-to (now (row .entry)) (now (starts .entry)) head) ⌝ }
 {
     if rows::get(row, head, KIND) == LOOP {
-        let to = rows::index(row, head, END);
+        let to = rows::index(row, head, AFTER);
         return Records {
             from: head + 1,
             to: to,
         };
     }
-    let f = rows::index(row, head, NUMBER);
+    let f = rows::index(row, head, DETAIL);
     let from = entry(starts, f);
     let to = entry(starts, f + 1);
     Records { from: from, to: to }
@@ -227,7 +209,7 @@ fn fall(row: &[u64], starts: &[u64], n: usize, leaves: &ByLevel, l: usize, x: us
     let from = s.from;
     let to = s.to;
     let here = leaf_at(leaves, l);
-    let v = behind(row, from, to, here, x, BRACKETS);
+    let v = behind(row, from, to, here, x, INNER_BRACKETS);
     if v == MEET {
         return l;
     }
@@ -286,7 +268,7 @@ fn below(
 
 // What a scan for x answers inside the loop or call at `head`.
 fn sought(row: &[u64], starts: &[u64], head: usize, x: usize) -> u64
-    requires { ⌜ Head (now row) (now starts) head ⌝ }
+    requires { ⌜ Enterable (now row) (now starts) head ⌝ }
     requires { ⌜ inner-to (now row) (now starts) head * 8 ≤ length (now row) ⌝ }
     requires { ⌜ Piece (now row) 62 (inner-from (now row) (now starts) head) (inner-to (now row) (now starts) head) ⌝ }
     ensures { λ r. ⌜ ((p : Piece (now (row .entry)) 62 (inner-from (now (row .entry)) (now (starts .entry)) head) (inner-to (now (row .entry)) (now (starts .entry)) head)) (G : List Forms)
@@ -295,7 +277,7 @@ fn sought(row: &[u64], starts: &[u64], head: usize, x: usize) -> u64
     let s = opening(row, starts, head);
     let from = s.from;
     let to = s.to;
-    scan(row, from, to, x, BRACKETS)
+    scan(row, from, to, x, INNER_BRACKETS)
 }
 
 // Where x comes next inside the loop that was reported at level l, or at its next visit, where x cannot come once the loop is left.
@@ -308,7 +290,7 @@ fn round_again(
     l: usize,
     x: usize,
 ) -> Found
-    requires { ⌜ (1 ≤ l) × (l ≤ 32) × (field (now row) (getD (now leaves) l 0) 0 ≡ 2) ⌝ }
+    requires { ⌜ (1 ≤ l) × (l ≤ 32) × (kind-at (now row) (getD (now leaves) l 0) ≡ 2) ⌝ }
     requires { ⌜ Placed (now row) (now starts) n (now leaves) (now earlier) l ⌝ }
     requires { ⌜ ((q : Placed (now row) (now starts) n (now leaves) (now earlier) l) → fall-at (q .levels) x ≡ none) ⌝ }
     ensures { λ r. ⌜ ((q : Placed (now (row .entry)) (now (starts .entry)) n (now (leaves .entry)) (now (earlier .entry)) l)
@@ -316,7 +298,7 @@ fn round_again(
 {
     let here = leaf_at(leaves, l);
     let count = earlier[l];
-    if count >= rows::get(row, here, NUMBER) {
+    if count >= rows::get(row, here, DETAIL) {
         return Found { at: 0, count: 0 };
     }
     let v = sought(row, starts, here, x);
@@ -415,10 +397,10 @@ pub struct Place {
 // The place when the point x is reported next; where x cannot come next, level 0 and zeros in both arrays.
 pub fn next_place(row: &[u64], starts: &[u64], n: usize, place: Place, x: usize) -> Place
     requires { ⌜ (1 ≤ place .level) × (place .level ≤ 32) ⌝ }
-    requires { ⌜ field (now row) x 1 ≡ 1 ⌝ }
+    requires { ⌜ point-at (now row) x ≡ 1 ⌝ }
     requires { ⌜ Decoded (now row) (now starts) n (place .leaves) (place .earlier) (place .level) ⌝ }
     ensures { λ r. ⌜ ((q : Decoded (now (row .entry)) (now (starts .entry)) n (place .leaves) (place .earlier) (place .level))
-        → Next (now (row .entry)) (getD (q .table .funs) (n - 1) done) (onward-at (q .levels) x) (place .leaves) (place .earlier) x (r .leaves) (r .earlier) (r .level)) ⌝ }
+        → NextStack (now (row .entry)) (getD (q .table .funs) (n - 1) done) (onward-at (q .levels) x) (place .leaves) (place .earlier) x (r .leaves) (r .earlier) (r .level)) ⌝ }
 {
     let leaves = place.leaves;
     let earlier = place.earlier;
@@ -429,8 +411,8 @@ pub fn next_place(row: &[u64], starts: &[u64], n: usize, place: Place, x: usize)
     if l == 0 {
         return Place {
             level: 0,
-            leaves: [0; 33],
-            earlier: [0; 33],
+            leaves: [0; NO_LEVEL],
+            earlier: [0; NO_LEVEL],
         };
     }
     let new = put(leaves, l, x as u64);
@@ -451,19 +433,19 @@ pub fn first_place(
     earlier: ByLevel,
     x: usize,
 ) -> Place
-    requires { ⌜ field (now row) x 1 ≡ 1 ⌝ }
-    requires { ⌜ Table (now row) (now starts) n ⌝ }
-    ensures { λ r. ⌜ ((p : Table (now (row .entry)) (now (starts .entry)) n)
-        → Next (now (row .entry)) (getD (p .funs) (n - 1) done) (onto [] (seek (getD (p .funs) (n - 1) done) x)) leaves earlier x (r .leaves) (r .earlier) (r .level)) ⌝ }
+    requires { ⌜ point-at (now row) x ≡ 1 ⌝ }
+    requires { ⌜ FunctionTable (now row) (now starts) n ⌝ }
+    ensures { λ r. ⌜ ((p : FunctionTable (now (row .entry)) (now (starts .entry)) n)
+        → NextStack (now (row .entry)) (getD (p .funs) (n - 1) done) (onto [] (seek (getD (p .funs) (n - 1) done) x)) leaves earlier x (r .leaves) (r .earlier) (r .level)) ⌝ }
 {
     let from = entry(starts, n - 1);
     let to = entry(starts, n);
-    let v = scan(row, from, to, x, BRACKETS);
+    let v = scan(row, from, to, x, INNER_BRACKETS);
     if v != MEET {
         return Place {
             level: 0,
-            leaves: [0; 33],
-            earlier: [0; 33],
+            leaves: [0; NO_LEVEL],
+            earlier: [0; NO_LEVEL],
         };
     }
     let new = put(leaves, 1, x as u64);
@@ -477,12 +459,12 @@ pub fn first_place(
 
 // Whether the run can end before any report.
 pub fn first_end(row: &[u64], starts: &[u64], n: usize) -> bool
-    requires { ⌜ Table (now row) (now starts) n ⌝ }
-    ensures { λ r. ⌜ ((p : Table (now (row .entry)) (now (starts .entry)) n) → r ≡ passes (getD (p .funs) (n - 1) done)) ⌝ }
+    requires { ⌜ FunctionTable (now row) (now starts) n ⌝ }
+    ensures { λ r. ⌜ ((p : FunctionTable (now (row .entry)) (now (starts .entry)) n) → r ≡ passes (getD (p .funs) (n - 1) done)) ⌝ }
 {
     let from = entry(starts, n - 1);
     let to = entry(starts, n);
-    let v = scan(row, from, to, NOWHERE, BRACKETS);
+    let v = scan(row, from, to, NOWHERE, INNER_BRACKETS);
     v == PASS
 }
 
@@ -518,7 +500,7 @@ fn enters(row: &[u64], head: usize, count: u64) -> bool
     if kind != LOOP {
         return false;
     }
-    if count < rows::get(row, head, NUMBER) {
+    if count < rows::get(row, head, DETAIL) {
         true
     } else {
         false
@@ -531,7 +513,7 @@ fn counted(row: &[u64], p: usize, count: u64) -> bool
     ensures { λ r. ⌜ Says r (Counted (now (row .entry)) p count) ⌝ }
 {
     if rows::get(row, p, KIND) == LOOP {
-        if count <= rows::get(row, p, NUMBER) {
+        if count <= rows::get(row, p, DETAIL) {
             return true;
         }
         return false;
@@ -545,7 +527,7 @@ fn settled(row: &[u64], from: usize, to: usize, p: usize, count: u64) -> bool
     requires { ⌜ Piece (now row) 62 from to ⌝ }
     ensures { λ r. ⌜ ((n : ℕ) (G : List Forms) (f : Forms) → Spanned (now (row .entry)) G n from to f → Says r (Settled (now (row .entry)) f p count)) ⌝ }
 {
-    if behind(row, from, to, p, NOWHERE, BRACKETS) == ABSENT {
+    if behind(row, from, to, p, NOWHERE, INNER_BRACKETS) == ABSENT {
         return false;
     }
     if rows::get(row, p, POINT) != 1 {
@@ -564,9 +546,9 @@ fn holds(
     l: usize,
 ) -> bool
     requires { ⌜ l ≤ 32 ⌝ }
-    requires { ⌜ Table (now row) (now starts) n ⌝ }
-    ensures { λ r. ⌜ ((p : Table (now (row .entry)) (now (starts .entry)) n)
-        → Says r (Held (now (row .entry)) (getD (p .funs) (n - 1) done) (now (leaves .entry)) (now (earlier .entry)) l)) ⌝ }
+    requires { ⌜ FunctionTable (now row) (now starts) n ⌝ }
+    ensures { λ r. ⌜ ((p : FunctionTable (now (row .entry)) (now (starts .entry)) n)
+        → Says r (StackStands (now (row .entry)) (getD (p .funs) (n - 1) done) (now (leaves .entry)) (now (earlier .entry)) l)) ⌝ }
 {
     if l == 0 {
         return true;
@@ -594,8 +576,8 @@ fn holds(
 
 // Whether the place is one of some run of the table: its stack decodes and its leaves are points.
 pub fn place_ok(row: &[u64], starts: &[u64], n: usize, place: Place) -> bool
-    requires { ⌜ Table (now row) (now starts) n ⌝ }
-    ensures { λ r. ⌜ ((p : Table (now (row .entry)) (now (starts .entry)) n)
+    requires { ⌜ FunctionTable (now row) (now starts) n ⌝ }
+    ensures { λ r. ⌜ ((p : FunctionTable (now (row .entry)) (now (starts .entry)) n)
         → Says r (Decodes (now (row .entry)) (getD (p .funs) (n - 1) done) (place .leaves) (place .earlier) (place .level))) ⌝ }
 {
     let leaves = place.leaves;
@@ -619,8 +601,8 @@ fn inner_time(row: &[u64], tails: &[u64], totals: &Totals, head: usize, time: u6
         let all = tails[head];
         return time - (all - tail);
     }
-    let f = rows::index(row, head, NUMBER);
-    let cost = rows::get(row, head, COST);
+    let f = rows::index(row, head, DETAIL);
+    let cost = rows::get(row, head, ISOLATED);
     let total = totals[f];
     time - cost - total + tail
 }
@@ -683,7 +665,7 @@ pub fn next_times(
     requires { ⌜ (1 ≤ place .level) × (place .level ≤ 32) ⌝ }
     requires { ⌜ Clocked (now row) (now tails) (now turns) (now totals) (place .leaves) (place .earlier) (place .level) times ⌝ }
     ensures { λ r. ⌜ ((q : Clocked (now (row .entry)) (now (tails .entry)) (now (turns .entry)) (now (totals .entry)) (place .leaves) (place .earlier) (place .level) times)
-        → Times (getD (q .costed .decoded .table .funs) (q .n - 1) done) r (q .costed .decoded .levels) × ((k : ℕ) → place .level < k → getD r k 0 ≡ 0)) ⌝ }
+        → TimesAt (getD (q .costed .decoded .table .funs) (q .n - 1) done) r (q .costed .decoded .levels) × ((k : ℕ) → place .level < k → getD r k 0 ≡ 0)) ⌝ }
 {
     let leaves = place.leaves;
     let earlier = place.earlier;
@@ -707,7 +689,7 @@ fn times_hold(
     requires { ⌜ l ≤ 32 ⌝ }
     requires { ⌜ Fares (now row) (now tails) (now turns) (now totals) (now leaves) (now earlier) n l ⌝ }
     ensures { λ r. ⌜ ((q : Fares (now (row .entry)) (now (tails .entry)) (now (turns .entry)) (now (totals .entry)) (now (leaves .entry)) (now (earlier .entry)) n l)
-        → Says r (Times (getD (q .placed .table .funs) (n - 1) done) (now (times .entry)) (q .placed .levels))) ⌝ }
+        → Says r (TimesAt (getD (q .placed .table .funs) (n - 1) done) (now (times .entry)) (q .placed .levels))) ⌝ }
 {
     if l == 0 {
         let total = totals[n - 1];
@@ -734,9 +716,9 @@ pub fn times_ok(
     times: ByLevel,
 ) -> bool
     requires { ⌜ (1 ≤ place .level) × (place .level ≤ 32) ⌝ }
-    requires { ⌜ Costed (now row) (now tails) (now turns) (now totals) (place .leaves) (place .earlier) n (place .level) ⌝ }
-    ensures { λ r. ⌜ ((q : Costed (now (row .entry)) (now (tails .entry)) (now (turns .entry)) (now (totals .entry)) (place .leaves) (place .earlier) n (place .level))
-        → Says r (Times (getD (q .decoded .table .funs) (n - 1) done) times (q .decoded .levels))) ⌝ }
+    requires { ⌜ CostedStack (now row) (now tails) (now turns) (now totals) (place .leaves) (place .earlier) n (place .level) ⌝ }
+    ensures { λ r. ⌜ ((q : CostedStack (now (row .entry)) (now (tails .entry)) (now (turns .entry)) (now (totals .entry)) (place .leaves) (place .earlier) n (place .level))
+        → Says r (TimesAt (getD (q .decoded .table .funs) (n - 1) done) times (q .decoded .levels))) ⌝ }
 {
     let leaves = place.leaves;
     let earlier = place.earlier;

@@ -15,7 +15,7 @@ use mir.ValLaws.{toZ-ofZ}
 use Rattle.text.specs.Text.{bytes}
 use Rattle.text.specs.Spelling.{decimal}
 use Rattle.print.specs.Lines.{signed-field}
-use Rattle.print.specs.Written.{Written, Held}
+use Rattle.print.specs.Printed.{Printed, PrintedWithin}
 use Rattle.print.proofs.Laws.{behind, digits-most}
 
 -- The number that a signed value holds.
@@ -72,21 +72,22 @@ pub size-read : {r : ℕ} (z : ℤ) → SFits w64 z → r ≡ natAbs (read z) �
 size-read z f e = e ∙ ap natAbs (toZ-ofZ w64 z f)
 
 -- The field of a signed value that was passed on is that of the number.
-pub field-read : {l m : List ℕ} {at e : ℕ} (z : ℤ) → SFits w64 z → Held 22 l at (signed-field (read z)) m e → Held 22 l at (signed-field z) m e
-field-read {l} {m} {at} {e} z f = subst (λ (y : ℤ). Held 22 l at (signed-field y) m e) (toZ-ofZ w64 z f)
+pub field-read : {l m : List ℕ} {at e : ℕ} (z : ℤ) → SFits w64 z → PrintedWithin 22 l at (signed-field (read z)) m e
+    → PrintedWithin 22 l at (signed-field z) m e
+field-read {l} {m} {at} {e} z f = subst (λ (y : ℤ). PrintedWithin 22 l at (signed-field y) m e) (toZ-ofZ w64 z f)
 
 -- A negative number is written with its sign.
 pub put-below : {l m k : List ℕ} {at i e r : ℕ} {z : ℤ} → Below z → r ≡ natAbs z → r < 2 ^ 64
-    → Written l at (bytes " -") m i → Written m i (decimal r) k e → Held 22 l at (signed-field z) k e
+    → Printed l at (bytes " -") m i → Printed m i (decimal r) k e → PrintedWithin 22 l at (signed-field z) k e
 unfolding signed-field
 put-below {r} {z} b s h p q =
     let e : r ≡ suc (b .far) = s ∙ ap natAbs (b .is) in
-    rw (b .is, ← e) (record { written = behind p q; short = omega (arith, digits-most r h) })
+    rw (b .is, ← e) (record { printed = behind p q; short = omega (arith, digits-most r h) })
 
 -- Any other is written without one.
 pub put-above : {l m k : List ℕ} {at i e r : ℕ} {z : ℤ} → (n : ℕ) × (z ≡ pos n) → r ≡ natAbs z → r < 2 ^ 64
-    → Written l at (bytes " ") m i → Written m i (decimal r) k e → Held 22 l at (signed-field z) k e
+    → Printed l at (bytes " ") m i → Printed m i (decimal r) k e → PrintedWithin 22 l at (signed-field z) k e
 unfolding signed-field
 put-above {r} {z} b s h p q =
     let e : r ≡ b .0 = s ∙ ap natAbs (b .1) in
-    rw (b .1, ← e) (record { written = behind p q; short = omega (arith, digits-most r h) })
+    rw (b .1, ← e) (record { printed = behind p q; short = omega (arith, digits-most r h) })

@@ -6,14 +6,16 @@ use mathlib.Core.Bool.{Bool, true, false}
 use lib.IntN.{ℤ, pos, negsuc}
 use Rattle.text.specs.Text.{bytes}
 use Rattle.text.specs.Spelling.{decimal}
-use Rattle.print.specs.declared.Word.{Word}
-use Rattle.print.specs.declared.Word.the-variants.{Go, Suspend, Stay}
-use Rattle.print.specs.declared.Ending.{Ending}
-use Rattle.print.specs.declared.Ending.the-variants.{Resume, Ended}
+use Rattle.model.specs.declared.Word.{Word}
+use Rattle.model.specs.declared.Word.the-variants.{Go, Suspend, Stay}
+use Rattle.model.specs.declared.Ending.{Ending}
+use Rattle.model.specs.declared.Ending.the-variants.{Resume, Ended}
+use Rattle.model.specs.declared.Answer.{Answer}
+use Rattle.model.specs.declared.Answer.the-variants.{Refused, Decided, Closed}
 
 -- A further field of a line: one space, then a number in decimal.
-unfoldable pub field : ℕ → List ℕ
-field n = bytes " " ++ decimal n
+unfoldable pub number-field : ℕ → List ℕ
+number-field n = bytes " " ++ decimal n
 
 -- A further field that is a signed number: one space, a minus sign where the number is below 0, then its size in decimal.
 unfoldable pub signed-field : ℤ → List ℕ
@@ -21,9 +23,9 @@ signed-field (pos n) = bytes " " ++ decimal n
 signed-field (negsuc n) = bytes " -" ++ decimal (suc n)
 
 -- The late mark, with the line feed that ends its line: 1 if late, else 0.
-unfoldable pub mark : Bool → List ℕ
-mark true = bytes " 1\n"
-mark false = bytes " 0\n"
+unfoldable pub late-mark : Bool → List ℕ
+late-mark true = bytes " 1\n"
+late-mark false = bytes " 0\n"
 
 -- The word of a decision.
 unfoldable pub word-text : Word → List ℕ
@@ -38,7 +40,7 @@ ending-text Ended = bytes "ended"
 
 -- Four fields to the end of a line.
 unfoldable pub four : ℕ → ℕ → ℕ → ℕ → List ℕ
-four a b c d = field a ++ (field b ++ (field c ++ (field d ++ bytes "\n")))
+four a b c d = number-field a ++ (number-field b ++ (number-field c ++ (number-field d ++ bytes "\n")))
 
 -- The first line of a plan's listing: total, max-load total, deadline, switch cost.
 unfoldable pub task-line : ℕ → ℕ → ℕ → ℕ → List ℕ
@@ -50,17 +52,11 @@ point-line number level tail stretch = bytes "point" ++ four number level tail s
 
 -- The line of a refused plan: the refusal's number and the plan's line.
 unfoldable pub refused-plan-line : ℕ → ℕ → List ℕ
-refused-plan-line number line = bytes "refused" ++ (field number ++ (field line ++ bytes "\n"))
+refused-plan-line number line = bytes "refused" ++ (number-field number ++ (number-field line ++ bytes "\n"))
 
--- What the answer of a call says: a refusal's number; of a release or a report the word, the remaining time, the margin and the late mark; of an end the
--- word and the late mark.
-pub data Said : Type 0 where
-  refused : ℕ → Said
-  decided : Word → ℕ → ℤ → Bool → Said
-  closed : Ending → Bool → Said
-
--- The line of an answer.
-unfoldable pub answer-line : Said → List ℕ
-answer-line (refused number) = bytes "refused" ++ (field number ++ bytes "\n")
-answer-line (decided w remaining margin late) = word-text w ++ (field remaining ++ (signed-field margin ++ mark late))
-answer-line (closed w late) = ending-text w ++ mark late
+-- The line of an answer: a refusal's number; of a release or a report the word, the remaining time, the margin and the late mark; of an end the word and the
+-- late mark.
+unfoldable pub answer-line : Answer → List ℕ
+answer-line (Refused number) = bytes "refused" ++ (number-field number ++ bytes "\n")
+answer-line (Decided w remaining margin late) = word-text w ++ (number-field remaining ++ (signed-field margin ++ late-mark late))
+answer-line (Closed w late) = ending-text w ++ late-mark late

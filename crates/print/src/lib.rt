@@ -1,4 +1,5 @@
-// The lines that the programs print, each written from the start of a lent buffer (document 01, 'Calls' and 'Plans worked through').
+// The lines that the programs print (document 01, 'Calls' and 'Plans worked through'): those of a listing at a place of a lent buffer, as far as it has room,
+// and the answers of the calls from the start of one that has room for any.
 ghost use mathlib.Core.Path.{_≡_};
 ghost use mathlib.Core.List.{[], _∷_};
 ghost use Prim.Native.Nat.{_+_, _<_, _≤_};
@@ -6,28 +7,47 @@ ghost use lib.ListN.{length};
 ghost use lib.IntN.{natAbs};
 ghost use lib.Seq.{sets};
 ghost use Rattle.text.specs.Spelling.{decimal};
-ghost use Rattle.print.specs.Written.{Written, Held};
-ghost use Rattle.print.specs.Lines.{field, signed-field, mark, word-text, ending-text, four};
-ghost use Rattle.print.specs.Lines.{task-line, point-line, refused-plan-line, refused, decided, closed, answer-line};
+ghost use Rattle.model.specs.declared.Answer.the-variants.{Refused, Decided, Closed};
+ghost use Rattle.print.specs.Printed.{Printed, PrintedWithin};
+ghost use Rattle.print.specs.Lines.{number-field, signed-field, late-mark, word-text, ending-text, four};
+ghost use Rattle.print.specs.Lines.{task-line, point-line, refused-plan-line, answer-line};
+use model::Answer;
+use model::Ending;
+use model::Word;
 
-// The word of a decision: the others go on, are suspended now, or stay suspended.
-pub enum Word {
-    Go,
-    Suspend,
-    Stay,
-}
-
-// The word of an end: the others resume, or were not suspended.
-pub enum Ending {
-    Resume,
-    Ended,
-}
-
-// How many bytes a lent buffer has: more than any line.
+// How many bytes the buffer of an answer has: more than any line.
 pub const SIZE: usize = 128;
 
 // The base of the decimal numbers.
 const TEN: u64 = 10;
+
+// Writes a text at a place, as far as there is room, and gives the place after it.
+pub fn put_bytes(out: &mut [u8], at: usize, text: &[u8]) -> usize
+    ensures { λ r. ⌜ Printed (now (out .entry)) at (now (text .entry)) (now (out .exit)) r ⌝ }
+{
+    let mut end = at;
+    let mut i = 0;
+    while i < text.len() {
+        if end >= out.len() {
+            return end;
+        }
+        out[end] = text[i];
+        end += 1;
+        i += 1;
+    }
+    end
+}
+
+// Writes one byte at a place, if there is room, and gives the place after it.
+fn put_byte(out: &mut [u8], at: usize, b: u8) -> usize
+    ensures { λ r. ⌜ Printed (now (out .entry)) at (b ∷ []) (now (out .exit)) r ⌝ }
+{
+    if at >= out.len() {
+        return at;
+    }
+    out[at] = b;
+    at + 1
+}
 
 // Gives the byte of a digit.
 fn digit(d: u64) -> u8
@@ -37,32 +57,9 @@ fn digit(d: u64) -> u8
     d as u8 + b'0'
 }
 
-// Writes one byte at a place.
-fn put_byte(out: &mut [u8; SIZE], at: usize, b: u8) -> usize
-    requires { ⌜ at < 128 ⌝ }
-    ensures { λ r. ⌜ Written (now (out .entry)) at (b ∷ []) (now (out .exit)) r ⌝ }
-{
-    out[at] = b;
-    at + 1
-}
-
-// Writes a text at a place.
-fn put_bytes(out: &mut [u8; SIZE], at: usize, text: &[u8]) -> usize
-    requires { do ⌜ at + (← ⟦text.len()⟧) ≤ 128 ⌝ }
-    ensures { λ r. ⌜ Written (now (out .entry)) at (now (text .entry)) (now (out .exit)) r ⌝ }
-{
-    let mut i = 0;
-    while i < text.len() {
-        out[at + i] = text[i];
-        i += 1;
-    }
-    at + i
-}
-
 // Writes a number in decimal at a place: the digits of its tenth, then its last digit.
-fn put_number(out: &mut [u8; SIZE], at: usize, n: u64) -> usize
-    requires { ⌜ at + length (decimal n) ≤ 128 ⌝ }
-    ensures { λ r. ⌜ Written (now (out .entry)) at (decimal n) (now (out .exit)) r ⌝ }
+fn put_number(out: &mut [u8], at: usize, n: u64) -> usize
+    ensures { λ r. ⌜ Printed (now (out .entry)) at (decimal n) (now (out .exit)) r ⌝ }
 {
     if n < TEN {
         return put_byte(out, at, digit(n));
@@ -72,9 +69,8 @@ fn put_number(out: &mut [u8; SIZE], at: usize, n: u64) -> usize
 }
 
 // Writes a further field of a line, a number.
-fn put_field(out: &mut [u8; SIZE], at: usize, n: u64) -> usize
-    requires { ⌜ at + 21 ≤ 128 ⌝ }
-    ensures { λ r. ⌜ Held 21 (now (out .entry)) at (field n) (now (out .exit)) r ⌝ }
+fn put_field(out: &mut [u8], at: usize, n: u64) -> usize
+    ensures { λ r. ⌜ PrintedWithin 21 (now (out .entry)) at (number-field n) (now (out .exit)) r ⌝ }
 {
     let first = put_byte(out, at, b' ');
     put_number(out, first, n)
@@ -91,9 +87,8 @@ fn size(z: i64) -> u64
 }
 
 // Writes a further field of a line, a signed number.
-fn put_signed(out: &mut [u8; SIZE], at: usize, z: i64) -> usize
-    requires { ⌜ at + 22 ≤ 128 ⌝ }
-    ensures { λ r. ⌜ Held 22 (now (out .entry)) at (signed-field z) (now (out .exit)) r ⌝ }
+fn put_signed(out: &mut [u8], at: usize, z: i64) -> usize
+    ensures { λ r. ⌜ PrintedWithin 22 (now (out .entry)) at (signed-field z) (now (out .exit)) r ⌝ }
 {
     if z < 0 {
         let minus = put_bytes(out, at, b" -");
@@ -104,9 +99,8 @@ fn put_signed(out: &mut [u8; SIZE], at: usize, z: i64) -> usize
 }
 
 // Writes the late mark and ends the line.
-fn put_mark(out: &mut [u8; SIZE], at: usize, late: bool) -> usize
-    requires { ⌜ at + 3 ≤ 128 ⌝ }
-    ensures { λ r. ⌜ Held 3 (now (out .entry)) at (mark late) (now (out .exit)) r ⌝ }
+fn put_mark(out: &mut [u8], at: usize, late: bool) -> usize
+    ensures { λ r. ⌜ PrintedWithin 3 (now (out .entry)) at (late-mark late) (now (out .exit)) r ⌝ }
 {
     if late {
         return put_bytes(out, at, b" 1\n");
@@ -115,8 +109,8 @@ fn put_mark(out: &mut [u8; SIZE], at: usize, late: bool) -> usize
 }
 
 // Writes the word of a decision at the start of a line.
-fn put_word(out: &mut [u8; SIZE], word: Word) -> usize
-    ensures { λ r. ⌜ Held 7 (now (out .entry)) 0 (word-text word) (now (out .exit)) r ⌝ }
+fn put_word(out: &mut [u8], word: Word) -> usize
+    ensures { λ r. ⌜ PrintedWithin 7 (now (out .entry)) 0 (word-text word) (now (out .exit)) r ⌝ }
 {
     match word {
         Word::Go => put_bytes(out, 0, b"go"),
@@ -126,8 +120,8 @@ fn put_word(out: &mut [u8; SIZE], word: Word) -> usize
 }
 
 // Writes the word of an end at the start of a line.
-fn put_ending(out: &mut [u8; SIZE], ending: Ending) -> usize
-    ensures { λ r. ⌜ Held 6 (now (out .entry)) 0 (ending-text ending) (now (out .exit)) r ⌝ }
+fn put_ending(out: &mut [u8], ending: Ending) -> usize
+    ensures { λ r. ⌜ PrintedWithin 6 (now (out .entry)) 0 (ending-text ending) (now (out .exit)) r ⌝ }
 {
     match ending {
         Ending::Resume => put_bytes(out, 0, b"resume"),
@@ -136,9 +130,8 @@ fn put_ending(out: &mut [u8; SIZE], ending: Ending) -> usize
 }
 
 // Writes four fields and ends the line.
-fn put_four(out: &mut [u8; SIZE], at: usize, a: u64, b: u64, c: u64, d: u64) -> usize
-    requires { ⌜ at + 85 ≤ 128 ⌝ }
-    ensures { λ r. ⌜ Held 85 (now (out .entry)) at (four a b c d) (now (out .exit)) r ⌝ }
+fn put_four(out: &mut [u8], at: usize, a: u64, b: u64, c: u64, d: u64) -> usize
+    ensures { λ r. ⌜ PrintedWithin 85 (now (out .entry)) at (four a b c d) (now (out .exit)) r ⌝ }
 {
     let second = put_field(out, at, a);
     let third = put_field(out, second, b);
@@ -147,48 +140,50 @@ fn put_four(out: &mut [u8; SIZE], at: usize, a: u64, b: u64, c: u64, d: u64) -> 
     put_byte(out, end, b'\n')
 }
 
-// Writes the first line of a plan's listing, and gives its length.
+// Writes the first line of a plan's listing at a place, and gives the place after it.
 pub fn task_line(
-    out: &mut [u8; SIZE],
+    out: &mut [u8],
+    at: usize,
     total: u64,
     max_total: u64,
     deadline: u64,
     switch: u64,
 ) -> usize
-    ensures line { λ r. ⌜ now (out .exit) ≡ sets (now (out .entry)) 0 (task-line total «max_total» deadline switch) ⌝ }
-    ensures size { λ r. ⌜ r ≡ length (task-line total «max_total» deadline switch) ⌝ }
-    ensures fits { λ r. ⌜ r ≤ 128 ⌝ }
+    ensures { λ r. ⌜ PrintedWithin 128 (now (out .entry)) at (task-line total «max_total» deadline switch) (now (out .exit)) r ⌝ }
 {
-    let first = put_bytes(out, 0, b"task");
+    let first = put_bytes(out, at, b"task");
     put_four(out, first, total, max_total, deadline, switch)
 }
 
-// Writes the line of a point, and gives its length.
-pub fn point_line(out: &mut [u8; SIZE], number: u64, level: u64, tail: u64, stretch: u64) -> usize
-    ensures line { λ r. ⌜ now (out .exit) ≡ sets (now (out .entry)) 0 (point-line number level tail stretch) ⌝ }
-    ensures size { λ r. ⌜ r ≡ length (point-line number level tail stretch) ⌝ }
-    ensures fits { λ r. ⌜ r ≤ 128 ⌝ }
+// Writes the line of a point at a place, and gives the place after it.
+pub fn point_line(
+    out: &mut [u8],
+    at: usize,
+    number: u64,
+    level: u64,
+    tail: u64,
+    stretch: u64,
+) -> usize
+    ensures { λ r. ⌜ PrintedWithin 128 (now (out .entry)) at (point-line number level tail stretch) (now (out .exit)) r ⌝ }
 {
-    let first = put_bytes(out, 0, b"point");
+    let first = put_bytes(out, at, b"point");
     put_four(out, first, number, level, tail, stretch)
 }
 
-// Writes the line of a refused plan, and gives its length.
-pub fn refused_plan_line(out: &mut [u8; SIZE], number: u64, line: u64) -> usize
-    ensures line { λ r. ⌜ now (out .exit) ≡ sets (now (out .entry)) 0 (refused-plan-line number line) ⌝ }
-    ensures size { λ r. ⌜ r ≡ length (refused-plan-line number line) ⌝ }
-    ensures fits { λ r. ⌜ r ≤ 128 ⌝ }
+// Writes the line of a refused plan at a place, and gives the place after it.
+pub fn refused_plan_line(out: &mut [u8], at: usize, number: u64, line: u64) -> usize
+    ensures { λ r. ⌜ PrintedWithin 128 (now (out .entry)) at (refused-plan-line number line) (now (out .exit)) r ⌝ }
 {
-    let first = put_bytes(out, 0, b"refused");
+    let first = put_bytes(out, at, b"refused");
     let second = put_field(out, first, number);
     let end = put_field(out, second, line);
     put_byte(out, end, b'\n')
 }
 
 // Writes the line of a refused call, and gives its length.
-pub fn refused_call_line(out: &mut [u8; SIZE], number: u64) -> usize
-    ensures line { λ r. ⌜ now (out .exit) ≡ sets (now (out .entry)) 0 (answer-line (refused number)) ⌝ }
-    ensures size { λ r. ⌜ r ≡ length (answer-line (refused number)) ⌝ }
+fn refused_call_line(out: &mut [u8; SIZE], number: u64) -> usize
+    ensures line { λ r. ⌜ now (out .exit) ≡ sets (now (out .entry)) 0 (answer-line (Refused number)) ⌝ }
+    ensures size { λ r. ⌜ r ≡ length (answer-line (Refused number)) ⌝ }
     ensures fits { λ r. ⌜ r ≤ 128 ⌝ }
 {
     let first = put_bytes(out, 0, b"refused");
@@ -197,15 +192,9 @@ pub fn refused_call_line(out: &mut [u8; SIZE], number: u64) -> usize
 }
 
 // Writes the answer of a release or a report, and gives its length.
-pub fn decision_line(
-    out: &mut [u8; SIZE],
-    word: Word,
-    remaining: u64,
-    margin: i64,
-    late: bool,
-) -> usize
-    ensures line { λ r. ⌜ now (out .exit) ≡ sets (now (out .entry)) 0 (answer-line (decided word remaining margin late)) ⌝ }
-    ensures size { λ r. ⌜ r ≡ length (answer-line (decided word remaining margin late)) ⌝ }
+fn decision_line(out: &mut [u8; SIZE], word: Word, remaining: u64, margin: i64, late: bool) -> usize
+    ensures line { λ r. ⌜ now (out .exit) ≡ sets (now (out .entry)) 0 (answer-line (Decided word remaining margin late)) ⌝ }
+    ensures size { λ r. ⌜ r ≡ length (answer-line (Decided word remaining margin late)) ⌝ }
     ensures fits { λ r. ⌜ r ≤ 128 ⌝ }
 {
     let first = put_word(out, word);
@@ -215,11 +204,30 @@ pub fn decision_line(
 }
 
 // Writes the answer of an end, and gives its length.
-pub fn end_line(out: &mut [u8; SIZE], ending: Ending, late: bool) -> usize
-    ensures line { λ r. ⌜ now (out .exit) ≡ sets (now (out .entry)) 0 (answer-line (closed ending late)) ⌝ }
-    ensures size { λ r. ⌜ r ≡ length (answer-line (closed ending late)) ⌝ }
+fn end_line(out: &mut [u8; SIZE], ending: Ending, late: bool) -> usize
+    ensures line { λ r. ⌜ now (out .exit) ≡ sets (now (out .entry)) 0 (answer-line (Closed ending late)) ⌝ }
+    ensures size { λ r. ⌜ r ≡ length (answer-line (Closed ending late)) ⌝ }
     ensures fits { λ r. ⌜ r ≤ 128 ⌝ }
 {
     let first = put_ending(out, ending);
     put_mark(out, first, late)
+}
+
+// Writes the line of an answer from the start of a lent buffer, and gives its length.
+pub fn answer_line(out: &mut [u8; SIZE], answer: Answer) -> usize
+    ensures line { λ r. ⌜ now (out .exit) ≡ sets (now (out .entry)) 0 (answer-line answer) ⌝ }
+    ensures size { λ r. ⌜ r ≡ length (answer-line answer) ⌝ }
+    ensures fits { λ r. ⌜ r ≤ 128 ⌝ }
+{
+    match answer {
+        Answer::Refused(number) => refused_call_line(out, number),
+        Answer::Decided(word, remaining, margin, late) => decision_line(
+            out,
+            word,
+            remaining,
+            margin,
+            late,
+        ),
+        Answer::Closed(ending, late) => end_line(out, ending, late),
+    }
 }

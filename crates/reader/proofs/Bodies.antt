@@ -14,9 +14,9 @@ use Rattle.text.specs.declared.Form.{Form}
 use Rattle.text.specs.declared.Form.the-variants.{Task, Fun, Then, Else, Close, Leaf, Call, Loop, If}
 use Rattle.text.specs.declared.Read.{Read}
 use Rattle.text.specs.declared.Read.the-variants.{Unread, Line}
-use Rattle.text.specs.Text.{lines, pick}
-use Rattle.text.specs.Grammar.{no-form, line-form}
-use Rattle.text.specs.Positions.{line-at, rest-at, read-at, Found, Means}
+use Rattle.model.specs.Places.{pick}
+use Rattle.text.specs.Text.{lines, line-at, rest-at}
+use Rattle.text.specs.Grammar.{no-form, line-form, read-at, Found, Means}
 use Rattle.text.proofs.Theorems.{read-means, lines-found, lines-at, lines-end}
 use Rattle.reader.specs.declared.Block.{Block}
 use Rattle.reader.specs.declared.Block.the-variants.{Plain, Calls, Inner, Choice}
@@ -26,10 +26,11 @@ use Rattle.reader.specs.declared.Sign.{Sign}
 use Rattle.reader.specs.declared.Sign.the-variants.{Missing, On}
 use Rattle.reader.specs.declared.Inside.the-variants.{Closed}
 use Rattle.reader.specs.Machine.{_⊕_, Around, State, body, stuck, to, block, tag-of, in-body, fault, run}
-use Rattle.reader.specs.Records.{entry, records}
-use Rattle.reader.specs.Helpers.{form-of, judged-step, step-of, sign-of, Around-of, Halted, Leads, Came, FormsDone, FormDone, FormAt}
+use Rattle.rows.specs.Records.{entry, records}
+use Rattle.reader.specs.Private.{form-of, judged-step, step-of, sign-of, Around-of, Halted, Leads, Came, FormsDone, FormDone, FormAt}
 use Rattle.reader.proofs.Appended.{⊕-assoc, size-⊕, height-⊕}
-use Rattle.reader.proofs.Records.{records-⊕, records-length}
+use Rattle.rows.proofs.Records.{records-length}
+use Rattle.reader.proofs.Records.{records-⊕}
 use Rattle.reader.proofs.Allowed.{allowed}
 use Rattle.reader.proofs.Capped.{Held, found-held}
 use Rattle.reader.proofs.Contract.{Stands, Forming, Enclosed, forming-start, forming-out, forming-leaf, forming-call, forming-loop, forming-if}

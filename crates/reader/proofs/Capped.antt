@@ -8,12 +8,17 @@ use lib.Dec.{leb, ltb}
 use borrow.Author.Tests.{leb-true}
 use Rattle.text.specs.declared.Form.{Form}
 use Rattle.text.specs.declared.Form.the-variants.{Task, Fun, Then, Else, Close, Leaf, Call, Loop, If}
-use Rattle.text.specs.Grammar.{line-form, form}
+use Rattle.text.specs.Grammar.{line-form, form, cap-form, Found}
 use Rattle.model.specs.Levels.{heights}
-use Rattle.text.specs.Positions.{line-at, cap, cap-form, Found}
+use Rattle.text.specs.Text.{line-at}
+use Rattle.text.specs.Patterns.{capped}
 use Rattle.text.proofs.Theorems.{cap-high, cap-low, cap-same}
 use Rattle.reader.specs.Machine.{State, start, task, body, await-then, await-else, await-close, done, brackets, level, functions-of, Next, stuck, to, next, unless, fault, counted, Turn, stop, judged, turn}
 use Rattle.reader.proofs.Allowed.{Allowed, allowed}
+
+-- a number of a plan, held
+abbrev cap : ℕ → ℕ
+cap = capped (2 ^ 41)
 
 -- two tests alike: what follows need only be the same where they hold
 both : (t u : Bool) (k x y : ℕ) → t ≡ u → (u ≡ true → x ≡ y) → unless t k x ≡ unless u k y
@@ -21,7 +26,8 @@ both t true k x y e h = rw e (h refl)
 both t false k x y e h = rw e
 
 high : (a b k x y : ℕ) → b < 2 ^ 41 → (a ≤ b → cap a ≡ a → x ≡ y) → unless (leb (cap a) b) k x ≡ unless (leb a b) k y
-high a b k x y h g = both (leb (cap a) b) (leb a b) k x y (cap-high a b h) (λ e. let l : a ≤ b = leb-true a b e in g l (cap-same a (omega arith)))
+high a b k x y h g =
+    both (leb (cap a) b) (leb a b) k x y (cap-high (2 ^ 41) a b h) (λ e. let l : a ≤ b = leb-true a b e in g l (cap-same (2 ^ 41) a (omega arith)))
 
 module _ (room d L n : ℕ) (hs : List ℕ) where
   -- of costs, with what follows
@@ -33,27 +39,29 @@ module _ (room d L n : ℕ) (hs : List ℕ) where
   cap-fault : (f : Form) → fault room d L n hs (cap-form f) ≡ fault room d L n hs f
   unfolding fault
   cap-fault (Task x y) =
-      both _ _ 3 _ _ (cap-low x) (λ _. high x (2 ^ 40) 3 _ _ (omega arith) (λ l e. high y (2 ^ 20) 3 _ _ (omega arith) (λ l′ e′. refl)))
+      both _ _ 3 _ _ (cap-low (2 ^ 41) x (omega arith)) (λ _. high x (2 ^ 40) 3 _ _ (omega arith) (λ l e. high y (2 ^ 20) 3 _ _ (omega arith) (λ l′ e′. refl)))
   cap-fault Fun = refl
   cap-fault Then = refl
   cap-fault Else = refl
   cap-fault Close = refl
   cap-fault (Leaf k c m) = costs c m _ _ (λ e e′. refl)
   cap-fault (Call k f c m) = high f 15 3 _ _ (omega arith) (λ l q. costs c m _ _ (λ e e′. rw q))
-  cap-fault (Loop k b c m) = both _ _ 3 _ _ (cap-low b) (λ _. high b 65535 3 _ _ (omega arith) (λ l q. costs c m _ _ (λ e e′. refl)))
+  cap-fault (Loop k b c m) = both _ _ 3 _ _ (cap-low (2 ^ 41) b (omega arith)) (λ _. high b 65535 3 _ _ (omega arith) (λ l q. costs c m _ _ (λ e e′. refl)))
   cap-fault (If k c m) = costs c m _ _ (λ e e′. refl)
 
 -- where nothing is at fault nothing was held
 uncapped : (room d L n : ℕ) (hs : List ℕ) (f : Form) → Allowed room d L n hs f → cap-form f ≡ f
-uncapped room d L n hs (Task x y) (a, b, c, e) = rw (cap-same x (omega arith), cap-same y (omega arith))
+uncapped room d L n hs (Task x y) (a, b, c, e) = rw (cap-same (2 ^ 41) x (omega arith), cap-same (2 ^ 41) y (omega arith))
 uncapped room d L n hs Fun a = refl
 uncapped room d L n hs Then a = refl
 uncapped room d L n hs Else a = refl
 uncapped room d L n hs Close a = refl
-uncapped room d L n hs (Leaf k c m) (p, q, r, s, t) = rw (cap-same c (omega arith), cap-same m (omega arith))
-uncapped room d L n hs (Call k f c m) (o, p, q, r, s, t, u) = rw (cap-same f (omega arith), cap-same c (omega arith), cap-same m (omega arith))
-uncapped room d L n hs (Loop k b c m) (v, o, p, q, r, s, t, u) = rw (cap-same b (omega arith), cap-same c (omega arith), cap-same m (omega arith))
-uncapped room d L n hs (If k c m) (p, q, r, s, t, u) = rw (cap-same c (omega arith), cap-same m (omega arith))
+uncapped room d L n hs (Leaf k c m) (p, q, r, s, t) = rw (cap-same (2 ^ 41) c (omega arith), cap-same (2 ^ 41) m (omega arith))
+uncapped room d L n hs (Call k f c m) (o, p, q, r, s, t, u) =
+    rw (cap-same (2 ^ 41) f (omega arith), cap-same (2 ^ 41) c (omega arith), cap-same (2 ^ 41) m (omega arith))
+uncapped room d L n hs (Loop k b c m) (v, o, p, q, r, s, t, u) =
+    rw (cap-same (2 ^ 41) b (omega arith), cap-same (2 ^ 41) c (omega arith), cap-same (2 ^ 41) m (omega arith))
+uncapped room d L n hs (If k c m) (p, q, r, s, t, u) = rw (cap-same (2 ^ 41) c (omega arith), cap-same (2 ^ 41) m (omega arith))
 
 -- where something is, only that matters: which fault, and whether the form may stand there
 verdict : Next → ℕ → Turn

@@ -15,12 +15,13 @@ use Rattle.model.specs.Levels.{height, heights}
 use Rattle.model.specs.Acceptance.{size, sizes}
 use Rattle.reader.specs.Machine.{_⊕_, Around, in-fun, in-loop, in-then, in-else, State, start, task, body, await-then, await-else, await-close, done, brackets-in, brackets, level-in, level, functions-of, stuck, to, closed, with-function, block, next, fault, counted, Turn, turn, onwards, run}
 use Rattle.reader.specs.Outcome.{refused}
-use Rattle.reader.specs.Records.{entry, records, records-all, bounds}
+use Rattle.rows.specs.Records.{entry, records, records-all, bounds}
 use Rattle.reader.proofs.Complete.{closes-task}
 use Rattle.reader.proofs.Appended.{⊕-assoc, ⊕-close, size-⊕, height-⊕, sizes-snoc, heights-snoc}
 use Rattle.reader.proofs.Allowed.{no-fault}
 use Rattle.reader.proofs.Capped.{Held, turn-held}
-use Rattle.reader.proofs.Records.{records-⊕, records-all-snoc, bounds-snoc}
+use Rattle.rows.proofs.Records.{records-all-snoc, bounds-snoc}
+use Rattle.reader.proofs.Records.{records-⊕}
 
 -- ONE LINE, in any state: us are the lines that are left, l is the first of them
 

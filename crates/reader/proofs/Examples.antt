@@ -4,15 +4,15 @@ use mathlib.Core.Path.{_≡_, refl}
 use mathlib.Core.List.{List, [], _∷_, _++_}
 use mathlib.Core.Bool.{Bool, true, false}
 use lib.ListN.{replicate}
-use Rattle.text.specs.Text.{bytes, lines, matched, item, number, digits}
+use Rattle.text.specs.Text.{bytes, lines}
+use Rattle.text.specs.Patterns.{matched, item, number, digits}
 use Rattle.text.specs.Spelling.{decimal, numerals, spell}
 use Rattle.text.specs.Grammar.{line-form}
 use Rattle.model.specs.Worked.{plan-A, plan-B, smallest}
 use Rattle.model.specs.Levels.{height, heights}
 use Rattle.reader.specs.Machine.{_⊕_, outcome, run, fault, brackets-in, brackets, level-in, level, functions-of}
 use Rattle.reader.specs.Outcome.{Outcome, plan, refused}
-use Rattle.model.specs.Acceptance.{size}
-use Rattle.reader.specs.Records.{records, records-all, bounds, row-of, bounds-of, heights-of}
+use Rattle.reader.specs.Records.{heights-of}
 use Rattle.reader.specs.Print.{forms, forms-all, forms-of, join-all, print}
 
 -- A text given n times.
@@ -223,28 +223,11 @@ smallest-in-1 : outcome 1 (bytes "(task 12 3\n(fun\n(leaf s 7 9)\n)\n)\n") ≡ p
 unfolding smallest outcome run fault brackets-in brackets level-in level functions-of heights height _⊕_ line-form lines matched item number digits
 smallest-in-1 = refl
 
--- The records of plans A and B, eight numbers a leaf, with their function bounds and heights.
-row-A : row-of plan-A ≡
-    0 ∷ 1 ∷ 5 ∷ 9 ∷ 0 ∷ 0 ∷ 1 ∷ 1 ∷
-    2 ∷ 1 ∷ 2 ∷ 4 ∷ 3 ∷ 0 ∷ 3 ∷ 1 ∷
-    0 ∷ 0 ∷ 10 ∷ 20 ∷ 0 ∷ 0 ∷ 3 ∷ 2 ∷
-    0 ∷ 0 ∷ 6 ∷ 8 ∷ 0 ∷ 0 ∷ 4 ∷ 1 ∷ []
-unfolding plan-A records-all records size
-row-A = refl
+-- The heights of the functions of plans A and B.
+heights-A : heights-of plan-A ≡ 2 ∷ []
+unfolding plan-A heights height
+heights-A = refl
 
-row-B : row-of plan-B ≡
-    0 ∷ 1 ∷ 3 ∷ 4 ∷ 0 ∷ 0 ∷ 1 ∷ 1 ∷
-    3 ∷ 1 ∷ 2 ∷ 3 ∷ 0 ∷ 3 ∷ 4 ∷ 1 ∷
-    1 ∷ 1 ∷ 1 ∷ 2 ∷ 0 ∷ 0 ∷ 3 ∷ 1 ∷
-    0 ∷ 0 ∷ 9 ∷ 10 ∷ 0 ∷ 0 ∷ 4 ∷ 1 ∷
-    1 ∷ 1 ∷ 1 ∷ 2 ∷ 0 ∷ 0 ∷ 5 ∷ 1 ∷ []
-unfolding plan-B records-all records size
-row-B = refl
-
-beside-A : (bounds-of plan-A ≡ 0 ∷ 4 ∷ []) × (heights-of plan-A ≡ 2 ∷ [])
-unfolding plan-A bounds size heights height
-beside-A = (refl, refl)
-
-beside-B : (bounds-of plan-B ≡ 0 ∷ 1 ∷ 5 ∷ []) × (heights-of plan-B ≡ 1 ∷ 2 ∷ [])
-unfolding plan-B bounds size heights height
-beside-B = (refl, refl)
+heights-B : heights-of plan-B ≡ 1 ∷ 2 ∷ []
+unfolding plan-B heights height
+heights-B = refl

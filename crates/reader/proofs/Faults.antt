@@ -12,7 +12,7 @@ use Rattle.reader.specs.Machine.{unless, of-leaf, fault}
 use Rattle.reader.specs.declared.Block.{Block}
 use Rattle.reader.specs.declared.Step.the-variants.{Stop}
 use Rattle.reader.specs.declared.Head.the-variants.{Not}
-use Rattle.reader.specs.Helpers.{first-of, of-bound, of-open, of-target, judged-step, judged-head}
+use Rattle.reader.specs.Private.{first-of, of-bound, of-open, of-target, judged-step, judged-head}
 
 -- The first of two refusals is the first if there is one.
 pub first-some : (a b : ℕ) → (a ≡ 0 → ⊥) → a ≡ first-of a b

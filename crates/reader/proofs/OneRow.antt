@@ -9,8 +9,8 @@ use Rattle.model.specs.Plan.{Block, Lines, close, leaf-line, call-line, loop-li
 use Rattle.model.specs.Levels.{height}
 use Rattle.model.specs.Acceptance.{size, Numbered, Functions, Formed}
 use Rattle.model.specs.Places.{bit}
-use Rattle.reader.specs.Records.{entry, records, records-all, bounds, row-of, bounds-of}
-use Rattle.reader.proofs.Records.{records-length, bounds-length}
+use Rattle.rows.specs.Records.{entry, records, records-all, bounds, row-of, bounds-of}
+use Rattle.rows.proofs.Records.{records-length, bounds-length}
 
 cons-same : {x y : ℕ} {a b : List ℕ} → x ∷ a ≡ y ∷ b → (x ≡ y) × (a ≡ b)
 cons-same e = (cc, cc)
@@ -37,16 +37,16 @@ block-one : (b c : Block) → b .number ≡ c .number → b .point ≡ c .point 
 block-one b c p q r s = λ j. record { number = p j; point = q j; isolated = r j; max-load = s j }
 
 -- What two records that are the same have in common, and the rows behind them.
-record Alike (kind kind′ : ℕ) (b c : Block) (bound bound′ mid mid′ end end′ : ℕ) (r s : List ℕ) : Type 0 where
+record Alike (kind kind′ : ℕ) (b c : Block) (detail detail′ other other′ after after′ : ℕ) (r s : List ℕ) : Type 0 where
   pub kinds : kind ≡ kind′
   pub blocks : b .number ≡ c .number → b ≡ c
-  pub bounded : bound ≡ bound′
-  pub mids : mid ≡ mid′
-  pub ends : end ≡ end′
+  pub details : detail ≡ detail′
+  pub others : other ≡ other′
+  pub afters : after ≡ after′
   pub behind : r ≡ s
 
-alike : {kind kind′ : ℕ} (b c : Block) {bound bound′ mid mid′ end end′ level level′ : ℕ} {r s : List ℕ} →
-    entry kind b bound mid end level ++ r ≡ entry kind′ c bound′ mid′ end′ level′ ++ s → Alike kind kind′ b c bound bound′ mid mid′ end end′ r s
+alike : {kind kind′ : ℕ} (b c : Block) {detail detail′ other other′ after after′ level level′ : ℕ} {r s : List ℕ} →
+    entry kind b detail other after level ++ r ≡ entry kind′ c detail′ other′ after′ level′ ++ s → Alike kind kind′ b c detail detail′ other other′ after after′ r s
 alike b c e =
     let (k, e₁) = cons-same e in
     let (p, e₂) = cons-same e₁ in
@@ -56,10 +56,10 @@ alike b c e =
     let (y, e₆) = cons-same e₅ in
     let (z, e₇) = cons-same e₆ in
     let (l, e₈) = cons-same e₇ in
-    record { kinds = k; blocks = λ n. block-one b c n (bit-same (b .point) (c .point) p) i m; bounded = x; mids = y; ends = z; behind = e₈ }
+    record { kinds = k; blocks = λ n. block-one b c n (bit-same (b .point) (c .point) p) i m; details = x; others = y; afters = z; behind = e₈ }
 
-never-alike : {A : Type 0} {kind kind′ : ℕ} (b c : Block) {bound bound′ mid mid′ end end′ level level′ : ℕ} {r s : List ℕ} → (kind ≡ kind′ → ⊥) →
-    entry kind b bound mid end level ++ r ≡ entry kind′ c bound′ mid′ end′ level′ ++ s → A
+never-alike : {A : Type 0} {kind kind′ : ℕ} (b c : Block) {detail detail′ other other′ after after′ level level′ : ℕ} {r s : List ℕ} → (kind ≡ kind′ → ⊥) →
+    entry kind b detail other after level ++ r ≡ entry kind′ c detail′ other′ after′ level′ ++ s → A
 never-alike b c h e = absurd (h (alike b c e .kinds))
 
 -- Forms that are numbered from n on are told by their records.
@@ -83,7 +83,7 @@ records-one L (call-line b f rest) (leaf-line c rest′) n u v e = never-alike b
 records-one L (call-line b f rest) (call-line c g rest′) n (p, u) (q, v) e =
     let s = alike b c e in
     let t : rest ≡ rest′ = records-one L rest rest′ (n + 1) u v (s .behind) in
-    λ j. call-line (s .blocks (p ∙ sym q) j) (s .bounded j) (t j)
+    λ j. call-line (s .blocks (p ∙ sym q) j) (s .details j) (t j)
 records-one L (call-line b f rest) (loop-line c k body′ rest′) n u v e = never-alike b c (λ q. omega arith) e
 records-one L (call-line b f rest) (if-line c then′ else′ rest′) n u v e = never-alike b c (λ q. omega arith) e
 records-one L (loop-line b m body rest) close n u v e = never-cons (sym e)
@@ -91,11 +91,11 @@ records-one L (loop-line b m body rest) (leaf-line c rest′) n u v e = never-al
 records-one L (loop-line b m body rest) (call-line c g rest′) n u v e = never-alike b c (λ q. omega arith) e
 records-one L (loop-line b m body rest) (loop-line c k body′ rest′) n (p, u₁, u₂) (q, v₁, v₂) e =
     let s = alike b c e in
-    let w : n + 1 + size body ≡ n + 1 + size body′ = s .ends in
+    let w : n + 1 + size body ≡ n + 1 + size body′ = s .afters in
     let (f, g) = append-same (records (L + 1) body (n + 1)) _ (records (L + 1) body′ (n + 1)) _ (omega (arith, records-length (L + 1) body (n + 1), records-length (L + 1) body′ (n + 1))) (s .behind) in
     let d : body ≡ body′ = records-one (L + 1) body body′ (n + 1) u₁ v₁ f in
     let t : rest ≡ rest′ = records-one L rest rest′ (n + 1 + size body) u₂ (subst (λ x. Numbered x rest′) (sym w) v₂) (g ∙ ap (records L rest′) (sym w)) in
-    λ j. loop-line (s .blocks (p ∙ sym q) j) (s .bounded j) (d j) (t j)
+    λ j. loop-line (s .blocks (p ∙ sym q) j) (s .details j) (d j) (t j)
 records-one L (loop-line b m body rest) (if-line c then′ else′ rest′) n u v e = never-alike b c (λ q. omega arith) e
 records-one L (if-line b then else rest) close n u v e = never-cons (sym e)
 records-one L (if-line b then else rest) (leaf-line c rest′) n u v e = never-alike b c (λ q. omega arith) e
@@ -103,8 +103,8 @@ records-one L (if-line b then else rest) (call-line c g rest′) n u v e = never
 records-one L (if-line b then else rest) (loop-line c k body′ rest′) n u v e = never-alike b c (λ q. omega arith) e
 records-one L (if-line b then else rest) (if-line c then′ else′ rest′) n (p, u₁, u₂, u₃) (q, v₁, v₂, v₃) e =
     let s = alike b c e in
-    let w : n + 1 + size then ≡ n + 1 + size then′ = s .mids in
-    let z : n + 1 + size then + size else ≡ n + 1 + size then′ + size else′ = s .ends in
+    let w : n + 1 + size then ≡ n + 1 + size then′ = s .others in
+    let z : n + 1 + size then + size else ≡ n + 1 + size then′ + size else′ = s .afters in
     let (f, g) = append-same (records L then (n + 1)) _ (records L then′ (n + 1)) _ (omega (arith, records-length L then (n + 1), records-length L then′ (n + 1))) (s .behind) in
     let (h, i) = append-same (records L else (n + 1 + size then)) _ (records L else′ (n + 1 + size then′)) _
     (omega (arith, records-length L else (n + 1 + size then), records-length L else′ (n + 1 + size then′))) g in

@@ -1,44 +1,15 @@
--- The records of a plan: how many there are, how they grow form by form and function by function, and that record number i is that of leaf number i.
+-- The records of a plan: how they grow form by form, and that record number i is that of leaf number i.
 use Prim.Native.Nat.{ℕ, zero, suc, _+_, _*_, _<_}
 use mathlib.Core.Path.{_≡_, refl, sym, ap, _∙_, subst}
-use mathlib.Core.List.{List, [], _∷_, _++_, append-assoc, append-nil}
+use mathlib.Core.List.{List, [], _∷_, _++_, append-assoc}
 use native.Mathlib.Omega.{arith}
 use lib.ListN.{length, getD, length-append}
 use Rattle.model.specs.Plan.{Block, Lines, close, leaf-line, call-line, loop-line, if-line, Plan}
 use Rattle.model.specs.Levels.{Leveled, own-levels, height}
 use Rattle.model.specs.Acceptance.{size, sizes, Numbered, Functions, Formed}
 use Rattle.reader.specs.Machine.{_⊕_, block}
-use Rattle.reader.specs.Records.{entry, records, records-all, bounds, row-of, leveled-leaves, Shows, no-leaf}
-
--- HOW MANY
-
--- Eight numbers for each leaf.
-pub records-length : (L : ℕ) (l : Lines) (n : ℕ) → length (records L l n) ≡ 8 * size l
-unfolding records size
-records-length L close n = refl
-records-length L (leaf-line b rest) n = omega (arith, records-length L rest (n + 1))
-records-length L (call-line b f rest) n = omega (arith, records-length L rest (n + 1))
-records-length L (loop-line b m body rest) n =
-    rw (length-append (records (L + 1) body (n + 1)) (records L rest (n + 1 + size body)))
-    (omega (arith, records-length (L + 1) body (n + 1), records-length L rest (n + 1 + size body)))
-records-length L (if-line b then else rest) n =
-    rw (
-      length-append (records L then (n + 1)) (records L else (n + 1 + size then) ++ records L rest (n + 1 + size then + size else)),
-      length-append (records L else (n + 1 + size then)) (records L rest (n + 1 + size then + size else)),
-    )
-    (omega (arith, records-length L then (n + 1), records-length L else (n + 1 + size then), records-length L rest (n + 1 + size then + size else)))
-
-pub records-all-length : (n : ℕ) (ls : List Lines) → length (records-all n ls) ≡ 8 * sizes ls
-unfolding records-all sizes
-records-all-length n [] = refl
-records-all-length n (l ∷ ls) =
-    rw (length-append (records 1 l n) (records-all (n + size l) ls)) (omega (arith, records-length 1 l n, records-all-length (n + size l) ls))
-
--- One bound for each function, and one for the end.
-pub bounds-length : (n : ℕ) (ls : List Lines) → length (bounds n ls) ≡ length ls + 1
-unfolding bounds
-bounds-length n [] = refl
-bounds-length n (l ∷ ls) = omega (arith, bounds-length (n + size l) ls)
+use Rattle.rows.specs.Records.{entry, records, records-all, row-of}
+use Rattle.reader.specs.Records.{leveled-leaves, Shows, no-leaf}
 
 -- HOW THEY GROW
 
@@ -56,35 +27,17 @@ records-⊕ L (if-line b then else rest) y n m e =
     ap (λ r. entry 3 b 0 (n + 1 + size then) (n + 1 + size then + size else) L ++ r)
     (ap (λ r. records L then (n + 1) ++ (records L else (n + 1 + size then) ++ r)) (records-⊕ L rest y (n + 1 + size then + size else) m (omega arith)) ∙ simp append-assoc)
 
--- One function more.
-pub records-all-snoc : (n : ℕ) (ls : List Lines) (l : Lines) (m : ℕ) → m ≡ n + sizes ls → records-all n (ls ++ (l ∷ [])) ≡ records-all n ls ++ records 1 l m
-unfolding records-all sizes
-records-all-snoc n [] l m e = append-nil (records 1 l n) ∙ ap (records 1 l) (omega arith)
-records-all-snoc n (k ∷ ls) l m e =
-    ap (λ r. records 1 k n ++ r) (records-all-snoc (n + size k) ls l m (omega arith)) ∙ sym (append-assoc (records 1 k n) (records-all (n + size k) ls) (records 1 l m))
-
-pub bounds-snoc : (n : ℕ) (ls : List Lines) (l : Lines) (m : ℕ) → m ≡ n + sizes ls + size l → bounds n (ls ++ (l ∷ [])) ≡ bounds n ls ++ (m ∷ [])
-unfolding bounds sizes
-bounds-snoc n [] l m e = ap (λ x. n ∷ x ∷ []) (omega arith)
-bounds-snoc n (k ∷ ls) l m e = ap (λ r. n ∷ r) (bounds-snoc (n + size k) ls l m (omega arith))
-
--- The last bound is the number of leaves.
-pub bounds-last : (n : ℕ) (ls : List Lines) → getD (bounds n ls) (length ls) 0 ≡ n + sizes ls
-unfolding bounds sizes
-bounds-last n [] = omega arith
-bounds-last n (l ∷ ls) = omega (arith, bounds-last (n + size l) ls)
-
 -- WHICH LEAF
 
 -- The numbers begin with the record of a leaf at its level, and so on: so many records are there as leaves.
 unfoldable Shown : List ℕ → List Leveled → Type 0
 Shown r [] = r ≡ []
-Shown r (v ∷ vs) = (kind bound mid end : ℕ) × (s : List ℕ) × (r ≡ entry kind (v .block) bound mid end (v .level) ++ s) × Shown s vs
+Shown r (v ∷ vs) = (kind detail other after : ℕ) × (s : List ℕ) × (r ≡ entry kind (v .block) detail other after (v .level) ++ s) × Shown s vs
 
 shown-append : (r s : List ℕ) (v w : List Leveled) → Shown r v → Shown s w → Shown (r ++ s) (v ++ w)
 unfolding Shown
 shown-append r s [] w a b = rw a b
-shown-append r s (x ∷ v) w (kind, bound, mid, end, t, e, a) b = (kind, bound, mid, end, t ++ s, rw e, shown-append t s v w a b)
+shown-append r s (x ∷ v) w (kind, detail, other, after, t, e, a) b = (kind, detail, other, after, t ++ s, rw e, shown-append t s v w a b)
 
 shown-records : (L : ℕ) (l : Lines) (n : ℕ) → Shown (records L l n) (own-levels L l)
 unfolding Shown records own-levels
@@ -120,22 +73,22 @@ unfolding records-all leveled-leaves
 shown-all n [] = unfold Shown in refl
 shown-all n (l ∷ ls) = shown-append (records 1 l n) (records-all (n + size l) ls) (own-levels 1 l) (leveled-leaves ls) (shown-records 1 l n) (shown-all (n + size l) ls)
 
-further : (kind : ℕ) (b : Block) (bound mid end level : ℕ) (s : List ℕ) (i j : ℕ) → getD (entry kind b bound mid end level ++ s) (8 * suc i + j) 0 ≡ getD s (8 * i + j) 0
-further kind b bound mid end level s i j =
-    let e : 8 * suc i + j ≡ suc (suc (suc (suc (suc (suc (suc (suc (8 * i + j)))))))) = omega arith in
+further : (kind : ℕ) (b : Block) (detail other after level : ℕ) (s : List ℕ) (i j : ℕ) → getD (entry kind b detail other after level ++ s) (suc i * 8 + j) 0 ≡ getD s (i * 8 + j) 0
+further kind b detail other after level s i j =
+    let e : suc i * 8 + j ≡ suc (suc (suc (suc (suc (suc (suc (suc (i * 8 + j)))))))) = omega arith in
     rw e
 
 shows-at : (r : List ℕ) (vs : List Leveled) (i : ℕ) → Shown r vs → i < length vs → Shows r i (getD vs i no-leaf)
 unfolding Shown
 shows-at r [] i a h = absurd (omega arith)
-shows-at r (v ∷ vs) zero (kind, bound, mid, end, s, e, a) h = rw e (record { point = refl; isolated = refl; max-load = refl; level = refl })
-shows-at r (v ∷ vs) (suc i) (kind, bound, mid, end, s, e, a) h =
+shows-at r (v ∷ vs) zero (kind, detail, other, after, s, e, a) h = rw e (record { point = refl; isolated = refl; max-load = refl; level = refl })
+shows-at r (v ∷ vs) (suc i) (kind, detail, other, after, s, e, a) h =
     let t : Shows s i (getD vs i no-leaf) = shows-at s vs i a (omega arith) in
     rw e (record {
-      point = further kind (v .block) bound mid end (v .level) s i 1 ∙ t .point;
-      isolated = further kind (v .block) bound mid end (v .level) s i 2 ∙ t .isolated;
-      max-load = further kind (v .block) bound mid end (v .level) s i 3 ∙ t .max-load;
-      level = further kind (v .block) bound mid end (v .level) s i 7 ∙ t .level;
+      point = further kind (v .block) detail other after (v .level) s i 1 ∙ t .point;
+      isolated = further kind (v .block) detail other after (v .level) s i 2 ∙ t .isolated;
+      max-load = further kind (v .block) detail other after (v .level) s i 3 ∙ t .max-load;
+      level = further kind (v .block) detail other after (v .level) s i 7 ∙ t .level;
     })
 
 -- The leaves have the numbers from n on, one after the other.

@@ -7,7 +7,8 @@ use mathlib.Core.Bool.{Bool, true, false}
 use native.Mathlib.Omega.{arith}
 use lib.ListN.{length, length-append}
 use lib.Dec.{leb}
-use Rattle.text.specs.Text.{pick, lines}
+use Rattle.text.specs.Text.{lines}
+use Rattle.model.specs.Places.{pick}
 use Rattle.text.specs.declared.Form.{Form}
 use Rattle.text.specs.Grammar.{Line, no-form, form, line-form}
 use Rattle.model.specs.Plan.{Block, Lines, close, leaf-line, call-line, loop-line, if-line, Plan}

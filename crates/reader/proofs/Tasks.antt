@@ -14,9 +14,8 @@ use Rattle.text.specs.declared.Form.{Form}
 use Rattle.text.specs.declared.Form.the-variants.{Task, Fun, Then, Else, Close, Leaf, Call, Loop, If}
 use Rattle.text.specs.declared.Read.{Read}
 use Rattle.text.specs.declared.Read.the-variants.{Unread, Line}
-use Rattle.text.specs.Text.{lines}
-use Rattle.text.specs.Grammar.{no-form, line-form}
-use Rattle.text.specs.Positions.{line-at, read-at, Found, Means}
+use Rattle.text.specs.Text.{lines, line-at}
+use Rattle.text.specs.Grammar.{no-form, line-form, read-at, Found, Means}
 use Rattle.text.proofs.Theorems.{read-means, lines-found, lines-at, lines-end}
 use Rattle.reader.specs.declared.Answer.{Answer}
 use Rattle.reader.specs.declared.Answer.the-variants.{Accepted, Refused}
@@ -27,12 +26,12 @@ use Rattle.reader.specs.declared.Head.{Head}
 use Rattle.reader.specs.declared.Head.the-variants.{Not, Opens}
 use Rattle.reader.specs.Machine.{start, task, done, brackets, level, functions-of, stuck, in-task, closed-task, with-function, fault, run, outcome}
 use Rattle.reader.specs.Outcome.{Outcome, plan, refused}
-use Rattle.reader.specs.Records.{records, bounds, row-of}
-use Rattle.reader.specs.Raw.{padded, refused-raw, accepted-raw, raw-of, row-after}
-use Rattle.reader.specs.Helpers.{of-task, member-of, judged-head, head-of, ended-raw, Halted, FormsDone, Written, TextAt}
+use Rattle.rows.specs.Records.{records, row-of}
+use Rattle.reader.specs.Raw.{padded, refused-raw, accepted-raw, raw-of, row-after, Written}
+use Rattle.reader.specs.Private.{of-task, member-of, judged-head, head-of, ended-raw, Halted, FormsDone, TextAt}
 use Rattle.reader.proofs.Allowed.{no-fault}
 use Rattle.reader.proofs.Capped.{Held, found-held}
-use Rattle.reader.proofs.Records.{records-all-length, bounds-length}
+use Rattle.rows.proofs.Records.{records-all-length, bounds-length}
 use Rattle.reader.proofs.Contract.{broken, misplaced, no-line, Reading, reading-start, reading-fun, reading-end}
 use Rattle.reader.proofs.Halts.{start-end, task-end, task-unread, task-misplaced, task-full, task-fun, done-end, done-on, outcome-oversize, outcome-lines}
 use Rattle.reader.proofs.Stores.{sets-behind}
@@ -74,21 +73,6 @@ text-refused {R₀ = R₀} {R} k j e q = record { answers = q ∙ ap raw-of (sym
 -- A plan is answered by its numbers.
 text-plan : {s : List ℕ} {room : ℕ} {R₀ R : List ℕ} {r : Raw} (p : Plan) → run room start 0 1 (lines s) ≡ plan p → r ≡ raw-of (plan p) → R ≡ sets R₀ 0 (row-of p) → TextAt s room R₀ R r
 text-plan {R₀ = R₀} {R} p e q f = record { answers = q ∙ ap raw-of (sym e); writes = subst (λ o. Written o R₀ R) (sym e) f }
-
--- 1 for accepted, 0 for refused.
-abbrev accepts : Answer → ℕ
-accepts Accepted = 1
-accepts (Refused k j) = 0
-
--- The row of an accepted text is the one that was written.
-row-accepted : (o : Outcome) (R₀ R : List ℕ) {r : Raw} → r ≡ raw-of o → r .answer ≡ Accepted → Written o R₀ R → R ≡ row-after o R₀
-row-accepted (plan p) R₀ R e a w = w
-row-accepted (refused k j) R₀ R e a w = let q : _≡_ {A = ℕ} 1 0 = sym (ap accepts a) ∙ ap (λ x. accepts (x .answer)) e in absurd (omega arith)
-
--- The row of a refused text is the one that was lent.
-row-refused : (o : Outcome) (R₀ : List ℕ) {r : Raw} {k j : ℕ} → r ≡ raw-of o → r .answer ≡ Refused k j → R₀ ≡ row-after o R₀
-row-refused (plan p) R₀ e a = let q : _≡_ {A = ℕ} 0 1 = sym (ap accepts a) ∙ ap (λ x. accepts (x .answer)) e in absurd (omega arith)
-row-refused (refused k j) R₀ e a = refl
 
 -- THE FIRST LINE
 
@@ -289,17 +273,27 @@ module _ {s : List ℕ} {room D t : ℕ} {R₀ : List ℕ} {at i n own : ℕ} {b
 -- THE WHOLE TEXT
 
 -- A text over 65,536 bytes is oversize.
-pub raw-oversize : (row : ℕ) (s R : List ℕ) {r : Raw} → 65536 < length s → r ≡ refused-raw 1 0 → (r ≡ raw-of (outcome row s)) × (R ≡ row-after (outcome row s) R)
-raw-oversize row s R h q = (q ∙ ap raw-of (sym (outcome-oversize row s h)), ap (λ o. row-after o R) (sym (outcome-oversize row s h)))
+pub raw-oversize : (row : ℕ) (s R₀ R : List ℕ) {r : Raw} → 65536 < length s → r ≡ refused-raw 1 0 → (r ≡ raw-of (outcome row s)) × Written (outcome row s) R₀ R
+raw-oversize row s R₀ R h q = (q ∙ ap raw-of (sym (outcome-oversize row s h)), subst (λ o. Written o R₀ R) (sym (outcome-oversize row s h)) tt)
 
-module _ (row : ℕ) (s R₀ R : List ℕ) {room : ℕ} {r : Raw} (h : length s ≤ 65536) (e : room ≡ min 512 row) (w : TextAt s room R₀ R r) where
-  lines-outcome : run room start 0 1 (lines s) ≡ outcome row s
-  lines-outcome = ap (λ x. run x start 0 1 (lines s)) e ∙ sym (outcome-lines row s h)
+-- Any other text is what the machine makes of its lines.
+pub raw-lines : (row : ℕ) (s R₀ R : List ℕ) {room : ℕ} {r : Raw} → length s ≤ 65536 → room ≡ min 512 row → TextAt s room R₀ R r →
+    (r ≡ raw-of (outcome row s)) × Written (outcome row s) R₀ R
+raw-lines row s R₀ R h e w =
+    let lines-outcome = ap (λ x. run x start 0 1 (lines s)) e ∙ sym (outcome-lines row s h) in
+    (w .answers ∙ ap raw-of lines-outcome, subst (λ o. Written o R₀ R) lines-outcome (w .writes))
 
-  -- An accepted text.
-  pub raw-accepted : r .answer ≡ Accepted → (r ≡ raw-of (outcome row s)) × (R ≡ row-after (outcome row s) R₀)
-  raw-accepted a = (w .answers ∙ ap raw-of lines-outcome, row-accepted (run room start 0 1 (lines s)) R₀ R (w .answers) a (w .writes) ∙ ap (λ o. row-after o R₀) lines-outcome)
+-- 1 for accepted, 0 for refused.
+abbrev accepts : Answer → ℕ
+accepts Accepted = 1
+accepts (Refused k j) = 0
 
-  -- A refused text.
-  pub raw-refused : {k j : ℕ} → r .answer ≡ Refused k j → (r ≡ raw-of (outcome row s)) × (R₀ ≡ row-after (outcome row s) R₀)
-  raw-refused a = (w .answers ∙ ap raw-of lines-outcome, row-refused (run room start 0 1 (lines s)) R₀ (w .answers) a ∙ ap (λ o. row-after o R₀) lines-outcome)
+-- The row of an accepted text is the one that was written.
+pub row-accepted : (o : Outcome) (R₀ R : List ℕ) {r : Raw} → r ≡ raw-of o → r .answer ≡ Accepted → Written o R₀ R → R ≡ row-after o R₀
+row-accepted (plan p) R₀ R e a w = w
+row-accepted (refused k j) R₀ R e a w = let q : _≡_ {A = ℕ} 1 0 = sym (ap accepts a) ∙ ap (λ x. accepts (x .answer)) e in absurd (omega arith)
+
+-- The row of a refused text is the one that was lent.
+pub row-refused : (o : Outcome) (R₀ : List ℕ) {r : Raw} {k j : ℕ} → r ≡ raw-of o → r .answer ≡ Refused k j → R₀ ≡ row-after o R₀
+row-refused (plan p) R₀ e a = let q : _≡_ {A = ℕ} 0 1 = sym (ap accepts a) ∙ ap (λ x. accepts (x .answer)) e in absurd (omega arith)
+row-refused (refused k j) R₀ e a = refl

@@ -11,10 +11,12 @@ use Rattle.model.specs.Acceptance.{sizes, Formed, Fits}
 use Rattle.reader.specs.Machine.{outcome}
 use Rattle.reader.specs.Outcome.{plan, refused}
 use Rattle.reader.specs.Print.{print}
-use Rattle.reader.specs.Records.{row-of, bounds-of, leveled-leaves, Shows, no-leaf}
+use Rattle.rows.specs.Records.{row-of, bounds-of}
+use Rattle.reader.specs.Records.{leveled-leaves, Shows, no-leaf}
 use Rattle.reader.proofs.Length as lengths
 use Rattle.reader.proofs.Complete as completeness
 use Rattle.reader.proofs.Sound as soundness
+use Rattle.rows.proofs.Records as counts
 use Rattle.reader.proofs.Records as rows
 use Rattle.reader.proofs.OneRow as one-row
 
@@ -53,7 +55,7 @@ refused-none row text k j e p w fit q =
 
 -- The row of a plan has eight numbers for each leaf.
 pub row-length : (p : Plan) → length (row-of p) ≡ 8 * sizes (p .functions)
-row-length p = rows.records-all-length 0 (p .functions)
+row-length p = counts.records-all-length 0 (p .functions)
 
 -- Leaf number i of a plan stands at position i among its leaves, and record number i of the row is its own.
 pub row-leaf : (p : Plan) → Formed p → (i : ℕ) → i < sizes (p .functions) →

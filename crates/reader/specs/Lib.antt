@@ -3,4 +3,4 @@ pub mod Machine
 pub mod Print
 pub mod Records
 pub mod Raw
-pub mod Helpers
+pub mod Private

@@ -10,7 +10,8 @@ use Rattle.model.specs.Plan.{Block, Lines, close, leaf-line, call-line, loop-li
 use Rattle.model.specs.Levels.{heights}
 use Rattle.text.specs.declared.Form.{Form}
 use Rattle.text.specs.declared.Form.the-variants.{Task, Fun, Then, Else, Close, Leaf, Call, Loop, If}
-use Rattle.text.specs.Text.{pick, lines}
+use Rattle.model.specs.Places.{pick}
+use Rattle.text.specs.Text.{lines}
 use Rattle.text.specs.Grammar.{Line, no-form, form, line-form}
 use Rattle.reader.specs.Outcome.{Outcome, plan, refused}
 

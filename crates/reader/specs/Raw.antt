@@ -1,14 +1,16 @@
--- What `read_raw` answers, and what it leaves in the lent row, from what the reader is to make of the text.
+-- What `read_raw` and `read_lines` answer, and what they leave in the lent row, from what the reader is to make of the text.
 -- Assumes nothing: these are definitions.
 use Prim.Native.Nat.{ℕ, zero, suc}
 use mathlib.Core.List.{List, [], _∷_}
+use mathlib.Core.Path.{_≡_}
 use lib.ListN.{length}
 use lib.Seq.{sets}
 use Rattle.model.specs.Acceptance.{sizes}
 use Rattle.reader.specs.declared.Answer.the-variants.{Accepted, Refused}
 use Rattle.reader.specs.declared.Raw.{Raw}
 use Rattle.reader.specs.Outcome.{Outcome, plan, refused}
-use Rattle.reader.specs.Records.{row-of, bounds-of, heights-of}
+use Rattle.rows.specs.Records.{row-of, bounds-of}
+use Rattle.reader.specs.Records.{heights-of}
 
 -- The first so many numbers of a list, filled up with 0.
 abbrev pub padded : ℕ → List ℕ → List ℕ
@@ -33,3 +35,8 @@ raw-of (plan p) = accepted-raw (p .deadline) (p .switch) (sizes (p .functions)) 
 abbrev pub row-after : Outcome → List ℕ → List ℕ
 row-after (refused k j) row = row
 row-after (plan p) row = sets row 0 (row-of p)
+
+-- The same of a row R₀ that becomes R, but of a refused text nothing is said.
+abbrev pub Written : Outcome → List ℕ → List ℕ → Type 0
+Written (refused k j) R₀ R = Unit
+Written (plan p) R₀ R = R ≡ sets R₀ 0 (row-of p)

@@ -1,16 +1,40 @@
 // The plan reader: makes of a text a plan's records in a lent row, or refuses it by one of 1 to 7 (document 01, 'A plan, one form a line').
 ghost use mathlib.Core.Path.{_≡_};
 ghost use mathlib.Core.List.{[], _∷_};
-ghost use Prim.Native.Nat.{_+_, _*_, _<_, _≤_, max, min};
+ghost use Prim.Native.Nat.{_+_, _*_, _<_, _≤_, min};
 ghost use lib.ListN.{length, take};
 ghost use lib.Seq.{sets};
 ghost use lib.Dec.{leb};
-ghost use Rattle.text.specs.Positions.{read-at, Found};
+ghost use Rattle.text.specs.Grammar.{read-at, Found};
 ghost use Rattle.reader.specs.Machine.{tag-of, fault, of-leaf, unless, outcome};
 ghost use Rattle.model.specs.Places.{bit};
 ghost use Rattle.text.specs.declared.Form.the-variants.{Task, If};
-ghost use Rattle.reader.specs.Raw.{refused-raw, accepted-raw, raw-of, row-after};
-ghost use Rattle.reader.specs.Helpers.{first-of, of-bound, of-open, of-target, form-of, judged-step, step-of, sign-of, member-of, of-task, head-of, ended-raw, FormsAt, FormAt, TextAt};
+ghost use Rattle.reader.specs.Raw.{refused-raw, accepted-raw, raw-of, row-after, Written};
+ghost use Rattle.reader.specs.Private.{first-of, of-bound, of-open, of-target, form-of, judged-step, step-of, sign-of, member-of, of-task, head-of, ended-raw, FormsAt, FormAt, TextAt};
+use rows::AFTER;
+use rows::BOUNDS;
+use rows::CALL;
+use rows::DETAIL;
+use rows::IF;
+use rows::ISOLATED;
+use rows::KIND;
+use rows::LEAF;
+use rows::LEVEL;
+use rows::LIMIT;
+use rows::LOOP;
+use rows::MAX_BRACKETS;
+use rows::MAX_COST;
+use rows::MAX_FUNCTIONS;
+use rows::MAX_LEAVES;
+use rows::MAX_LEVEL;
+use rows::MAX_LOAD;
+use rows::MAX_LOOP_BOUND;
+use rows::MAX_SWITCH;
+use rows::OTHER;
+use rows::POINT;
+use rows::ROW;
+use rows::STRIDE;
+use rows::larger;
 use text::Form;
 use text::Read;
 use text::line;
@@ -29,8 +53,8 @@ pub struct Raw {
     pub switch: u64,
     pub leaves: usize,
     pub functions: usize,
-    pub bounds: [u64; 17],
-    pub heights: [u64; 16],
+    pub bounds: [u64; BOUNDS],
+    pub heights: [u64; MAX_FUNCTIONS],
 }
 
 // A line that is a leaf of the plan, with its K, its F or B, and its C and M.
@@ -73,30 +97,11 @@ enum Inside {
     Closed(usize, usize, usize, u64),
 }
 
-// The most bytes of a text, leaves, functions, open brackets and levels.
+// The most bytes of a text.
 const MAX_TEXT: usize = 65536;
 
-const MAX_LEAVES: usize = 512;
-
-const MAX_FUNCTIONS: usize = 16;
-
-const MAX_BRACKETS: usize = 64;
-
-const MAX_LEVEL: u64 = 32;
-
-// The greatest numbers of a line: C and M, B, F, D, T.
-const MAX_COST: u64 = 1 << 20;
-
-const MAX_BOUND: u64 = 65535;
-
-const MAX_TARGET: u64 = 15;
-
-const MAX_DEADLINE: u64 = 1 << 40;
-
-const MAX_SWITCH: u64 = 1 << 20;
-
-// How many numbers a record has.
-const FIELDS: usize = 8;
+// The greatest number that a call may name.
+const MAX_TARGET: u64 = MAX_FUNCTIONS as u64 - 1;
 
 // The refusals.
 const OVERSIZE: u64 = 1;
@@ -112,15 +117,6 @@ const LOAD: u64 = 5;
 const TARGET: u64 = 6;
 
 const DEPTH: u64 = 7;
-
-// The kinds of records.
-const LEAF: u64 = 0;
-
-const CALL: u64 = 1;
-
-const LOOP: u64 = 2;
-
-const IF: u64 = 3;
 
 // The lines without numbers that must come at their places.
 const THEN: u64 = 2;
@@ -176,7 +172,7 @@ fn bound_fault(b: u64) -> u64
     if b < 1 {
         return RANGE;
     }
-    if b <= MAX_BOUND { 0 } else { RANGE }
+    if b <= MAX_LOOP_BOUND { 0 } else { RANGE }
 }
 
 // Tests the range of a call's target.
@@ -187,7 +183,7 @@ fn range_fault(f: u64) -> u64
 }
 
 // Tests that a call's target stands before its own function, and the levels of what it calls.
-fn target_fault(f: u64, level: u64, tall: &[u64; 16], own: usize) -> u64
+fn target_fault(f: u64, level: u64, tall: &[u64; MAX_FUNCTIONS], own: usize) -> u64
     requires { ⌜ (own ≤ 16) × (own ≤ length (now tall)) ⌝ }
     ensures { λ r. ⌜ r ≡ of-target level (take own (now (tall .entry))) f ⌝ }
 {
@@ -208,7 +204,7 @@ fn target_fault(f: u64, level: u64, tall: &[u64; 16], own: usize) -> u64
 // Finds the first of the refusals 3 to 7 that a leaf of a body meets, or 0.
 fn block_fault(
     b: Block,
-    tall: &[u64; 16],
+    tall: &[u64; MAX_FUNCTIONS],
     own: usize,
     room: usize,
     d: usize,
@@ -239,7 +235,7 @@ fn block_fault(
 fn judged(
     b: Block,
     e: usize,
-    tall: &[u64; 16],
+    tall: &[u64; MAX_FUNCTIONS],
     own: usize,
     room: usize,
     d: usize,
@@ -261,7 +257,7 @@ fn judged(
 fn one_line(
     text: &[u8],
     at: usize,
-    tall: &[u64; 16],
+    tall: &[u64; MAX_FUNCTIONS],
     own: usize,
     room: usize,
     d: usize,
@@ -345,45 +341,38 @@ fn point_mark(k: bool) -> u64
     if k { 1 } else { 0 }
 }
 
-// Gives the larger of two numbers.
-fn larger(a: u64, b: u64) -> u64
-    ensures { λ r. ⌜ r ≡ max a b ⌝ }
-{
-    if a < b { b } else { a }
-}
-
 // Writes the record of leaf number n.
 fn put(
-    row: &mut [u64; 4096],
+    row: &mut [u64; ROW],
     n: usize,
     kind: u64,
     k: bool,
     c: u64,
     m: u64,
-    bound: u64,
-    mid: usize,
-    end: usize,
+    detail: u64,
+    other: usize,
+    after: usize,
     level: u64,
 )
     requires { ⌜ n < 512 ⌝ }
-    ensures { λ _. ⌜ now (row .exit) ≡ sets (now (row .entry)) (8 * n) (kind ∷ bit k ∷ c ∷ m ∷ bound ∷ mid ∷ end ∷ level ∷ []) ⌝ }
+    ensures { λ _. ⌜ now (row .exit) ≡ sets (now (row .entry)) (8 * n) (kind ∷ bit k ∷ c ∷ m ∷ detail ∷ other ∷ after ∷ level ∷ []) ⌝ }
 {
-    let at = FIELDS * n;
-    row[at] = kind;
-    row[at + 1] = point_mark(k);
-    row[at + 2] = c;
-    row[at + 3] = m;
-    row[at + 4] = bound;
-    row[at + 5] = mid as u64;
-    row[at + 6] = end as u64;
-    row[at + 7] = level;
+    let at = STRIDE * n;
+    row[at + KIND] = kind;
+    row[at + POINT] = point_mark(k);
+    row[at + ISOLATED] = c;
+    row[at + MAX_LOAD] = m;
+    row[at + DETAIL] = detail;
+    row[at + OTHER] = other as u64;
+    row[at + AFTER] = after as u64;
+    row[at + LEVEL] = level;
 }
 
 // Reads the forms of a body from the place `from` and the line `first` on, up to the bracket that closes it, and writes their records. The functions before,
 // `own` of them, have the heights `tall`, the row has room for so many leaves, d brackets are open, the forms have this level, and `count` leaves were read.
 fn forms(
     text: &[u8],
-    tall: &[u64; 16],
+    tall: &[u64; MAX_FUNCTIONS],
     own: usize,
     room: usize,
     d: usize,
@@ -391,7 +380,7 @@ fn forms(
     from: usize,
     first: usize,
     count: usize,
-    row: &mut [u64; 4096],
+    row: &mut [u64; ROW],
 ) -> Inside
     requires { ⌜ (own ≤ 16) × (own ≤ length (now tall)) × (room ≤ 512) × (from ≤ length (now text)) × (first ≤ from + 1) × (count ≤ room) ⌝ }
     ensures { λ r. ⌜ FormsAt (now (text .entry)) room (take own (now (tall .entry))) d level from first count (now (row .entry)) (now (row .exit)) r ⌝ }
@@ -423,7 +412,7 @@ fn forms(
 // Reads the form of the leaf b, number n, whose line has the number i and ends before `at`, and writes its records.
 fn one_form(
     text: &[u8],
-    tall: &[u64; 16],
+    tall: &[u64; MAX_FUNCTIONS],
     own: usize,
     room: usize,
     d: usize,
@@ -432,7 +421,7 @@ fn one_form(
     at: usize,
     i: usize,
     n: usize,
-    row: &mut [u64; 4096],
+    row: &mut [u64; ROW],
 ) -> Inside
     requires { ⌜ (own ≤ 16) × (own ≤ length (now tall)) × (room ≤ 512) × (at ≤ length (now text)) × (i ≤ at) × (fault room d level n (take own (now tall)) (form-of b) ≡ 0) ⌝ }
     ensures { λ r. ⌜ FormAt (now (text .entry)) room (take own (now (tall .entry))) d level at i n (form-of b) (now (row .entry)) (now (row .exit)) r ⌝ }
@@ -464,7 +453,7 @@ fn one_form(
 // that closes the if. Writes the records.
 fn if_form(
     text: &[u8],
-    tall: &[u64; 16],
+    tall: &[u64; MAX_FUNCTIONS],
     own: usize,
     room: usize,
     d: usize,
@@ -475,7 +464,7 @@ fn if_form(
     at: usize,
     i: usize,
     n: usize,
-    row: &mut [u64; 4096],
+    row: &mut [u64; ROW],
 ) -> Inside
     requires { ⌜ (own ≤ 16) × (own ≤ length (now tall)) × (room ≤ 512) × (at ≤ length (now text)) × (i ≤ at) × (fault room d level n (take own (now tall)) (If k c m) ≡ 0) ⌝ }
     ensures { λ r. ⌜ FormAt (now (text .entry)) room (take own (now (tall .entry))) d level at i n (If k c m) (now (row .entry)) (now (row .exit)) r ⌝ }
@@ -488,29 +477,29 @@ fn if_form(
         return Inside::Stopped(DEPTH, next);
     }
     let then = forms(text, tall, own, room, d + 2, level, a, next + 1, n + 1, row);
-    let Inside::Closed(b, j, mid, low) = then else {
+    let Inside::Closed(b, j, other, low) = then else {
         return then;
     };
     let Sign::On(e) = awaited(text, b, ELSE) else {
         return Inside::Stopped(FORM, j);
     };
-    let other = forms(text, tall, own, room, d + 2, level, e, j + 1, mid, row);
-    let Inside::Closed(f, l, end, high) = other else {
-        return other;
+    let last = forms(text, tall, own, room, d + 2, level, e, j + 1, other, row);
+    let Inside::Closed(f, l, after, high) = last else {
+        return last;
     };
     let Sign::On(g) = awaited(text, f, CLOSE) else {
         return Inside::Stopped(FORM, l);
     };
-    put(row, n, IF, k, c, m, 0, mid, end, level);
-    Inside::Closed(g, l + 1, end, larger(1, larger(low, high)))
+    put(row, n, IF, k, c, m, 0, other, after, level);
+    Inside::Closed(g, l + 1, after, larger(1, larger(low, high)))
 }
 
 // Gives the answer of a refused text.
 fn refused(k: u64, j: usize) -> Raw
     ensures { λ r. ⌜ r ≡ refused-raw k j ⌝ }
 {
-    let bounds = [0; 17];
-    let heights = [0; 16];
+    let bounds = [0; BOUNDS];
+    let heights = [0; MAX_FUNCTIONS];
     Raw {
         answer: Answer::Refused(k, j),
         deadline: 0,
@@ -528,8 +517,8 @@ fn accepted(
     switch: u64,
     leaves: usize,
     functions: usize,
-    bounds: [u64; 17],
-    heights: [u64; 16],
+    bounds: [u64; BOUNDS],
+    heights: [u64; MAX_FUNCTIONS],
 ) -> Raw
     ensures { λ r. ⌜ r ≡ accepted-raw deadline switch leaves functions bounds heights ⌝ }
 {
@@ -565,7 +554,7 @@ fn task_fault(d: u64, t: u64) -> u64
     if d < 1 {
         return RANGE;
     }
-    if MAX_DEADLINE < d {
+    if LIMIT < d {
         return RANGE;
     }
     if MAX_SWITCH < t { RANGE } else { 0 }
@@ -599,7 +588,7 @@ fn task_line(text: &[u8]) -> Head
 }
 
 // Reads the functions of the task, which begin at the place `from`, up to the task's closing bracket, behind which the text must end.
-fn functions(text: &[u8], d: u64, t: u64, from: usize, room: usize, row: &mut [u64; 4096]) -> Raw
+fn functions(text: &[u8], d: u64, t: u64, from: usize, room: usize, row: &mut [u64; ROW]) -> Raw
     requires { ⌜ (room ≤ 512) × Found (now text) 0 (Task d t) from × (of-task d t ≡ 0) ⌝ }
     ensures { λ r. ⌜ TextAt (now (text .entry)) room (now (row .entry)) (now (row .exit)) r ⌝ }
 {
@@ -607,8 +596,8 @@ fn functions(text: &[u8], d: u64, t: u64, from: usize, room: usize, row: &mut [u
     let mut i = 2;
     let mut n = 0;
     let mut own = 0;
-    let mut bounds = [0; 17];
-    let mut heights = [0; 16];
+    let mut bounds = [0; BOUNDS];
+    let mut heights = [0; MAX_FUNCTIONS];
     loop {
         match in_task(text, at) {
             Member::Neither => return refused(FORM, i),
@@ -634,7 +623,7 @@ fn functions(text: &[u8], d: u64, t: u64, from: usize, room: usize, row: &mut [u
 }
 
 // Reads the task.
-fn whole_task(text: &[u8], room: usize, row: &mut [u64; 4096]) -> Raw
+fn whole_task(text: &[u8], room: usize, row: &mut [u64; ROW]) -> Raw
     requires { ⌜ room ≤ 512 ⌝ }
     ensures { λ r. ⌜ TextAt (now (text .entry)) room (now (row .entry)) (now (row .exit)) r ⌝ }
 {
@@ -651,16 +640,24 @@ fn smaller(a: usize, b: usize) -> usize
     if b < a { b } else { a }
 }
 
-// Reads a plan into the lent row, of which so many records may be used, 512 at most. A refused text leaves the row as it is.
-pub fn read_raw(text: &[u8], capacity: usize, row: &mut [u64; 4096]) -> Raw
+// Reads a plan into a row of which so many records may be used, 512 at most. A refused text leaves in the row what was read of it.
+pub fn read_lines(text: &[u8], capacity: usize, row: &mut [u64; 4096]) -> Raw
     ensures answers { λ r. ⌜ r ≡ raw-of (outcome capacity (now (text .entry))) ⌝ }
-    ensures writes { λ _. ⌜ now (row .exit) ≡ row-after (outcome capacity (now (text .entry))) (now (row .entry)) ⌝ }
+    ensures writes { λ _. ⌜ Written (outcome capacity (now (text .entry))) (now (row .entry)) (now (row .exit)) ⌝ }
 {
     if MAX_TEXT < text.len() {
         return refused(OVERSIZE, 0);
     }
+    whole_task(text, smaller(MAX_LEAVES, capacity), row)
+}
+
+// Reads a plan into the lent row, of which so many records may be used, 512 at most. A refused text leaves the row as it is.
+pub fn read_raw(text: &[u8], capacity: usize, row: &mut [u64; ROW]) -> Raw
+    ensures answers { λ r. ⌜ r ≡ raw-of (outcome capacity (now (text .entry))) ⌝ }
+    ensures writes { λ _. ⌜ now (row .exit) ≡ row-after (outcome capacity (now (text .entry))) (now (row .entry)) ⌝ }
+{
     let mut work = *row;
-    let raw = whole_task(text, smaller(MAX_LEAVES, capacity), &mut work);
+    let raw = read_lines(text, capacity, &mut work);
     let answer = raw.answer;
     if let Answer::Accepted = answer {
         *row = work;

@@ -4,11 +4,9 @@ ghost use mathlib.Core.Path.{_≡_};
 ghost use Prim.Native.Nat.{_≤_};
 ghost use lib.ListN.{length, take};
 use libc::STDOUT_FILENO;
+use print::put_bytes;
 use reader::Answer;
 use reader::read_raw;
-
-// The most bytes of a text that is built here: one more than a text may have.
-const SIZE: usize = 65537;
 
 // Reads a text into a row of which so many records may be used, and prints the answer.
 fn show(text: &[u8], capacity: usize) {
@@ -42,25 +40,7 @@ fn blank() -> [u8; 65537]
     [0; 65537]
 }
 
-// Writes a piece into the text from `at` on, as far as it has room, and gives the place after it.
-fn add_once(text: &mut [u8; 65537], at: usize, piece: &[u8]) -> usize
-    requires { ⌜ (at ≤ 65537) × (65537 ≡ length (now text)) ⌝ }
-    ensures { λ r. ⌜ (r ≤ 65537) × (65537 ≡ length (now (text .exit))) ⌝ }
-{
-    let mut end = at;
-    let mut j = 0;
-    while j < piece.len() {
-        if end == SIZE {
-            return end;
-        }
-        text[end] = piece[j];
-        end += 1;
-        j += 1;
-    }
-    end
-}
-
-// Writes a piece so many times, one behind the other.
+// Writes a piece so many times, one behind the other, as far as the text has room, and gives the place after them.
 fn add(text: &mut [u8; 65537], at: usize, piece: &[u8], times: usize) -> usize
     requires { ⌜ (at ≤ 65537) × (65537 ≡ length (now text)) ⌝ }
     ensures { λ r. ⌜ (r ≤ 65537) × (65537 ≡ length (now (text .exit))) × (r ≡ length (take r (now (text .exit)))) ⌝ }
@@ -68,7 +48,7 @@ fn add(text: &mut [u8; 65537], at: usize, piece: &[u8], times: usize) -> usize
     let mut end = at;
     let mut k = 0;
     while k < times {
-        end = add_once(text, end, piece);
+        end = put_bytes(text, end, piece);
         k += 1;
     }
     end

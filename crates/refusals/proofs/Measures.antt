@@ -9,7 +9,7 @@ use lib.ListN.{length, getD, length-append}
 use lib.Seq.{getD-append-seam}
 use lib.Dec.{eqb}
 use borrow.Author.Tests.{eqb-true, eqb-false, eq-eqb}
-use Rattle.text.specs.Text.{pick}
+use Rattle.model.specs.Places.{pick}
 use Rattle.text.specs.declared.Form.{Form}
 use Rattle.text.specs.declared.Form.the-variants.{Task, Fun, Then, Else, Close, Leaf, Call, Loop, If}
 use Rattle.model.specs.Plan.{Lines, close, leaf-line, call-line, loop-line, if-line}

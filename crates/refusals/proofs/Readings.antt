@@ -10,7 +10,8 @@ use lib.Dec.{leb}
 use borrow.Author.Tests.{leb-true}
 use Rattle.text.specs.declared.Form.{Form}
 use Rattle.text.specs.declared.Form.the-variants.{Task, Fun, Then, Else, Close, Leaf, Call, Loop, If}
-use Rattle.text.specs.Text.{bytes, lines, matched, item, number, digits}
+use Rattle.text.specs.Text.{bytes, lines}
+use Rattle.text.specs.Patterns.{matched, item, number, digits}
 use Rattle.text.specs.Grammar.{form, line-form}
 use Rattle.model.specs.Levels.{height, heights}
 use Rattle.reader.specs.Outcome.{refused}

@@ -8,33 +8,33 @@ use native.Mathlib.Omega.{arith}
 use native.Mathlib.Decide.{decLt}
 use lib.ListN.{length, getD, set, take, drop, length-set, length-append, length-drop, length-take, length-map, take-append-drop}
 use lib.Seq.{sets, sets-eq, length-sets, take-suc, take-at, take-length, take-all, take-take, length-take-le, take-set-le, drop-set-lt, drop-set-add, take-suc-set}
-use Rattle.model.specs.Calls.{Call}
+use Rattle.model.specs.declared.Call.{Call}
 use Rattle.table.specs.declared.Head.{Head}
 use Rattle.table.specs.Table.{Table, table-at}
 use Rattle.control.specs.declared.State as control
-use Rattle.control.specs.Answers.{reply-of}
-use Rattle.control.specs.Calls.{call-on}
+use Rattle.control.specs.Calls.{call-on, as-step}
 use Rattle.rolsipay.specs.declared.Leaf.{Leaf}
 use Rattle.rolsipay.specs.declared.State.{State}
 use Rattle.rolsipay.specs.declared.Moved.{Moved}
-use Rattle.rolsipay.specs.Lent.{no-leaf, fields, numbers, table-with}
-use Rattle.rolsipay.specs.Flat.{with-record, with-leaf, gathered}
-use Rattle.rolsipay.specs.Calling.{call-with, called, table-on}
+use Rattle.rolsipay.specs.Lent.{fields, numbers, table-with}
+use Rattle.rolsipay.specs.Private.{no-leaf, with-record, with-leaf, gathered, table-on}
+use Rattle.rolsipay.specs.Calling.{call-with, called}
 use Rattle.rolsipay.proofs.Steps.{length-gathered}
 
 -- A call on parts of the array is one on its table.
-pub same-call : (room : ℕ) (xs : List ℕ) (n : ℕ) (h : Head) (s t : control.State) (c : Call) → t ≡ s
-    → reply-of (call-on (table-at (take (n * 8) xs) (take (room * 8 + n - room * 8) (drop (room * 8) xs)) (take (room * 8 + room + n - (room * 8 + room)) (drop (room * 8 + room) xs))
-    (take (room * 8 + room + room + n - (room * 8 + room + room)) (drop (room * 8 + room + room) xs)) h) t c) ≡ reply-of (call-on (table-on room xs n h) s c)
-same-call room xs n h s t c e =
+pub same-call : (room : ℕ) (xs : List ℕ) (n : ℕ) (h : Head) (s t : control.State) (c d : Call) → t ≡ s → d ≡ c
+    → as-step (call-on (table-at (take (n * 8) xs) (take (room * 8 + n - room * 8) (drop (room * 8) xs)) (take (room * 8 + room + n - (room * 8 + room)) (drop (room * 8 + room) xs))
+    (take (room * 8 + room + room + n - (room * 8 + room + room)) (drop (room * 8 + room + room) xs)) h) t d) ≡ as-step (call-on (table-on room xs n h) s c)
+same-call room xs n h s t c d e f =
     let k : room * 8 + n - room * 8 ≡ n = omega arith in
     let l : room * 8 + room + n - (room * 8 + room) ≡ n = omega arith in
     let m : room * 8 + room + room + n - (room * 8 + room + room) ≡ n = omega arith in
-    rw (k, l, m, e) refl
+    rw (k, l, m, e, f) refl
 
 -- Writing a raw record is storing its eight numbers.
 record-stored : (xs : List ℕ) (k : ℕ) (l : Leaf) → with-record xs k l ≡ sets xs k (fields l)
 record-stored xs k l =
+    let e₀ : k + 0 ≡ k = omega arith in
     let e₁ : k + 1 ≡ suc k = omega arith in
     let e₂ : k + 2 ≡ suc (suc k) = omega arith in
     let e₃ : k + 3 ≡ suc (suc (suc k)) = omega arith in
@@ -42,7 +42,7 @@ record-stored xs k l =
     let e₅ : k + 5 ≡ suc (suc (suc (suc (suc k)))) = omega arith in
     let e₆ : k + 6 ≡ suc (suc (suc (suc (suc (suc k))))) = omega arith in
     let e₇ : k + 7 ≡ suc (suc (suc (suc (suc (suc (suc k)))))) = omega arith in
-    rw (e₁, e₂, e₃, e₄, e₅, e₆, e₇) refl
+    rw (e₀, e₁, e₂, e₃, e₄, e₅, e₆, e₇) refl
 
 -- One leaf more in the raw row.
 rows-next : (room : ℕ) (xs : List ℕ) (k : ℕ) (l : Leaf) → k < room → length xs ≡ room * 11 → take (suc k * 8) (with-leaf room xs k l) ≡ take (k * 8) xs ++ fields l

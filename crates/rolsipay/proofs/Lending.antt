@@ -14,7 +14,7 @@ use prog.Wp.{Heap}
 use ghost.Atoms.{Atoms, sem}
 use types.Kit.{Given, ‵, _$_, _∵_, !, qed, move, keep, use1, rewrite, fsplit, fjoin, fpick, fpack, feqL, show, done}
 use denote.RattleType.{RattleType}
-use denote.Memory.{cellAt, partAt, partOf, mem}
+use denote.Memory.{cellAt, partOf, mem}
 use denote.Array.{Array, arrayVal}
 use denote.Builtin.{u64}
 

@@ -51,8 +51,9 @@ use Rattle.rolsipay.specs.declared.Leaf.{Leaf}
 use Rattle.rolsipay.specs.declared.State.{State}
 use Rattle.rolsipay.specs.declared.Moved.{Moved}
 use Rattle.rolsipay.specs.Lent.{table-with}
-use Rattle.rolsipay.specs.Flat.{gathered}
-use Rattle.rolsipay.specs.Calling.{call-with, call-of, table-on}
+use Rattle.control.specs.Calls.{call-of}
+use Rattle.rolsipay.specs.Private.{gathered, table-on}
+use Rattle.rolsipay.specs.Calling.{call-with}
 use Rattle.rolsipay.proofs.Local.{as-row, to-parts, to-cell}
 use Rattle.rolsipay.proofs.Gathering.{table-gathered}
 use Rattle.rolsipay.proofs.Leaf as F

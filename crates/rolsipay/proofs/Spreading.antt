@@ -7,16 +7,15 @@ use native.Mathlib.Nat.{le-of-lt}
 use native.Mathlib.Omega.{arith}
 use lib.ListN.{length, getD, set, drop}
 use lib.Seq.{set-at, drop-cons, append-snoc}
-use Rattle.reader.specs.declared.Answer.{Answer}
 use Rattle.reader.specs.Outcome.{Outcome, plan, refused}
 use Rattle.table.specs.declared.Head.{Head}
 use Rattle.table.specs.Table.{Table, table-of}
 use Rattle.table.specs.Reading.{verdict, verdict-of}
 use Rattle.rolsipay.specs.declared.Leaf.{Leaf}
 use Rattle.rolsipay.specs.declared.Filled.{Filled}
-use Rattle.rolsipay.specs.Lent.{no-leaf, leaf-of, leaves-from}
-use Rattle.rolsipay.specs.Flat.{leaf-in, spread-over}
-use Rattle.rolsipay.specs.Reading.{row-after, filled, Holds}
+use Rattle.rolsipay.specs.Lent.{leaf-of, leaves-from}
+use Rattle.rolsipay.specs.Private.{no-leaf, leaf-in, spread-over, filled, Holds}
+use Rattle.rolsipay.specs.Reading.{row-after}
 use Rattle.rolsipay.proofs.Packing.{room-for}
 
 -- So many leaves of a table, and the last of them.

@@ -7,8 +7,7 @@ use Prim.Native.Nat.{ℕ, zero, suc}
 use lib.Dec.{T}
 use lib.ListN.{length, getD, length-set}
 use Rattle.rolsipay.specs.declared.Leaf.{Leaf}
-use Rattle.rolsipay.specs.Lent.{no-leaf}
-use Rattle.rolsipay.specs.Flat.{with-leaf, leaf-in, gathered, spread-over}
+use Rattle.rolsipay.specs.Private.{no-leaf, with-leaf, leaf-in, gathered, spread-over}
 
 -- A test that holds is true, and one that does not is false.
 pub holds : (t : Bool) → T t → t ≡ true

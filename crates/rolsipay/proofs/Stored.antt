@@ -1,11 +1,11 @@
 -- Numbers stored in a list from a place on, read back one by one.
 -- Assumes nothing.
 use mathlib.Core.List.{List, [], _∷_}
-use mathlib.Core.Path.{_≡_, refl, ap, sym, _∙_}
-use Prim.Native.Nat.{ℕ, zero, suc, _+_, _≤_, _<_}
+use mathlib.Core.Path.{_≡_, _∙_}
+use Prim.Native.Nat.{ℕ, zero, suc, _+_, _<_}
 use native.Mathlib.Omega.{arith}
-use lib.ListN.{length, getD, set, take, length-set, length-take, replicate, length-replicate, getD-replicate}
-use lib.Seq.{sets, take-suc, getD-set-same, getD-set-other}
+use lib.ListN.{length, getD, set, take, length-set, length-take}
+use lib.Seq.{sets, take-suc, getD-set-same}
 use Rattle.reader.proofs.Stores.{sets-behind}
 use Rattle.columns.proofs.Stores.{sets-below}
 
@@ -29,17 +29,3 @@ stored-in [] l a k h r = absurd (none k h)
 stored-in (x ∷ xs) l a zero h r = let z : a + 0 ≡ a = omega arith in rw z (first-at x xs l a (omega arith))
 stored-in (x ∷ xs) l a (suc k) h r =
     let z : a + suc k ≡ suc a + k = omega arith in rw z (stored-in xs (set l a x) (suc a) k (omega arith) (omega (arith, length-set l a x)))
-
--- What is stored at the beginning of zeros stands there, with zeros behind it.
-over-zeros : (xs l : List ℕ) (a k : ℕ) → a + k < length l → getD l (a + k) 0 ≡ 0 → getD (sets l a xs) (a + k) 0 ≡ getD xs k 0
-over-zeros [] l a k r e = e
-over-zeros (x ∷ xs) l a zero r e = let z : a + 0 ≡ a = omega arith in rw z (first-at x xs l a (omega arith))
-over-zeros (x ∷ xs) l a (suc k) r e =
-    let z : a + suc k ≡ suc a + k = omega arith in
-    let f : getD l (suc a + k) 0 ≡ 0 = ap (λ (j : ℕ). getD l j 0) (sym z) ∙ e in
-    rw z (over-zeros xs (set l a x) (suc a) k (omega (arith, length-set l a x)) (getD-set-other l a (suc a + k) x 0 (omega arith) ∙ f))
-
-pub on-zeros : (xs : List ℕ) (n k : ℕ) → k < n → getD (sets (replicate n 0) 0 xs) k 0 ≡ getD xs k 0
-on-zeros xs n k h =
-    let z : 0 + k ≡ k = omega arith in
-    rw z at (over-zeros xs (replicate n 0) 0 k (omega (arith, length-replicate {A = ℕ} n 0)) (ap (λ (j : ℕ). getD (replicate n 0) j 0) z ∙ getD-replicate n k 0 0 h))

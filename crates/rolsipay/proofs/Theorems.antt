@@ -5,14 +5,21 @@ use mathlib.Core.List.{List, [], _∷_, _++_, map, map-append}
 use mathlib.Core.Path.{_≡_, refl, ap, sym, _∙_}
 use Prim.Native.Nat.{ℕ, zero, suc, _+_, _-_, _*_, _≤_}
 use native.Mathlib.Omega.{arith}
-use lib.Dec.{eqb}
+use lib.Dec.{eqb, leb}
 use lib.ListN.{length, getD, take, drop, length-map, length-take, take-append-drop}
 use lib.Seq.{drop-cons, take-add, drop-drop, take-at, take-all, take-take, take-append-add, length-take-le}
 use Rattle.model.specs.Plan.{Plan}
 use Rattle.model.specs.Acceptance.{sizes, Accepted}
 use Rattle.model.specs.Places.{pick, bit}
+use Rattle.model.specs.declared.Call.{Call}
+use Rattle.model.specs.declared.Word.{Word}
+use Rattle.model.specs.declared.Word.the-variants.{Go, Suspend, Stay}
+use Rattle.model.specs.declared.Ending.the-variants.{Resume, Ended}
+use Rattle.model.specs.declared.Answer.{Answer}
+use Rattle.model.specs.declared.Answer.the-variants.{Refused, Decided, Closed}
+use Rattle.model.specs.declared.Others.{Others}
+use Rattle.model.specs.declared.Others.the-variants.{Running, Suspended}
 use Rattle.model.specs.Calls as calls
-use Rattle.model.specs.Calls.{Call, refused, go, suspend, stay, resume, ended}
 use Rattle.reader.specs.Outcome.{plan}
 use Rattle.reader.proofs.Theorems.{row-length}
 use Rattle.table.specs.declared.Head.{Head}
@@ -20,9 +27,6 @@ use Rattle.table.specs.Table.{Table, table-of, head-of}
 use Rattle.table.proofs.Tests.{no-truth}
 use Rattle.table.proofs.Written.{turns-size, tails-size, stretches-size}
 use Rattle.control.specs.declared.State as control
-use Rattle.control.specs.declared.Answer.{Answer}
-use Rattle.control.specs.declared.Answer.the-variants.{Refused, Go, Suspend, Stay, Resume, Ended}
-use Rattle.control.specs.Answers.{answer-of}
 use Rattle.control.specs.Calls.{call-on}
 use Rattle.control.proofs.Keeping.{refused-keeps}
 use Rattle.rolsipay.specs.declared.Leaf.{Leaf}
@@ -30,7 +34,7 @@ use Rattle.rolsipay.specs.declared.State.{State}
 use Rattle.rolsipay.specs.declared.Reply.{Reply}
 use Rattle.rolsipay.specs.Lent.{fields, numbers, table-with, table-in, leaf-of, leaves-from}
 use Rattle.rolsipay.specs.Reading.{row-after}
-use Rattle.rolsipay.specs.Calling.{state-of, lent, refusing, called}
+use Rattle.rolsipay.specs.Calling.{others-of, others-number, state-of, lent, refusing, called}
 use Rattle.rolsipay.specs.Face.{reply-from}
 use Rattle.rolsipay.proofs.Spreading.{length-leaves}
 use Rattle.rolsipay.proofs.Gathering.{numbers-append, length-numbers, table-of-first}
@@ -126,7 +130,7 @@ same-leaves (u ∷ us) (v ∷ vs) e f g h =
     let kind : u .kind ≡ v .kind = cc in
     let point : u .point ≡ v .point = cc in
     let isolated : u .isolated ≡ v .isolated = cc in
-    let loaded : u .loaded ≡ v .loaded = cc in
+    let load : u .«max_load» ≡ v .«max_load» = cc in
     let detail : u .detail ≡ v .detail = cc in
     let other : u .other ≡ v .other = cc in
     let after : u .after ≡ v .after = cc in
@@ -139,7 +143,7 @@ same-leaves (u ∷ us) (v ∷ vs) e f g h =
       kind = kind j;
       point = point j;
       isolated = isolated j;
-      loaded = loaded j;
+      «max_load» = load j;
       detail = detail j;
       other = other j;
       after = after j;
@@ -189,24 +193,25 @@ read-again p a ls h e =
 -- A CALL IS THE CONTROLLER'S
 
 -- An answer that is a refusal has a number.
-refused-by : (a : calls.Answer) → refusing (answer-of a) ≡ true → (k : ℕ) × (a ≡ refused k)
-refused-by (refused n) e = (n, refl)
-refused-by (go r m late) e = no-truth e
-refused-by (suspend r m late) e = no-truth e
-refused-by (stay r m late) e = no-truth e
-refused-by (resume late) e = no-truth e
-refused-by (ended late) e = no-truth e
+refused-by : (a : Answer) → refusing a ≡ true → (k : ℕ) × (a ≡ Refused k)
+refused-by (Refused n) e = (n, refl)
+refused-by (Decided w r m late) e = no-truth e
+refused-by (Closed w late) e = no-truth e
 
 -- The state of a lent state is the controller's again.
 bit-back : (b : Bool) → not (eqb (bit b) 0) ≡ b
 bit-back true = refl
 bit-back false = refl
 
+others-back : (o : Others) → others-of (others-number o) ≡ o
+others-back Running = refl
+others-back Suspended = refl
+
 lent-back : (s : control.State) → state-of (lent s) ≡ s
 lent-back s =
     λ j. record {
       running = bit-back (s .running) j;
-      suspended = bit-back (s .suspended) j;
+      others = others-back (s .others) j;
       reading = s .reading;
       level = s .level;
       leaves = s .leaves;
@@ -215,42 +220,42 @@ lent-back s =
     }
 
 -- The answer of a delivered call is the controller's on the table in the row, and the state that it leaves stands for the controller's.
-pub call-answer : (ls : List Leaf) (h : Head) (s : State) (c : Call) → called ls h s c .answer ≡ answer-of (call-on (table-in ls h) (state-of s) c .answer)
+pub call-answer : (ls : List Leaf) (h : Head) (s : State) (c : Call) → called ls h s c .answer ≡ call-on (table-in ls h) (state-of s) c .answer
 unfolding called
 call-answer ls h s c = refl
 
 pub call-state : (ls : List Leaf) (h : Head) (s : State) (c : Call) → state-of (called ls h s c .state) ≡ call-on (table-in ls h) (state-of s) c .state
 unfolding called
-call-state ls h s c = by (refusing (answer-of (r .answer))) refl
+call-state ls h s c = by (refusing (r .answer)) refl
   where
     r : calls.Reply control.State
     r = call-on (table-in ls h) (state-of s) c
 
-    by : (b : Bool) → refusing (answer-of (r .answer)) ≡ b → state-of (pick b s (lent (r .state))) ≡ r .state
+    by : (b : Bool) → refusing (r .answer) ≡ b → state-of (pick b s (lent (r .state))) ≡ r .state
     by true e = let (k, x) = refused-by (r .answer) e in sym (refused-keeps (table-in ls h) (state-of s) c k x)
     by false e = lent-back (r .state)
 
 -- THE FLAT ANSWERS
 
 -- The answer that flat numbers stand for.
+word-in : ℕ → Word
+word-in n = pick (eqb n 1) Go (pick (eqb n 2) Suspend Stay)
+
 answer-in : Reply → Answer
 answer-in r =
     let late : Bool = not (eqb (r .late) 0) in
     pick (eqb (r .word) 0) (Refused (r .number))
-    (pick (eqb (r .word) 1) (Go (r .remaining) (r .margin) late)
-    (pick (eqb (r .word) 2) (Suspend (r .remaining) (r .margin) late)
-    (pick (eqb (r .word) 3) (Stay (r .remaining) (r .margin) late)
-    (pick (eqb (r .word) 4) (Resume late) (Ended late)))))
+    (pick (leb (r .word) 3) (Decided (word-in (r .word)) (r .remaining) (r .margin) late) (Closed (pick (eqb (r .word) 4) Resume Ended) late))
 
 -- It is the one that they were made of.
 answer-back : (a : Answer) → answer-in (reply-from a) ≡ a
-unfolding answer-in
+unfolding answer-in word-in
 answer-back (Refused n) = refl
-answer-back (Go r m late) = ap (λ b. Go r m b) (bit-back late)
-answer-back (Suspend r m late) = ap (λ b. Suspend r m b) (bit-back late)
-answer-back (Stay r m late) = ap (λ b. Stay r m b) (bit-back late)
-answer-back (Resume late) = ap (λ b. Resume b) (bit-back late)
-answer-back (Ended late) = ap (λ b. Ended b) (bit-back late)
+answer-back (Decided Go r m late) = ap (λ b. Decided Go r m b) (bit-back late)
+answer-back (Decided Suspend r m late) = ap (λ b. Decided Suspend r m b) (bit-back late)
+answer-back (Decided Stay r m late) = ap (λ b. Decided Stay r m b) (bit-back late)
+answer-back (Closed Resume late) = ap (λ b. Closed Resume b) (bit-back late)
+answer-back (Closed Ended late) = ap (λ b. Closed Ended b) (bit-back late)
 
 -- So what the calls return under C names tells the answer: no two answers have the same numbers.
 pub reply-tells : (a b : Answer) → reply-from a ≡ reply-from b → a ≡ b

@@ -4,31 +4,14 @@
 use mathlib.Core.List.{List, [], _∷_, _++_, map}
 use Prim.Native.Nat.{ℕ, zero, suc, _+_}
 use lib.ListN.{getD, take}
-use Rattle.rows.specs.Rows.{field}
+use Rattle.rows.specs.Rows.{kind-at, point-at, isolated-at, max-load-at, detail-at, other-at, after-at, level-at}
 use Rattle.table.specs.declared.Head.{Head}
 use Rattle.table.specs.Table.{Table, table-at}
 use Rattle.rolsipay.specs.declared.Leaf.{Leaf}
 
--- What is taken for a leaf past the end of a row.
-abbrev pub no-leaf : Leaf
-no-leaf =
-    record {
-      kind = 0;
-      point = 0;
-      isolated = 0;
-      loaded = 0;
-      detail = 0;
-      other = 0;
-      after = 0;
-      level = 0;
-      turn = 0;
-      tail = 0;
-      stretch = 0;
-    }
-
 -- The eight numbers of a leaf that are read from the plan, in the order of a record of the raw row.
 abbrev pub fields : Leaf → List ℕ
-fields l = l .kind ∷ l .point ∷ l .isolated ∷ l .loaded ∷ l .detail ∷ l .other ∷ l .after ∷ l .level ∷ []
+fields l = l .kind ∷ l .point ∷ l .isolated ∷ l .«max_load» ∷ l .detail ∷ l .other ∷ l .after ∷ l .level ∷ []
 
 -- The raw row of these leaves.
 abbrev pub numbers : List Leaf → List ℕ
@@ -47,14 +30,14 @@ table-in ls h = table-with (take 512 ls) h
 abbrev pub leaf-of : Table → ℕ → Leaf
 leaf-of t i =
     record {
-      kind = field (t .row) i 0;
-      point = field (t .row) i 1;
-      isolated = field (t .row) i 2;
-      loaded = field (t .row) i 3;
-      detail = field (t .row) i 4;
-      other = field (t .row) i 5;
-      after = field (t .row) i 6;
-      level = field (t .row) i 7;
+      kind = kind-at (t .row) i;
+      point = point-at (t .row) i;
+      isolated = isolated-at (t .row) i;
+      «max_load» = max-load-at (t .row) i;
+      detail = detail-at (t .row) i;
+      other = other-at (t .row) i;
+      after = after-at (t .row) i;
+      level = level-at (t .row) i;
       turn = getD (t .turns) i 0;
       tail = getD (t .tails) i 0;
       stretch = getD (t .stretches) i 0;

@@ -1,5 +1,5 @@
 pub mod Lent
-pub mod Flat
 pub mod Reading
 pub mod Calling
 pub mod Face
+pub mod Private

@@ -4,19 +4,37 @@ ghost use Prim.Native.Nat.{_+_, _*_, _≤_, _<_, min};
 ghost use lib.ListN.{length, take};
 ghost use lib.Seq.{sets};
 ghost use Rattle.table.specs.Reading.{verdict, verdict-of};
-ghost use Rattle.rolsipay.specs.Flat.{with-leaf, leaf-in, gathered, spread-over};
+ghost use Rattle.control.specs.Calls.{call-of};
+ghost use Rattle.rolsipay.specs.Private.{with-leaf, leaf-in, gathered, spread-over, table-on, filled, counted, Holds};
 ghost use Rattle.model.specs.Places.{bit};
-ghost use Rattle.model.specs.Calls.{release, report, end};
-ghost use Rattle.table.specs.Table.{table-at};
-ghost use Rattle.control.specs.Answers.{reply-of};
-ghost use Rattle.control.specs.Calls.{call-on};
+ghost use Rattle.model.specs.declared.Call.the-variants.{Release, Report, End};
 ghost use Rattle.rolsipay.specs.Lent.{table-with};
-ghost use Rattle.rolsipay.specs.Calling.{state-of, lent, refusing, moved, call-with, called, call-of, table-on};
-ghost use Rattle.rolsipay.specs.Face.{ruling-of, accepted, reply-from};
-ghost use Rattle.rolsipay.specs.Reading.{filled, counted, Holds, row-after};
+ghost use Rattle.rolsipay.specs.Calling.{others-of, others-number, state-of, lent, refusing, moved, call-with, called};
+ghost use Rattle.rolsipay.specs.Face.{ruling-of, word-number, ending-number, accepted, reply-from};
+ghost use Rattle.rolsipay.specs.Reading.{row-after};
+use control::END;
+use control::RELEASE;
+use control::REPORT;
+use control::call_from;
+use model::Ending;
+use model::Others;
+use model::Word;
 use reader::Answer;
+use reader::read_lines;
+use rows::AFTER;
+use rows::DETAIL;
+use rows::ISOLATED;
+use rows::KIND;
+use rows::LEVEL;
+use rows::MAX_LEAVES;
+use rows::MAX_LOAD;
+use rows::OTHER;
+use rows::POINT;
+use rows::ROW;
+use rows::STRIDE;
 use table::Head;
 use table::Verdict;
+use table::judge;
 
 // A leaf's record. Read from the plan: kind (0 leaf, 1 call, 2 loop, 3 if), point (1 or 0), costs alone and under load, bound of a loop or target of a
 // call, first leaf of an if's else part, first leaf after the form, level in its own function. Derived: turn, tail, stretch.
@@ -25,7 +43,7 @@ pub struct Leaf {
     pub kind: u64,
     pub point: u64,
     pub isolated: u64,
-    pub loaded: u64,
+    pub max_load: u64,
     pub detail: u64,
     pub other: u64,
     pub after: u64,
@@ -58,7 +76,7 @@ pub struct State {
 
 // The answer of a call, and the state afterwards.
 pub struct Moved {
-    pub answer: control::Answer,
+    pub answer: model::Answer,
     pub state: State,
 }
 
@@ -79,19 +97,15 @@ pub struct Reply {
     pub late: u64,
 }
 
-// The most leaves, and the most for which a call takes its small array.
-const LEAVES: usize = 512;
-
+// The most leaves for which a call takes its small array.
 const FEW: usize = 64;
 
-// The numbers of a raw record, and where the columns begin in an array for 512 leaves.
-const STRIDE: usize = 8;
+// Where the columns begin in an array for the most leaves, behind the raw row.
+const TURNS: usize = ROW;
 
-const TURNS: usize = 4096;
+const TAILS: usize = TURNS + MAX_LEAVES;
 
-const TAILS: usize = 4608;
-
-const STRETCHES: usize = 5120;
+const STRETCHES: usize = TAILS + MAX_LEAVES;
 
 // The lesser of two.
 fn least(a: usize, b: usize) -> usize
@@ -104,7 +118,7 @@ fn least(a: usize, b: usize) -> usize
 fn used(records: usize, head: Head) -> usize
     ensures { λ r. ⌜ r ≡ min (min records 512) (head .leaves) ⌝ }
 {
-    let most = least(records, LEAVES);
+    let most = least(records, MAX_LEAVES);
     least(most, head.leaves)
 }
 
@@ -117,14 +131,14 @@ fn put(out: &mut [u64], room: usize, i: usize, leaf: Leaf)
     let turns = room * STRIDE;
     let tails = turns + room;
     let stretches = tails + room;
-    out[k] = leaf.kind;
-    out[k + 1] = leaf.point;
-    out[k + 2] = leaf.isolated;
-    out[k + 3] = leaf.loaded;
-    out[k + 4] = leaf.detail;
-    out[k + 5] = leaf.other;
-    out[k + 6] = leaf.after;
-    out[k + 7] = leaf.level;
+    out[k + KIND] = leaf.kind;
+    out[k + POINT] = leaf.point;
+    out[k + ISOLATED] = leaf.isolated;
+    out[k + MAX_LOAD] = leaf.max_load;
+    out[k + DETAIL] = leaf.detail;
+    out[k + OTHER] = leaf.other;
+    out[k + AFTER] = leaf.after;
+    out[k + LEVEL] = leaf.level;
     out[turns + i] = leaf.turn;
     out[tails + i] = leaf.tail;
     out[stretches + i] = leaf.stretch;
@@ -137,14 +151,14 @@ fn leaf_at(xs: &[u64; 5632], i: usize) -> Leaf
 {
     let k = i * STRIDE;
     Leaf {
-        kind: xs[k],
-        point: xs[k + 1],
-        isolated: xs[k + 2],
-        loaded: xs[k + 3],
-        detail: xs[k + 4],
-        other: xs[k + 5],
-        after: xs[k + 6],
-        level: xs[k + 7],
+        kind: xs[k + KIND],
+        point: xs[k + POINT],
+        isolated: xs[k + ISOLATED],
+        max_load: xs[k + MAX_LOAD],
+        detail: xs[k + DETAIL],
+        other: xs[k + OTHER],
+        after: xs[k + AFTER],
+        level: xs[k + LEVEL],
         turn: xs[TURNS + i],
         tail: xs[TAILS + i],
         stretch: xs[STRETCHES + i],
@@ -212,14 +226,15 @@ fn read_numbers(out: &mut [u64; 5632], text: &[u8], capacity: usize, head: Head)
     requires { ⌜ length (now out) ≡ 5632 ⌝ }
     ensures { λ r. ⌜ (r ≡ filled (verdict capacity (now (text .entry))) head) × Holds (verdict capacity (now (text .entry))) (now (out .exit)) ⌝ }
 {
-    let mut row: [u64; 4096] = [0; 4096];
-    let mut turns: [u64; 512] = [0; 512];
-    let mut tails: [u64; 512] = [0; 512];
-    let mut stretches: [u64; 512] = [0; 512];
-    let said = table::read(
-        text,
-        capacity,
-        &mut row,
+    let mut row: [u64; ROW] = [0; ROW];
+    let mut turns: [u64; MAX_LEAVES] = [0; MAX_LEAVES];
+    let mut tails: [u64; MAX_LEAVES] = [0; MAX_LEAVES];
+    let mut stretches: [u64; MAX_LEAVES] = [0; MAX_LEAVES];
+    let raw = read_lines(text, capacity, &mut row);
+    let end = raw.leaves * STRIDE;
+    let said = judge(
+        raw,
+        &row[..end],
         &mut turns,
         &mut tails,
         &mut stretches,
@@ -250,16 +265,28 @@ pub fn read(text: &[u8], row: &mut [Leaf], head: &mut Head) -> Answer
     told.answer
 }
 
+// What the others do, by a lent number.
+fn others_in(suspended: u64) -> Others
+    ensures { λ r. ⌜ r ≡ others-of suspended ⌝ }
+{
+    if suspended == 0 {
+        Others::Running
+    } else {
+        Others::Suspended
+    }
+}
+
 // The controller's state in a lent one.
 fn state_in(state: State) -> control::State
     ensures { λ r. ⌜ r ≡ state-of state ⌝ }
 {
+    let others = others_in(state.suspended);
     let leaves = state.leaves;
     let earlier = state.earlier;
     let times = state.times;
     control::State {
         running: state.running != 0,
-        suspended: state.suspended != 0,
+        others,
         reading: state.reading,
         level: state.level,
         leaves,
@@ -275,16 +302,27 @@ fn number(yes: bool) -> u64
     if yes { 1 } else { 0 }
 }
 
+// What the others do, as a lent number.
+fn others_out(others: Others) -> u64
+    ensures { λ r. ⌜ r ≡ others-number others ⌝ }
+{
+    match others {
+        Others::Running => 0,
+        Others::Suspended => 1,
+    }
+}
+
 // The lent state of a controller's.
 fn state_out(state: control::State) -> State
     ensures { λ r. ⌜ r ≡ lent state ⌝ }
 {
+    let others = state.others;
     let leaves = state.leaves;
     let earlier = state.earlier;
     let times = state.times;
     State {
         running: number(state.running),
-        suspended: number(state.suspended),
+        suspended: others_out(others),
         reading: state.reading,
         level: state.level,
         leaves,
@@ -294,16 +332,13 @@ fn state_out(state: control::State) -> State
 }
 
 // Whether an answer is a refusal.
-fn refuses(answer: control::Answer) -> bool
+fn refuses(answer: model::Answer) -> bool
     ensures { λ r. ⌜ r ≡ refusing answer ⌝ }
 {
     match answer {
-        control::Answer::Refused(_) => true,
-        control::Answer::Go(_, _, _) => false,
-        control::Answer::Suspend(_, _, _) => false,
-        control::Answer::Stay(_, _, _) => false,
-        control::Answer::Resume(_) => false,
-        control::Answer::Ended(_) => false,
+        model::Answer::Refused(_) => true,
+        model::Answer::Decided(_, _, _, _) => false,
+        model::Answer::Closed(_, _) => false,
     }
 }
 
@@ -320,16 +355,26 @@ fn move_on(state: State, step: control::Step) -> Moved
     Moved { answer, state }
 }
 
-// The words, by their numbers.
-const GO: u64 = 1;
+// The number of a decision's word.
+fn word_number(word: Word) -> u64
+    ensures { λ r. ⌜ r ≡ word-number word ⌝ }
+{
+    match word {
+        Word::Go => 1,
+        Word::Suspend => 2,
+        Word::Stay => 3,
+    }
+}
 
-const SUSPEND: u64 = 2;
-
-const STAY: u64 = 3;
-
-const RESUME: u64 = 4;
-
-const ENDED: u64 = 5;
+// The number of an end's word.
+fn ending_number(ending: Ending) -> u64
+    ensures { λ r. ⌜ r ≡ ending-number ending ⌝ }
+{
+    match ending {
+        Ending::Resume => 4,
+        Ending::Ended => 5,
+    }
+}
 
 // What reading a plan answers, as numbers.
 fn as_ruling(answer: Answer) -> Ruling
@@ -345,27 +390,24 @@ fn as_ruling(answer: Answer) -> Ruling
 }
 
 // What a call answers, as numbers.
-fn as_reply(answer: control::Answer) -> Reply
+fn as_reply(answer: model::Answer) -> Reply
     ensures { λ r. ⌜ r ≡ reply-from answer ⌝ }
 {
     match answer {
-        control::Answer::Refused(n) => Reply {
+        model::Answer::Refused(n) => Reply {
             word: 0,
             number: n,
             remaining: 0,
             margin: 0,
             late: 0,
         },
-        control::Answer::Go(r, m, late) => decided(GO, r, m, late),
-        control::Answer::Suspend(r, m, late) => decided(SUSPEND, r, m, late),
-        control::Answer::Stay(r, m, late) => decided(STAY, r, m, late),
-        control::Answer::Resume(late) => decided(RESUME, 0, 0, late),
-        control::Answer::Ended(late) => decided(ENDED, 0, 0, late),
+        model::Answer::Decided(word, r, m, late) => accepted_reply(word_number(word), r, m, late),
+        model::Answer::Closed(ending, late) => accepted_reply(ending_number(ending), 0, 0, late),
     }
 }
 
 // An accepted call's answer, as numbers.
-fn decided(word: u64, remaining: u64, margin: i64, late: bool) -> Reply
+fn accepted_reply(word: u64, remaining: u64, margin: i64, late: bool) -> Reply
     ensures { λ r. ⌜ r ≡ accepted word remaining margin late ⌝ }
 {
     Reply {
@@ -375,37 +417,6 @@ fn decided(word: u64, remaining: u64, margin: i64, late: bool) -> Reply
         margin,
         late: number(late),
     }
-}
-
-// The calls, by number.
-const RELEASE: u64 = 0;
-
-const REPORT: u64 = 1;
-
-const END: u64 = 2;
-
-// The call of this number, on a table's parts.
-fn step_on(
-    row: &[u64],
-    turns: &[u64],
-    tails: &[u64],
-    stretches: &[u64],
-    head: Head,
-    state: control::State,
-    kind: u64,
-    point: u64,
-    reading: u64,
-) -> control::Step
-    ensures { λ r. ⌜ r ≡ reply-of (call-on (table-at (now (row .entry)) (now (turns .entry)) (now (tails .entry)) (now (stretches .entry)) head) state
-        (call-of kind point reading)) ⌝ }
-{
-    if kind == RELEASE {
-        return control::release(row, turns, tails, stretches, head, state);
-    }
-    if kind == REPORT {
-        return control::report(row, turns, tails, stretches, head, state, point, reading);
-    }
-    control::end(row, turns, tails, stretches, head, state, reading)
 }
 
 // A call on the first n leaves in numbers, in an array with room for so many: the raw row, then the columns.
@@ -430,17 +441,8 @@ fn call_on(
     let tails = &xs[second..second + n];
     let stretches = &xs[third..third + n];
     let before = state_in(state);
-    let step = step_on(
-        row,
-        turns,
-        tails,
-        stretches,
-        head,
-        before,
-        kind,
-        point,
-        reading,
-    );
+    let call = call_from(kind, point, reading);
+    let step = control::call(row, turns, tails, stretches, head, before, call);
     move_on(state, step)
 }
 
@@ -476,8 +478,8 @@ fn call_large(
     ensures { λ r. ⌜ r ≡ call-with (table-with (take n (now (row .entry))) head) state (call-of kind point reading) ⌝ }
 {
     let mut numbers = [0u64; 5632];
-    gather(row, &mut numbers, LEAVES, n);
-    call_on(&numbers, LEAVES, n, head, state, kind, point, reading)
+    gather(row, &mut numbers, MAX_LEAVES, n);
+    call_on(&numbers, MAX_LEAVES, n, head, state, kind, point, reading)
 }
 
 // A call on lent memory: the state is moved on where it lies. To zero the large array takes longer than all the rest of a call on few leaves, so those have
@@ -489,7 +491,7 @@ fn call(
     kind: u64,
     point: u64,
     reading: u64,
-) -> control::Answer
+) -> model::Answer
     ensures { λ r. ⌜ (r ≡ called (now (row .entry)) (now (head .entry)) (now (state .entry)) (call-of kind point reading) .answer)
         × (now (state .exit) ≡ called (now (row .entry)) (now (head .entry)) (now (state .entry)) (call-of kind point reading) .state) ⌝ }
 {
@@ -506,9 +508,9 @@ fn call(
 }
 
 // Release: 11, 12, 13, or the decision at the release; the state is moved on where it lies.
-pub fn release(row: &[Leaf], head: &Head, state: &mut State) -> control::Answer
-    ensures { λ r. ⌜ (r ≡ called (now (row .entry)) (now (head .entry)) (now (state .entry)) release .answer)
-        × (now (state .exit) ≡ called (now (row .entry)) (now (head .entry)) (now (state .entry)) release .state) ⌝ }
+pub fn release(row: &[Leaf], head: &Head, state: &mut State) -> model::Answer
+    ensures { λ r. ⌜ (r ≡ called (now (row .entry)) (now (head .entry)) (now (state .entry)) Release .answer)
+        × (now (state .exit) ≡ called (now (row .entry)) (now (head .entry)) (now (state .entry)) Release .state) ⌝ }
 {
     call(row, head, state, RELEASE, 0, 0)
 }
@@ -520,17 +522,17 @@ pub fn report(
     state: &mut State,
     point: u64,
     reading: u64,
-) -> control::Answer
-    ensures { λ r. ⌜ (r ≡ called (now (row .entry)) (now (head .entry)) (now (state .entry)) (report point reading) .answer)
-        × (now (state .exit) ≡ called (now (row .entry)) (now (head .entry)) (now (state .entry)) (report point reading) .state) ⌝ }
+) -> model::Answer
+    ensures { λ r. ⌜ (r ≡ called (now (row .entry)) (now (head .entry)) (now (state .entry)) (Report point reading) .answer)
+        × (now (state .exit) ≡ called (now (row .entry)) (now (head .entry)) (now (state .entry)) (Report point reading) .state) ⌝ }
 {
     call(row, head, state, REPORT, point, reading)
 }
 
 // End with a reading: 11, 14, 16, 17, or resume or ended; the state is fresh again where it lies.
-pub fn end(row: &[Leaf], head: &Head, state: &mut State, reading: u64) -> control::Answer
-    ensures { λ r. ⌜ (r ≡ called (now (row .entry)) (now (head .entry)) (now (state .entry)) (end reading) .answer)
-        × (now (state .exit) ≡ called (now (row .entry)) (now (head .entry)) (now (state .entry)) (end reading) .state) ⌝ }
+pub fn end(row: &[Leaf], head: &Head, state: &mut State, reading: u64) -> model::Answer
+    ensures { λ r. ⌜ (r ≡ called (now (row .entry)) (now (head .entry)) (now (state .entry)) (End reading) .answer)
+        × (now (state .exit) ≡ called (now (row .entry)) (now (head .entry)) (now (state .entry)) (End reading) .state) ⌝ }
 {
     call(row, head, state, END, 0, reading)
 }
@@ -548,8 +550,8 @@ pub extern "C" fn rolsipay_read(text: &[u8], row: &mut [Leaf], head: &mut Head) 
 // `release` for other languages.
 #[no_mangle]
 pub extern "C" fn rolsipay_release(row: &[Leaf], head: &Head, state: &mut State) -> Reply
-    ensures { λ r. ⌜ (r ≡ reply-from (called (now (row .entry)) (now (head .entry)) (now (state .entry)) release .answer))
-        × (now (state .exit) ≡ called (now (row .entry)) (now (head .entry)) (now (state .entry)) release .state) ⌝ }
+    ensures { λ r. ⌜ (r ≡ reply-from (called (now (row .entry)) (now (head .entry)) (now (state .entry)) Release .answer))
+        × (now (state .exit) ≡ called (now (row .entry)) (now (head .entry)) (now (state .entry)) Release .state) ⌝ }
 {
     as_reply(release(row, head, state))
 }
@@ -563,8 +565,8 @@ pub extern "C" fn rolsipay_report(
     point: u64,
     reading: u64,
 ) -> Reply
-    ensures { λ r. ⌜ (r ≡ reply-from (called (now (row .entry)) (now (head .entry)) (now (state .entry)) (report point reading) .answer))
-        × (now (state .exit) ≡ called (now (row .entry)) (now (head .entry)) (now (state .entry)) (report point reading) .state) ⌝ }
+    ensures { λ r. ⌜ (r ≡ reply-from (called (now (row .entry)) (now (head .entry)) (now (state .entry)) (Report point reading) .answer))
+        × (now (state .exit) ≡ called (now (row .entry)) (now (head .entry)) (now (state .entry)) (Report point reading) .state) ⌝ }
 {
     as_reply(report(row, head, state, point, reading))
 }
@@ -572,8 +574,8 @@ pub extern "C" fn rolsipay_report(
 // `end` for other languages.
 #[no_mangle]
 pub extern "C" fn rolsipay_end(row: &[Leaf], head: &Head, state: &mut State, reading: u64) -> Reply
-    ensures { λ r. ⌜ (r ≡ reply-from (called (now (row .entry)) (now (head .entry)) (now (state .entry)) (end reading) .answer))
-        × (now (state .exit) ≡ called (now (row .entry)) (now (head .entry)) (now (state .entry)) (end reading) .state) ⌝ }
+    ensures { λ r. ⌜ (r ≡ reply-from (called (now (row .entry)) (now (head .entry)) (now (state .entry)) (End reading) .answer))
+        × (now (state .exit) ≡ called (now (row .entry)) (now (head .entry)) (now (state .entry)) (End reading) .state) ⌝ }
 {
     as_reply(end(row, head, state, reading))
 }

@@ -1,3 +1,8 @@
 pub mod Shape
+pub mod Measures
+pub mod Records
 pub mod Reading
+pub mod Plans
+pub mod Storing
 pub mod Answers
+pub mod Worked

@@ -6,7 +6,7 @@ use native.Mathlib.Omega.{arith}
 use borrow.Author.Tests.{lt-ltb, le-ltb}
 use Rattle.model.specs.Plan.{Lines, close, leaf-line, call-line, loop-line, if-line}
 use Rattle.model.specs.Acceptance.{size}
-use Rattle.rows.specs.Rows.{field, end-at, Rep}
+use Rattle.rows.specs.Rows.{other-at, after-at, Rep}
 use Rattle.rows.specs.Reading.{by-kind, lines-at}
 use Rattle.rows.proofs.Shape.{rep-le}
 
@@ -22,29 +22,29 @@ unfolding Rep size lines-at by-kind
 rep-lines close fuel w L i e h r = nothing-more fuel w i e (omega arith)
 rep-lines (leaf-line b rest) zero w L i e h r = absurd (omega arith)
 rep-lines (leaf-line b rest) (suc k) w L i e h r =
-    rw (lt-ltb i e (omega (arith, r .3, rep-le w L (end-at w i) e rest (r .4))), r .0 .0, rep-lines rest k w L (end-at w i) e (omega arith) (r .4))
+    rw (lt-ltb i e (omega (arith, r .3, rep-le w L (after-at w i) e rest (r .4))), r .0 .0, rep-lines rest k w L (after-at w i) e (omega arith) (r .4))
     (ap (λ x. leaf-line x rest) (sym (r .0 .1)))
 rep-lines (call-line b f rest) zero w L i e h r = absurd (omega arith)
 rep-lines (call-line b f rest) (suc k) w L i e h r =
-    rw (lt-ltb i e (omega (arith, r .3, rep-le w L (end-at w i) e rest (r .4))), r .0 .0, rep-lines rest k w L (end-at w i) e (omega arith) (r .4), r .1)
+    rw (lt-ltb i e (omega (arith, r .3, rep-le w L (after-at w i) e rest (r .4))), r .0 .0, rep-lines rest k w L (after-at w i) e (omega arith) (r .4), r .1)
     (ap (λ x. call-line x f rest) (sym (r .0 .1)))
 rep-lines (loop-line b n body rest) zero w L i e h r = absurd (omega arith)
 rep-lines (loop-line b n body rest) (suc k) w L i e h r =
     rw (
-      lt-ltb i e (omega (arith, rep-le w (suc L) (i + 1) (end-at w i) body (r .3), rep-le w L (end-at w i) e rest (r .4))),
+      lt-ltb i e (omega (arith, rep-le w (suc L) (i + 1) (after-at w i) body (r .3), rep-le w L (after-at w i) e rest (r .4))),
       r .0 .0,
-      rep-lines rest k w L (end-at w i) e (omega arith) (r .4),
-      rep-lines body k w (suc L) (i + 1) (end-at w i) (omega arith) (r .3),
+      rep-lines rest k w L (after-at w i) e (omega arith) (r .4),
+      rep-lines body k w (suc L) (i + 1) (after-at w i) (omega arith) (r .3),
       r .1,
     )
     (ap (λ x. loop-line x n body rest) (sym (r .0 .1)))
 rep-lines (if-line b then else rest) zero w L i e h r = absurd (omega arith)
 rep-lines (if-line b then else rest) (suc k) w L i e h r =
     rw (
-      lt-ltb i e (omega (arith, rep-le w L (i + 1) (field w i 5) then (r .2), rep-le w L (field w i 5) (end-at w i) else (r .3), rep-le w L (end-at w i) e rest (r .4))),
+      lt-ltb i e (omega (arith, rep-le w L (i + 1) (other-at w i) then (r .2), rep-le w L (other-at w i) (after-at w i) else (r .3), rep-le w L (after-at w i) e rest (r .4))),
       r .0 .0,
-      rep-lines rest k w L (end-at w i) e (omega arith) (r .4),
-      rep-lines then k w L (i + 1) (field w i 5) (omega arith) (r .2),
-      rep-lines else k w L (field w i 5) (end-at w i) (omega arith) (r .3),
+      rep-lines rest k w L (after-at w i) e (omega arith) (r .4),
+      rep-lines then k w L (i + 1) (other-at w i) (omega arith) (r .2),
+      rep-lines else k w L (other-at w i) (after-at w i) (omega arith) (r .3),
     )
     (ap (λ x. if-line x then else rest) (sym (r .0 .1)))

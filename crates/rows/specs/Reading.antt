@@ -5,7 +5,7 @@ use lib.Dec.{ltb}
 use lib.ListN.{getD}
 use Rattle.model.specs.Plan.{Lines, close, leaf-line, call-line, loop-line, if-line}
 use Rattle.model.specs.Places.{pick}
-use Rattle.rows.specs.Rows.{field, end-at, block-at}
+use Rattle.rows.specs.Rows.{kind-at, detail-at, other-at, after-at, block-at}
 
 -- A line by its kind.
 unfoldable pub by-kind : ℕ → Lines → Lines → Lines → Lines → Lines
@@ -18,12 +18,12 @@ by-kind (suc (suc (suc n))) a b c d = d
 unfoldable pub lines-at : ℕ → List ℕ → ℕ → ℕ → Lines
 lines-at zero w i e = close
 lines-at (suc fuel) w i e =
-    let as-leaf = leaf-line (block-at w i) (lines-at fuel w (end-at w i) e) in
-    let as-call = call-line (block-at w i) (field w i 4) (lines-at fuel w (end-at w i) e) in
-    let as-loop = loop-line (block-at w i) (field w i 4) (lines-at fuel w (i + 1) (end-at w i)) (lines-at fuel w (end-at w i) e) in
+    let as-leaf = leaf-line (block-at w i) (lines-at fuel w (after-at w i) e) in
+    let as-call = call-line (block-at w i) (detail-at w i) (lines-at fuel w (after-at w i) e) in
+    let as-loop = loop-line (block-at w i) (detail-at w i) (lines-at fuel w (i + 1) (after-at w i)) (lines-at fuel w (after-at w i) e) in
     let as-if =
-    if-line (block-at w i) (lines-at fuel w (i + 1) (field w i 5)) (lines-at fuel w (field w i 5) (end-at w i)) (lines-at fuel w (end-at w i) e) in
-    let line = by-kind (field w i 0) as-leaf as-call as-loop as-if in
+    if-line (block-at w i) (lines-at fuel w (i + 1) (other-at w i)) (lines-at fuel w (other-at w i) (after-at w i)) (lines-at fuel w (after-at w i) e) in
+    let line = by-kind (kind-at w i) as-leaf as-call as-loop as-if in
     pick (ltb i e) line close
 
 -- The k functions from number f on, between their bounds.

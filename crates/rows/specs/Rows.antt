@@ -1,6 +1,4 @@
--- How the lines of a function lie in a row of numbers: a record of eight for each leaf, in text order.
---     0 kind (0 leaf, 1 call, 2 loop, 3 if)   1 point (1 or 0)   2 C   3 M   4 bound of a loop, target of a call, else 0
---     5 first leaf of the else part of an if, else 0   6 first leaf after the form   7 level in its own function
+-- How the lines of a function lie in a row of numbers: a record of eight for each leaf, in text order. Every unused field is 0.
 -- Assumes nothing: these are definitions.
 use Prim.Native.Nat.{ℕ, suc, _+_, _-_, _*_, _≤_, _<_}
 use mathlib.Core.Path.{_≡_}
@@ -14,27 +12,50 @@ use Rattle.model.specs.Acceptance.{Costs}
 abbrev pub field : List ℕ → ℕ → ℕ → ℕ
 field w i f = getD w (i * 8 + f) 0
 
--- The first leaf after the form at i.
-abbrev pub end-at : List ℕ → ℕ → ℕ
-end-at w i = field w i 6
+-- Its fields: the kind of its form (0 leaf, 1 call, 2 loop, 3 if), 1 for a point and 0 for a silent leaf, the isolated cost C and the max-load cost M,
+-- the bound of a loop or the function that a call names, the first leaf of the else part of an if, the first leaf after the form, and the level in
+-- its own function.
+abbrev pub kind-at : List ℕ → ℕ → ℕ
+kind-at w i = field w i 0
+
+abbrev pub point-at : List ℕ → ℕ → ℕ
+point-at w i = field w i 1
+
+abbrev pub isolated-at : List ℕ → ℕ → ℕ
+isolated-at w i = field w i 2
+
+abbrev pub max-load-at : List ℕ → ℕ → ℕ
+max-load-at w i = field w i 3
+
+abbrev pub detail-at : List ℕ → ℕ → ℕ
+detail-at w i = field w i 4
+
+abbrev pub other-at : List ℕ → ℕ → ℕ
+other-at w i = field w i 5
+
+abbrev pub after-at : List ℕ → ℕ → ℕ
+after-at w i = field w i 6
+
+abbrev pub level-at : List ℕ → ℕ → ℕ
+level-at w i = field w i 7
 
 -- The block of the record i; its number is its place.
 abbrev pub block-at : List ℕ → ℕ → Block
-block-at w i = record { number = i; point = eqb (field w i 1) 1; isolated = field w i 2; max-load = field w i 3 }
+block-at w i = record { number = i; point = eqb (point-at w i) 1; isolated = isolated-at w i; max-load = max-load-at w i }
 
 -- The record i is of this kind and level, and of this block.
-abbrev pub Is : List ℕ → ℕ → ℕ → ℕ → Block → Type 0
-Is w l i k b = (field w i 0 ≡ k) × (b ≡ block-at w i) × (field w i 1 ≤ 1) × (field w i 7 ≡ l)
+abbrev pub RecordIs : List ℕ → ℕ → ℕ → ℕ → Block → Type 0
+RecordIs w l i k b = (kind-at w i ≡ k) × (b ≡ block-at w i) × (point-at w i ≤ 1) × (level-at w i ≡ l)
 
 -- The records from i up to e are these lines, at level l. Every unused field is 0.
 unfoldable pub Rep : List ℕ → ℕ → ℕ → ℕ → Lines → Type 0
 Rep w l i e close = i ≡ e
-Rep w l i e (leaf-line b r) = Is w l i 0 b × (field w i 4 ≡ 0) × (field w i 5 ≡ 0) × (end-at w i ≡ i + 1) × Rep w l (end-at w i) e r
-Rep w l i e (call-line b f r) = Is w l i 1 b × (field w i 4 ≡ f) × (field w i 5 ≡ 0) × (end-at w i ≡ i + 1) × Rep w l (end-at w i) e r
+Rep w l i e (leaf-line b r) = RecordIs w l i 0 b × (detail-at w i ≡ 0) × (other-at w i ≡ 0) × (after-at w i ≡ i + 1) × Rep w l (after-at w i) e r
+Rep w l i e (call-line b f r) = RecordIs w l i 1 b × (detail-at w i ≡ f) × (other-at w i ≡ 0) × (after-at w i ≡ i + 1) × Rep w l (after-at w i) e r
 Rep w l i e (loop-line b n body r) =
-    Is w l i 2 b × (field w i 4 ≡ n) × (field w i 5 ≡ 0) × Rep w (suc l) (i + 1) (end-at w i) body × Rep w l (end-at w i) e r
+    RecordIs w l i 2 b × (detail-at w i ≡ n) × (other-at w i ≡ 0) × Rep w (suc l) (i + 1) (after-at w i) body × Rep w l (after-at w i) e r
 Rep w l i e (if-line b t s r) =
-    Is w l i 3 b × (field w i 4 ≡ 0) × Rep w l (i + 1) (field w i 5) t × Rep w l (field w i 5) (end-at w i) s × Rep w l (end-at w i) e r
+    RecordIs w l i 3 b × (detail-at w i ≡ 0) × Rep w l (i + 1) (other-at w i) t × Rep w l (other-at w i) (after-at w i) s × Rep w l (after-at w i) e r
 
 -- What rules 3, 5, 6 and 7 ask of lines at level l, where `left` brackets may still open and hs are the heights of the functions before.
 unfoldable pub Rules : List ℕ → ℕ → ℕ → Lines → Type 0
@@ -50,3 +71,9 @@ pub record Part (w hs : List ℕ) (left l i e : ℕ) : Type 0 where
   pub lines : Lines
   pub rep : Rep w l i e lines
   pub rules : Rules hs left l lines
+
+-- The same at some level and behind functions of some heights.
+pub record Piece (w : List ℕ) (left i e : ℕ) : Type 0 where
+  pub heights : List ℕ
+  pub level : ℕ
+  pub part : Part w heights left level i e

@@ -10,22 +10,22 @@ use lib.ListN.{length, getD, set, length-set, replicate, getD-replicate}
 use lib.Seq.{getD-set-same, getD-set-other}
 use Rattle.model.specs.Plan.{Lines, close, leaf-line, call-line, loop-line, if-line}
 use Rattle.model.specs.Acceptance.{Names, Called}
-use Rattle.rows.specs.Rows.{field, end-at, Rep}
+use Rattle.rows.specs.Rows.{kind-at, detail-at, other-at, after-at, Rep}
 use Rattle.rows.proofs.Shape.{rep-le}
 use Rattle.rows.specs.Answers.{Says}
 use Rattle.rows.proofs.Answers.{said-true, said-false}
-use Rattle.structure.specs.Plans.{Lies, Plan-of}
+use Rattle.rows.specs.Plans.{Lies, Plan-of}
 use Rattle.structure.proofs.Found.{found, found-sound}
-use Rattle.structure.proofs.Measures.{function-part}
-use Rattle.structure.proofs.Functions.{lies-at, functions-at, bound-le}
+use Rattle.rows.proofs.Measures.{function-part}
+use Rattle.rows.proofs.Plans.{function-kept, bound-le, plan-rep}
 
 -- A record from i up to e is a call of f.
 pub record Caller (w : List ℕ) (f i e : ℕ) : Type 0 where
   pub place : ℕ
   pub low : i ≤ place
   pub high : place < e
-  pub kind : field w place 0 ≡ 1
-  pub target : field w place 4 ≡ f
+  pub kind : kind-at w place ≡ 1
+  pub target : detail-at w place ≡ f
 
 -- A caller in a part is one in the whole.
 pub wider : {w : List ℕ} {f i e a b : ℕ} → Caller w f i e → a ≤ i → e ≤ b → Caller w f a b
@@ -36,57 +36,57 @@ module _ (w : List ℕ) (f : ℕ) where
   names-caller : (ls : Lines) (l i e : ℕ) → Rep w l i e ls → Names f ls → Caller w f i e
   unfolding Rep Names
   names-caller close l i e h n = absurd n
-  names-caller (leaf-line b r) l i e h n = wider (names-caller r l (end-at w i) e (h .4) n) (omega arith) (omega arith)
+  names-caller (leaf-line b r) l i e h n = wider (names-caller r l (after-at w i) e (h .4) n) (omega arith) (omega arith)
   names-caller (call-line b g r) l i e h n =
-      let k = rep-le w l (end-at w i) e r (h .4) in
+      let k = rep-le w l (after-at w i) e r (h .4) in
       ⊎-elim (λ x. record { place = i; low = omega arith; high = omega arith; kind = h .0 .0; target = h .1 ∙ x })
-      (λ x. wider (names-caller r l (end-at w i) e (h .4) x) (omega arith) (omega arith)) n
+      (λ x. wider (names-caller r l (after-at w i) e (h .4) x) (omega arith) (omega arith)) n
   names-caller (loop-line b m body r) l i e h n =
-      let k = rep-le w (suc l) (i + 1) (end-at w i) body (h .3) in
-      let o = rep-le w l (end-at w i) e r (h .4) in
-      ⊎-elim (λ x. wider (names-caller body (suc l) (i + 1) (end-at w i) (h .3) x) (omega arith) o)
-      (λ x. wider (names-caller r l (end-at w i) e (h .4) x) (omega arith) (omega arith)) n
+      let k = rep-le w (suc l) (i + 1) (after-at w i) body (h .3) in
+      let o = rep-le w l (after-at w i) e r (h .4) in
+      ⊎-elim (λ x. wider (names-caller body (suc l) (i + 1) (after-at w i) (h .3) x) (omega arith) o)
+      (λ x. wider (names-caller r l (after-at w i) e (h .4) x) (omega arith) (omega arith)) n
   names-caller (if-line b t s r) l i e h n =
-      let k = rep-le w l (i + 1) (field w i 5) t (h .2) in
-      let o = rep-le w l (field w i 5) (end-at w i) s (h .3) in
-      let p = rep-le w l (end-at w i) e r (h .4) in
-      ⊎-elim (λ x. wider (names-caller t l (i + 1) (field w i 5) (h .2) x) (omega arith) (omega arith))
-      (λ y. ⊎-elim (λ x. wider (names-caller s l (field w i 5) (end-at w i) (h .3) x) (omega arith) p)
-      (λ x. wider (names-caller r l (end-at w i) e (h .4) x) (omega arith) (omega arith)) y) n
+      let k = rep-le w l (i + 1) (other-at w i) t (h .2) in
+      let o = rep-le w l (other-at w i) (after-at w i) s (h .3) in
+      let p = rep-le w l (after-at w i) e r (h .4) in
+      ⊎-elim (λ x. wider (names-caller t l (i + 1) (other-at w i) (h .2) x) (omega arith) (omega arith))
+      (λ y. ⊎-elim (λ x. wider (names-caller s l (other-at w i) (after-at w i) (h .3) x) (omega arith) p)
+      (λ x. wider (names-caller r l (after-at w i) e (h .4) x) (omega arith) (omega arith)) y) n
 
   -- And back.
-  caller-names : (ls : Lines) (l i e : ℕ) → Rep w l i e ls → (j : ℕ) → i ≤ j → j < e → field w j 0 ≡ 1 → field w j 4 ≡ f → Names f ls
+  caller-names : (ls : Lines) (l i e : ℕ) → Rep w l i e ls → (j : ℕ) → i ≤ j → j < e → kind-at w j ≡ 1 → detail-at w j ≡ f → Names f ls
   unfolding Rep Names
   caller-names close l i e h j a b k t = absurd (omega arith)
   caller-names (leaf-line x r) l i e h j a b k t =
       elim (decLe j i) [
-        | yes z ↦ let q : j ≡ i = omega arith in absurd (omega (arith, ap (λ (y : ℕ). field w y 0) q))
-        | no z ↦ caller-names r l (end-at w i) e (h .4) j (omega arith) b k t
+        | yes z ↦ let q : j ≡ i = omega arith in absurd (omega (arith, ap (λ (y : ℕ). kind-at w y) q))
+        | no z ↦ caller-names r l (after-at w i) e (h .4) j (omega arith) b k t
       ]
   caller-names (call-line x g r) l i e h j a b k t =
       elim (decLe j i) [
-        | yes z ↦ let q : j ≡ i = omega arith in inl (omega (arith, ap (λ (y : ℕ). field w y 4) q))
-        | no z ↦ inr (caller-names r l (end-at w i) e (h .4) j (omega arith) b k t)
+        | yes z ↦ let q : j ≡ i = omega arith in inl (omega (arith, ap (λ (y : ℕ). detail-at w y) q))
+        | no z ↦ inr (caller-names r l (after-at w i) e (h .4) j (omega arith) b k t)
       ]
   caller-names (loop-line x m body r) l i e h j a b k t =
       elim (decLe j i) [
-        | yes z ↦ let q : j ≡ i = omega arith in absurd (omega (arith, ap (λ (y : ℕ). field w y 0) q))
+        | yes z ↦ let q : j ≡ i = omega arith in absurd (omega (arith, ap (λ (y : ℕ). kind-at w y) q))
         | no z ↦
-            elim (decLt j (end-at w i)) [
-              | yes y ↦ inl (caller-names body (suc l) (i + 1) (end-at w i) (h .3) j (omega arith) y k t)
-              | no y ↦ inr (caller-names r l (end-at w i) e (h .4) j (omega arith) b k t)
+            elim (decLt j (after-at w i)) [
+              | yes y ↦ inl (caller-names body (suc l) (i + 1) (after-at w i) (h .3) j (omega arith) y k t)
+              | no y ↦ inr (caller-names r l (after-at w i) e (h .4) j (omega arith) b k t)
             ]
       ]
   caller-names (if-line x u s r) l i e h j a b k t =
       elim (decLe j i) [
-        | yes z ↦ let q : j ≡ i = omega arith in absurd (omega (arith, ap (λ (y : ℕ). field w y 0) q))
+        | yes z ↦ let q : j ≡ i = omega arith in absurd (omega (arith, ap (λ (y : ℕ). kind-at w y) q))
         | no z ↦
-            elim (decLt j (field w i 5)) [
-              | yes y ↦ inl (caller-names u l (i + 1) (field w i 5) (h .2) j (omega arith) y k t)
+            elim (decLt j (other-at w i)) [
+              | yes y ↦ inl (caller-names u l (i + 1) (other-at w i) (h .2) j (omega arith) y k t)
               | no y ↦
-                  elim (decLt j (end-at w i)) [
-                    | yes v ↦ inr (inl (caller-names s l (field w i 5) (end-at w i) (h .3) j (omega arith) v k t))
-                    | no v ↦ inr (inr (caller-names r l (end-at w i) e (h .4) j (omega arith) b k t))
+                  elim (decLt j (after-at w i)) [
+                    | yes v ↦ inr (inl (caller-names s l (other-at w i) (after-at w i) (h .3) j (omega arith) v k t))
+                    | no v ↦ inr (inr (caller-names r l (after-at w i) e (h .4) j (omega arith) b k t))
                   ]
             ]
       ]
@@ -117,20 +117,14 @@ inside {w} {s} {n} p j lt =
     let x = lies-find w s (p .functions) 0 (p .lie) j (omega (arith, p .bounds .first)) (rw q lt) in
     record { function = x .0; below = omega (arith, x .1); low = x .2; high = x .3 }
 
--- A function of a plan lies between its bounds.
-pub plan-rep : {w s : List ℕ} {n k : ℕ} (p : Plan-of w s n) → k < n → Rep w 1 (getD s k 0) (getD s (k + 1) 0) (getD (p .functions) k close)
-plan-rep {w} {s} {n} {k} p lt =
-    let x : 0 + k ≡ k = omega arith in
-    rw x at (lies-at w s (p .functions) 0 k (p .lie) (omega (arith, p .count)))
-
 -- A call of a plan names one of sixteen functions.
-pub call-few : {w s : List ℕ} {n : ℕ} (p : Plan-of w s n) (j : ℕ) → j < getD s n 0 → field w j 0 ≡ 1 → field w j 4 ≤ 15
+pub call-few : {w s : List ℕ} {n : ℕ} (p : Plan-of w s n) (j : ℕ) → j < getD s n 0 → kind-at w j ≡ 1 → detail-at w j ≤ 15
 call-few {w} {s} {n} p j lt kind =
     let i = inside p j lt in
     let k : i .function < length (p .functions) = omega (arith, p .count, i .below) in
     let q =
     function-part (getD (p .functions) (i .function) close) (plan-rep p (i .below))
-    (functions-at (p .functions) [] 0 (i .function) (p .kept) k) refl
+    (function-kept (p .functions) [] 0 (i .function) (p .kept) k) refl
     in
     found-sound (found q j (i .low) (i .high)) .call kind .few
 
@@ -164,20 +158,20 @@ marked-none {w} =
 
 -- One record more that calls t, or that calls nothing.
 module _ {w : List ℕ} {named : List Bool} {i : ℕ} (m : Marked w named i) where
-  still : {f : ℕ} (b : Bool) → Says b (Caller w f 0 i) → (field w i 0 ≡ 1 → field w i 4 ≡ f → ⊥) → Says b (Caller w f 0 (i + 1))
+  still : {f : ℕ} (b : Bool) → Says b (Caller w f 0 i) → (kind-at w i ≡ 1 → detail-at w i ≡ f → ⊥) → Says b (Caller w f 0 (i + 1))
   still true c n = wider c (omega arith) (omega arith)
   still {f} false c n = λ d.
       elim (decLt (d .place) i) [
         | yes z ↦ c (record { place = d .place; low = d .low; high = z; kind = d .kind; target = d .target })
         | no z ↦
             let q : d .place ≡ i = omega (arith, d .high) in
-            n (sym (ap (λ (x : ℕ). field w x 0) q) ∙ d .kind) (sym (ap (λ (x : ℕ). field w x 4) q) ∙ d .target)
+            n (sym (ap (λ (x : ℕ). kind-at w x) q) ∙ d .kind) (sym (ap (λ (x : ℕ). detail-at w x) q) ∙ d .target)
       ]
 
-  pub marked-other : {v : ℕ} {next : List Bool} → v ≡ field w i 0 → (v ≡ 1 → ⊥) → next ≡ named → Marked w next (i + 1)
+  pub marked-other : {v : ℕ} {next : List Bool} → v ≡ kind-at w i → (v ≡ 1 → ⊥) → next ≡ named → Marked w next (i + 1)
   marked-other hv n e = rw e (record { count = m .count; marks = λ f lt. still (getD named f false) (m .marks f lt) (λ x y. n (hv ∙ x)) })
 
-  flagged : {v t : ℕ} → v ≡ field w i 0 → v ≡ 1 → t ≡ field w i 4 → t < 16 → Marked w (set named t true) (i + 1)
+  flagged : {v t : ℕ} → v ≡ kind-at w i → v ≡ 1 → t ≡ detail-at w i → t < 16 → Marked w (set named t true) (i + 1)
   flagged {v} {t} hv k ht lt =
       let len = m .count in
       record {
@@ -197,7 +191,7 @@ module _ {w : List ℕ} {named : List Bool} {i : ℕ} (m : Marked w named i) whe
       }
 
   pub marked-call :
-      {v t : ℕ} {next : List Bool} → v ≡ field w i 0 → v ≡ 1 → t ≡ field w i 4 → field w i 4 ≤ 15 → next ≡ set named t true → Marked w next (i + 1)
+      {v t : ℕ} {next : List Bool} → v ≡ kind-at w i → v ≡ 1 → t ≡ detail-at w i → detail-at w i ≤ 15 → next ≡ set named t true → Marked w next (i + 1)
   marked-call {v} {t} hv k ht lt e = rw e (flagged hv k ht (omega arith))
 
 -- What a flag says once all records before e are read.

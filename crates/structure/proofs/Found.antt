@@ -5,8 +5,8 @@ use Prim.Native.Nat.{ℕ, suc, _+_, _-_, _≤_, _<_}
 use native.Mathlib.Omega.{arith}
 use native.Mathlib.Decide.{decLe, decLt}
 use Rattle.model.specs.Plan.{Lines, close, leaf-line, call-line, loop-line, if-line}
-use Rattle.rows.specs.Rows.{field, end-at, Rep, Rules, Part}
-use Rattle.structure.specs.Records.{Sound}
+use Rattle.rows.specs.Rows.{other-at, after-at, Rep, Rules, Part}
+use Rattle.structure.specs.Private.{Sound}
 use Rattle.structure.proofs.Deciding.{head-of, head-sound}
 
 -- The part that begins at the record j.
@@ -27,32 +27,32 @@ module _ (w hs : List ℕ) (j : ℕ) where
   find (leaf-line x r) left l i e h q a b =
       elim (decLe j i) [
         | yes z ↦ at-first left l i e (record { lines = leaf-line x r; rep = h; rules = q }) (omega arith) (omega arith)
-        | no z ↦ find r left l (end-at w i) e (h .4) (q .2) (omega arith) b
+        | no z ↦ find r left l (after-at w i) e (h .4) (q .2) (omega arith) b
       ]
   find (call-line x f r) left l i e h q a b =
       elim (decLe j i) [
         | yes z ↦ at-first left l i e (record { lines = call-line x f r; rep = h; rules = q }) (omega arith) (omega arith)
-        | no z ↦ find r left l (end-at w i) e (h .4) (q .4) (omega arith) b
+        | no z ↦ find r left l (after-at w i) e (h .4) (q .4) (omega arith) b
       ]
   find (loop-line x n body r) left l i e h q a b =
       elim (decLe j i) [
         | yes z ↦ at-first left l i e (record { lines = loop-line x n body r; rep = h; rules = q }) (omega arith) (omega arith)
         | no z ↦
-            elim (decLt j (end-at w i)) [
-              | yes y ↦ find body (left - 1) (suc l) (i + 1) (end-at w i) (h .3) (q .5) (omega arith) y
-              | no y ↦ find r left l (end-at w i) e (h .4) (q .6) (omega arith) b
+            elim (decLt j (after-at w i)) [
+              | yes y ↦ find body (left - 1) (suc l) (i + 1) (after-at w i) (h .3) (q .5) (omega arith) y
+              | no y ↦ find r left l (after-at w i) e (h .4) (q .6) (omega arith) b
             ]
       ]
   find (if-line x t s r) left l i e h q a b =
       elim (decLe j i) [
         | yes z ↦ at-first left l i e (record { lines = if-line x t s r; rep = h; rules = q }) (omega arith) (omega arith)
         | no z ↦
-            elim (decLt j (field w i 5)) [
-              | yes y ↦ find t (left - 2) l (i + 1) (field w i 5) (h .2) (q .3) (omega arith) y
+            elim (decLt j (other-at w i)) [
+              | yes y ↦ find t (left - 2) l (i + 1) (other-at w i) (h .2) (q .3) (omega arith) y
               | no y ↦
-                  elim (decLt j (end-at w i)) [
-                    | yes x ↦ find s (left - 2) l (field w i 5) (end-at w i) (h .3) (q .4) (omega arith) x
-                    | no x ↦ find r left l (end-at w i) e (h .4) (q .5) (omega arith) b
+                  elim (decLt j (after-at w i)) [
+                    | yes x ↦ find s (left - 2) l (other-at w i) (after-at w i) (h .3) (q .4) (omega arith) x
+                    | no x ↦ find r left l (after-at w i) e (h .4) (q .5) (omega arith) b
                   ]
             ]
       ]

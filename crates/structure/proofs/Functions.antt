@@ -1,76 +1,18 @@
--- Functions one after the other: their bounds, their heights and their rules. Assumes nothing.
+-- The functions of a plan are read one after the other: their heights and their rules. Assumes nothing.
 use mathlib.Core.Path.{_≡_, refl, sym, ap, _∙_}
 use mathlib.Core.List.{List, [], _∷_, _++_}
-use Prim.Native.Nat.{ℕ, zero, suc, _+_, _-_, _≤_, _<_}
+use Prim.Native.Nat.{ℕ, _+_, _<_}
 use native.Mathlib.Omega.{arith}
-use native.Mathlib.Nat.{not-suc-le-zero, le-of-suc-le-suc}
 use native.Mathlib.Numerals.{add-one}
 use lib.ListN.{length, getD, take, set, length-append}
 use lib.Seq.{take-suc, take-suc-set, take-all}
 use Rattle.model.specs.Plan.{Lines, close}
 use Rattle.model.specs.Levels.{height, heights}
-use Rattle.model.specs.Acceptance.{size, sizes, Function, Functions}
-use Rattle.rows.specs.Rows.{Rep, Part}
-use Rattle.structure.specs.Plans.{Lies, Bounds, Plan-of}
-use Rattle.structure.proofs.Measures.{rep-size, part-function, function-part}
-
-module _ (w s : List ℕ) where
-  -- The functions up to a bound have as many leaves as the bound says.
-  pub lies-sizes : (ls : List Lines) (f : ℕ) → Lies w s f ls → getD s (f + length ls) 0 ≡ getD s f 0 + sizes ls
-  unfolding Lies sizes
-  lies-sizes [] f h = let q : f + 0 ≡ f = omega arith in omega (arith, ap (λ (x : ℕ). getD s x 0) q)
-  lies-sizes (l ∷ ls) f h =
-      let q : f + suc (length ls) ≡ f + 1 + length ls = omega arith in
-      omega (arith, ap (λ (x : ℕ). getD s x 0) q, rep-size w l 1 (getD s f 0) (getD s (f + 1) 0) (h .0), lies-sizes ls (f + 1) (h .1))
-
-  -- One of them.
-  pub lies-at : (ls : List Lines) (f k : ℕ) → Lies w s f ls → k < length ls → Rep w 1 (getD s (f + k) 0) (getD s (f + k + 1) 0) (getD ls k close)
-  unfolding Lies
-  lies-at [] f k h lt = absurd (not-suc-le-zero lt)
-  lies-at (l ∷ ls) f zero h lt = let q : f + 0 ≡ f = omega arith in rw q (h .0)
-  lies-at (l ∷ ls) f (suc k) h lt =
-      let q : f + suc k ≡ f + 1 + k = omega arith in
-      rw q (lies-at ls (f + 1) k (h .1) (le-of-suc-le-suc lt))
-
-  -- One more at their end.
-  pub lies-more : (ls : List Lines) (l : Lines) (f : ℕ) → Lies w s f ls → Rep w 1 (getD s (f + length ls) 0) (getD s (f + length ls + 1) 0) l → Lies w s f (ls ++ (l ∷ []))
-  unfolding Lies
-  lies-more [] l f h r = let q : f + 0 ≡ f = omega arith in (rw q at r, tt)
-  lies-more (x ∷ ls) l f h r =
-      let q : f + suc (length ls) ≡ f + 1 + length ls = omega arith in
-      (h .0, lies-more ls l (f + 1) (h .1) (rw q at r))
-
-  -- Bounds do not fall.
-  lies-le : (ls : List Lines) (f k : ℕ) → Lies w s f ls → k ≤ length ls → getD s (f + k) 0 ≤ getD s (f + length ls) 0
-  unfolding Lies
-  lies-le ls f zero h le =
-      let q : f + 0 ≡ f = omega arith in
-      omega (arith, ap (λ (x : ℕ). getD s x 0) q, lies-sizes ls f h)
-  lies-le [] f (suc k) h le = absurd (not-suc-le-zero le)
-  lies-le (l ∷ ls) f (suc k) h le =
-      let q : f + suc k ≡ f + 1 + k = omega arith in
-      let p : f + suc (length ls) ≡ f + 1 + length ls = omega arith in
-      rw (q, p) (lies-le ls (f + 1) k (h .1) (le-of-suc-le-suc le))
-
-pub heights-more : (ls : List Lines) (l : Lines) (hs : List ℕ) → heights hs (ls ++ (l ∷ [])) ≡ heights hs ls ++ (height (heights hs ls) l ∷ [])
-unfolding heights
-heights-more [] l hs = refl
-heights-more (x ∷ ls) l hs = heights-more ls l (hs ++ (height hs x ∷ []))
-
-pub functions-more : (ls : List Lines) (l : Lines) (hs : List ℕ) (n : ℕ) → Functions hs n ls → Function (heights hs ls) (n + sizes ls) l → Functions hs n (ls ++ (l ∷ []))
-unfolding Functions heights sizes
-functions-more [] l hs n h f = let q : n + 0 ≡ n = omega arith in (rw q at f, tt)
-functions-more (x ∷ ls) l hs n h f =
-    let q : n + (size x + sizes ls) ≡ n + size x + sizes ls = omega arith in
-    (h .0, functions-more ls l (hs ++ (height hs x ∷ [])) (n + size x) (h .1) (rw q at f))
-
-pub functions-at : (ls : List Lines) (hs : List ℕ) (n k : ℕ) → Functions hs n ls → k < length ls → Function (heights hs (take k ls)) (n + sizes (take k ls)) (getD ls k close)
-unfolding Functions heights sizes
-functions-at [] hs n k h lt = absurd (not-suc-le-zero lt)
-functions-at (x ∷ ls) hs n zero h lt = let q : n + 0 ≡ n = omega arith in rw q (h .0)
-functions-at (x ∷ ls) hs n (suc k) h lt =
-    let q : n + (size x + sizes (take k ls)) ≡ n + size x + sizes (take k ls) = omega arith in
-    rw q (functions-at ls (hs ++ (height hs x ∷ [])) (n + size x) k (h .1) (le-of-suc-le-suc lt))
+use Rattle.model.specs.Acceptance.{sizes, Functions}
+use Rattle.rows.specs.Rows.{Part}
+use Rattle.rows.specs.Plans.{Lies, Bounds, Plan-of}
+use Rattle.rows.proofs.Measures.{part-function, function-part}
+use Rattle.rows.proofs.Plans.{lies-sizes, lies-at, lies-more, heights-more, functions-more, function-kept}
 
 -- The first f functions are read: they lie in the row, keep the rules, and these are their heights.
 pub record Read (w s hs : List ℕ) (f : ℕ) : Type 0 where
@@ -92,15 +34,6 @@ pub held-none : {w s : List ℕ} {n : ℕ} {hs : List ℕ} → Held w s n hs 0
 unfolding heights
 held-none = record { tall = λ p. refl }
 
--- A bound is not over the last.
-pub bound-le : {w s : List ℕ} {n f : ℕ} → Plan-of w s n → f < n → getD s (f + 1) 0 ≤ getD s n 0
-bound-le {w} {s} {n} {f} p lt =
-    let c = p .count in
-    let h = lies-le w s (p .functions) 0 (f + 1) (p .lie) (omega arith) in
-    let x : 0 + (f + 1) ≡ f + 1 = omega arith in
-    let y : 0 + length (p .functions) ≡ n = omega arith in
-    rw (x, y) at h
-
 -- A function of a plan, as a part of the row.
 abbrev pub plan-part :
     {w s hs : List ℕ} {n f from to : ℕ} (p : Plan-of w s n) → f < n → from ≡ getD s f 0 → to ≡ getD s (f + 1) 0 → Held w s n hs f
@@ -109,7 +42,7 @@ plan-part {w} {s} {hs} {n} {f} p lt hf ht h =
     let k : f < length (p .functions) = omega (arith, p .count) in
     let x : 0 + f ≡ f = omega arith in
     function-part (getD (p .functions) f close) (rw (hf, ht) (rw x at (lies-at w s (p .functions) 0 f (p .lie) k)))
-    (functions-at (p .functions) [] 0 f (p .kept) k) (sym (h .tall p))
+    (function-kept (p .functions) [] 0 f (p .kept) k) (sym (h .tall p))
 
 -- One function more, whose lines the row has from `from` up to `to` and whose height is h.
 module _

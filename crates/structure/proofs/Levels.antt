@@ -9,19 +9,19 @@ use lib.ListN.{getD}
 use borrow.Author.Tests.{eq-eqb, ne-eqb}
 use Rattle.model.specs.Plan.{Lines, close, leaf-line, call-line, loop-line, if-line}
 use Rattle.model.specs.Levels.{height}
-use Rattle.rows.specs.Rows.{field, end-at, Rep, Part}
+use Rattle.rows.specs.Rows.{kind-at, detail-at, other-at, after-at, level-at, Rep, Part}
 use Rattle.rows.proofs.Shape.{rep-le}
-use Rattle.structure.specs.Tops.{top, Readable}
+use Rattle.structure.specs.Private.{top, Readable}
 use Rattle.structure.proofs.Found.{found, found-sound}
 
 module _ (w hs : List ℕ) (i : ℕ) where
-  pub top-own : (field w i 0 ≡ 1 → ⊥) → top w hs i ≡ field w i 7
+  pub top-own : (kind-at w i ≡ 1 → ⊥) → top w hs i ≡ level-at w i
   unfolding top
-  top-own n = rw (ne-eqb (field w i 0) 1 n) (omega arith)
+  top-own n = rw (ne-eqb (kind-at w i) 1 n) (omega arith)
 
-  pub top-call : field w i 0 ≡ 1 → top w hs i ≡ field w i 7 + getD hs (field w i 4) 0
+  pub top-call : kind-at w i ≡ 1 → top w hs i ≡ level-at w i + getD hs (detail-at w i) 0
   unfolding top
-  top-call e = rw (eq-eqb (field w i 0) 1 e)
+  top-call e = rw (eq-eqb (kind-at w i) 1 e)
 
 module _ (w hs : List ℕ) where
   -- No record reaches over the height.
@@ -31,35 +31,35 @@ module _ (w hs : List ℕ) where
   over (leaf-line x r) l i e h j a b =
       elim (decLe j i) [
         | yes z ↦ let q : j ≡ i = omega arith in omega (arith, ap (top w hs) q, top-own w hs i (λ y. omega arith))
-        | no z ↦ omega (arith, over r l (end-at w i) e (h .4) j (omega arith) b)
+        | no z ↦ omega (arith, over r l (after-at w i) e (h .4) j (omega arith) b)
       ]
   over (call-line x f r) l i e h j a b =
       elim (decLe j i) [
         | yes z ↦
             let q : j ≡ i = omega arith in
-            let y : getD hs (field w i 4) 0 ≡ getD hs f 0 = rw (h .1) in
+            let y : getD hs (detail-at w i) 0 ≡ getD hs f 0 = rw (h .1) in
             omega (arith, ap (top w hs) q, top-call w hs i (h .0 .0))
-        | no z ↦ omega (arith, over r l (end-at w i) e (h .4) j (omega arith) b)
+        | no z ↦ omega (arith, over r l (after-at w i) e (h .4) j (omega arith) b)
       ]
   over (loop-line x n body r) l i e h j a b =
       elim (decLe j i) [
         | yes z ↦ let q : j ≡ i = omega arith in omega (arith, ap (top w hs) q, top-own w hs i (λ y. omega arith))
         | no z ↦
-            elim (decLt j (end-at w i)) [
-              | yes y ↦ omega (arith, over body (suc l) (i + 1) (end-at w i) (h .3) j (omega arith) y)
-              | no y ↦ omega (arith, over r l (end-at w i) e (h .4) j (omega arith) b)
+            elim (decLt j (after-at w i)) [
+              | yes y ↦ omega (arith, over body (suc l) (i + 1) (after-at w i) (h .3) j (omega arith) y)
+              | no y ↦ omega (arith, over r l (after-at w i) e (h .4) j (omega arith) b)
             ]
       ]
   over (if-line x t s r) l i e h j a b =
       elim (decLe j i) [
         | yes z ↦ let q : j ≡ i = omega arith in omega (arith, ap (top w hs) q, top-own w hs i (λ y. omega arith))
         | no z ↦
-            elim (decLt j (field w i 5)) [
-              | yes y ↦ omega (arith, over t l (i + 1) (field w i 5) (h .2) j (omega arith) y)
+            elim (decLt j (other-at w i)) [
+              | yes y ↦ omega (arith, over t l (i + 1) (other-at w i) (h .2) j (omega arith) y)
               | no y ↦
-                  elim (decLt j (end-at w i)) [
-                    | yes u ↦ omega (arith, over s l (field w i 5) (end-at w i) (h .3) j (omega arith) u)
-                    | no u ↦ omega (arith, over r l (end-at w i) e (h .4) j (omega arith) b)
+                  elim (decLt j (after-at w i)) [
+                    | yes u ↦ omega (arith, over s l (other-at w i) (after-at w i) (h .3) j (omega arith) u)
+                    | no u ↦ omega (arith, over r l (after-at w i) e (h .4) j (omega arith) b)
                   ]
             ]
       ]
@@ -69,33 +69,33 @@ module _ (w hs : List ℕ) where
   unfolding Rep height
   under m close l i e h z all = omega arith
   under m (leaf-line x r) l i e h z all =
-      let k = rep-le w l (end-at w i) e r (h .4) in
+      let k = rep-le w l (after-at w i) e r (h .4) in
       let u = all i (omega arith) (omega arith) in
-      let v = under m r l (end-at w i) e (h .4) z (λ j a b. all j (omega arith) b) in
+      let v = under m r l (after-at w i) e (h .4) z (λ j a b. all j (omega arith) b) in
       omega (arith, top-own w hs i (λ y. omega arith))
   under m (call-line x f r) l i e h z all =
-      let k = rep-le w l (end-at w i) e r (h .4) in
+      let k = rep-le w l (after-at w i) e r (h .4) in
       let u = all i (omega arith) (omega arith) in
-      let v = under m r l (end-at w i) e (h .4) z (λ j a b. all j (omega arith) b) in
-      let y : getD hs (field w i 4) 0 ≡ getD hs f 0 = rw (h .1) in
+      let v = under m r l (after-at w i) e (h .4) z (λ j a b. all j (omega arith) b) in
+      let y : getD hs (detail-at w i) 0 ≡ getD hs f 0 = rw (h .1) in
       omega (arith, top-call w hs i (h .0 .0))
   under m (loop-line x n body r) l i e h z all =
-      let k = rep-le w (suc l) (i + 1) (end-at w i) body (h .3) in
-      let o = rep-le w l (end-at w i) e r (h .4) in
+      let k = rep-le w (suc l) (i + 1) (after-at w i) body (h .3) in
+      let o = rep-le w l (after-at w i) e r (h .4) in
       let u = all i (omega arith) (omega arith) in
       let y = top-own w hs i (λ y. omega arith) in
-      let v = under m body (suc l) (i + 1) (end-at w i) (h .3) (omega arith) (λ j a b. all j (omega arith) (omega arith)) in
-      let t = under m r l (end-at w i) e (h .4) z (λ j a b. all j (omega arith) b) in
+      let v = under m body (suc l) (i + 1) (after-at w i) (h .3) (omega arith) (λ j a b. all j (omega arith) (omega arith)) in
+      let t = under m r l (after-at w i) e (h .4) z (λ j a b. all j (omega arith) b) in
       omega arith
   under m (if-line x t s r) l i e h z all =
-      let k = rep-le w l (i + 1) (field w i 5) t (h .2) in
-      let o = rep-le w l (field w i 5) (end-at w i) s (h .3) in
-      let p = rep-le w l (end-at w i) e r (h .4) in
+      let k = rep-le w l (i + 1) (other-at w i) t (h .2) in
+      let o = rep-le w l (other-at w i) (after-at w i) s (h .3) in
+      let p = rep-le w l (after-at w i) e r (h .4) in
       let u = all i (omega arith) (omega arith) in
       let y = top-own w hs i (λ y. omega arith) in
-      let a₁ = under m t l (i + 1) (field w i 5) (h .2) z (λ j a b. all j (omega arith) (omega arith)) in
-      let a₂ = under m s l (field w i 5) (end-at w i) (h .3) z (λ j a b. all j (omega arith) (omega arith)) in
-      let a₃ = under m r l (end-at w i) e (h .4) z (λ j a b. all j (omega arith) b) in
+      let a₁ = under m t l (i + 1) (other-at w i) (h .2) z (λ j a b. all j (omega arith) (omega arith)) in
+      let a₂ = under m s l (other-at w i) (after-at w i) (h .3) z (λ j a b. all j (omega arith) (omega arith)) in
+      let a₃ = under m r l (after-at w i) e (h .4) z (λ j a b. all j (omega arith) b) in
       omega arith
 
 -- h is the greatest reach of the records from i up to e, and 0 of none.
@@ -134,12 +134,12 @@ readable p j a b =
     record { low = omega (arith, s .placed .level, s .placed .low); known = λ x. s .call x .before; levels = λ x. rw (s .placed .level) (s .call x .levels) }
 
 -- How high a record reaches, by the numbers that the code read.
-pub reached-call : (w hs : List ℕ) (i : ℕ) {l f : ℕ} → l ≡ field w i 7 → field w i 0 ≡ 1 → f ≡ field w i 4 → l + getD hs f 0 ≡ top w hs i
+pub reached-call : (w hs : List ℕ) (i : ℕ) {l f : ℕ} → l ≡ level-at w i → kind-at w i ≡ 1 → f ≡ detail-at w i → l + getD hs f 0 ≡ top w hs i
 reached-call w hs i hl k hf = rw (hl, hf) (sym (top-call w hs i k))
 
-pub reached-own : (w hs : List ℕ) (i : ℕ) {l v : ℕ} → l ≡ field w i 7 → v ≡ field w i 0 → (v ≡ 1 → ⊥) → l ≡ top w hs i
+pub reached-own : (w hs : List ℕ) (i : ℕ) {l v : ℕ} → l ≡ level-at w i → v ≡ kind-at w i → (v ≡ 1 → ⊥) → l ≡ top w hs i
 reached-own w hs i hl hv k = hl ∙ sym (top-own w hs i (λ x. k (hv ∙ x)))
 
 -- The level that a call reaches is at most 32, by the numbers that the code read.
-pub call-low : {w hs : List ℕ} {i l f : ℕ} → Readable w hs i → l ≡ field w i 7 → field w i 0 ≡ 1 → f ≡ field w i 4 → l + getD hs f 0 ≤ 32
+pub call-low : {w hs : List ℕ} {i l f : ℕ} → Readable w hs i → l ≡ level-at w i → kind-at w i ≡ 1 → f ≡ detail-at w i → l + getD hs f 0 ≤ 32
 call-low r hl k hf = rw (hl, hf) (r .levels k)

@@ -1,11 +1,8 @@
 pub mod Deciding
 pub mod Found
 pub mod Levels
-pub mod Measures
 pub mod Functions
 pub mod Callers
-pub mod Sounds
-pub mod Hearing
-pub mod Listening
-pub mod Theorems
-pub mod Worked
+pub mod PointRecords
+pub mod Seeing
+pub mod AllSeen

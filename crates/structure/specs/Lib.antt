@@ -1,5 +1,2 @@
-pub mod Records
-pub mod Tops
 pub mod Plans
-pub mod Points
-pub mod Worked
+pub mod Private

@@ -1,36 +1,10 @@
--- Whether a row of numbers, with these function bounds, is the raw row of a plan. Assumes nothing: these are definitions.
-use Prim.Native.Nat.{ℕ, _+_, _*_, _≤_, _<_}
-use mathlib.Core.Path.{_≡_}
-use mathlib.Core.List.{List, [], _∷_}
-use lib.ListN.{length, getD}
-use Rattle.model.specs.Plan.{Lines}
-use Rattle.model.specs.Acceptance.{Functions, sizes, Seen-all, Called}
-use Rattle.rows.specs.Rows.{Rep}
+-- Whether a row of numbers, with these function bounds, is that of a plan that keeps rules 3 to 9. Assumes nothing: these are definitions.
+use Prim.Native.Nat.{ℕ}
+use mathlib.Core.List.{List, []}
+use Rattle.model.specs.Acceptance.{Seen-all, Called}
+use Rattle.rows.specs.Plans.{Plan-of}
 
--- The functions from number f on lie one after the other: the function f from its bound up to the next.
-unfoldable pub Lies : List ℕ → List ℕ → ℕ → List Lines → Type 0
-Lies w s f [] = Unit {0}
-Lies w s f (l ∷ ls) = Rep w 1 (getD s f 0) (getD s (f + 1) 0) l × Lies w s (f + 1) ls
-
--- The bounds of n functions: the first is 0, the last is the number of leaves, which the row holds, and those behind it are 0.
-pub record Bounds (w s : List ℕ) (n : ℕ) : Type 0 where
-  pub some : 1 ≤ n
-  pub few : n ≤ 16
-  pub first : getD s 0 0 ≡ 0
-  pub leaves : getD s n 0 ≤ 512
-  pub held : getD s n 0 * 8 ≤ length w
-  pub unused : (f : ℕ) → n < f → f ≤ 16 → getD s f 0 ≡ 0
-
--- The row with these bounds is that of n functions that keep rules 3 to 7.
-pub record Plan-of (w s : List ℕ) (n : ℕ) : Type 0 where
-  pub functions : List Lines
-  pub count : length functions ≡ n
-  pub bounds : Bounds w s n
-  pub lie : Lies w s 0 functions
-  pub kept : Functions [] 0 functions
-  pub small : sizes functions ≤ 512
-
--- And it keeps rules 8 and 9.
+-- The row is that of functions that keep rules 3 to 7, and they keep rules 8 and 9.
 pub record Structured (w s : List ℕ) (n : ℕ) : Type 0 where
   pub plan : Plan-of w s n
   pub seen : Seen-all [] (plan .functions)

@@ -1,72 +1,56 @@
 // Whether a row of numbers is the raw row of a plan that keeps rules 3 to 9.
 ghost use mathlib.Core.Path.{_≡_};
-ghost use mathlib.Core.Bool.{Bool, true, false};
+ghost use mathlib.Core.Bool.{true, false};
 ghost use Prim.Native.Nat.{ℕ, _+_, _*_, _≤_, _<_};
-ghost use mathlib.Core.List.{List, [], _∷_};
+ghost use mathlib.Core.List.{List, []};
 ghost use lib.ListN.{length, getD, take};
 ghost use Rattle.model.specs.Acceptance.{Called, Seen, Seen-all};
 ghost use Rattle.model.specs.Forms.{Forms, forms};
 ghost use Rattle.model.specs.Levels.{height, heights};
-ghost use Rattle.rows.specs.Rows.{field, Part};
+ghost use Rattle.rows.specs.Rows.{kind-at, detail-at, Part};
 ghost use Rattle.rows.specs.Answers.{Says};
-ghost use Rattle.structure.specs.Plans.{Bounds, Plan-of, Structured};
-ghost use Rattle.structure.specs.Points.{Text, Pointed, Flags, Loud, silent-end, Allowed};
-ghost use Rattle.structure.specs.Records.{Priced, Placed, Leaf-right, Call-right, Loop-right, If-right, Sound, Head};
-ghost use Rattle.structure.specs.Tops.{Readable, top};
+ghost use Rattle.rows.specs.Plans.{Bounds, Plan-of};
+ghost use Rattle.structure.specs.Plans.{Structured};
+ghost use Rattle.structure.specs.Private.{Text, Pointed, Flags, HasPoint, silent-end, Allowed, Block-right, Place-right, Leaf-right, Call-right, Loop-right, If-right, Sound, Whole-form, Readable, top};
+use rows::AFTER;
+use rows::BOUNDS;
+use rows::CALL;
+use rows::DETAIL;
+use rows::IF;
+use rows::INNER_BRACKETS;
+use rows::ISOLATED;
+use rows::KIND;
+use rows::LEAF;
+use rows::LEVEL;
+use rows::LOOP;
+use rows::MAX_COST;
+use rows::MAX_FUNCTIONS;
+use rows::MAX_LEAVES;
+use rows::MAX_LEVEL;
+use rows::MAX_LOAD;
+use rows::MAX_LOOP_BOUND;
+use rows::OTHER;
+use rows::POINT;
+use rows::STRIDE;
 use rows::after;
 use rows::get;
 use rows::index;
 use rows::larger;
 
-// The kinds of a record: leaf,
-const LEAF: u64 = 0;
-
-// call,
-const CALL: u64 = 1;
-
-// loop
-const LOOP: u64 = 2;
-
-// and if.
-const IF: u64 = 3;
-
-// The largest cost, 2^20.
-const COST: u64 = 1048576;
-
-// The largest bound of a loop.
-const TURNS: usize = 65535;
-
-// The highest level.
-const LEVELS: u64 = 32;
-
-// The most functions, and their bounds, one more.
-const FUNCTIONS: usize = 16;
-
-const BOUNDS: usize = 17;
-
-// The most leaves.
-const LEAVES: usize = 512;
-
-// The numbers of a record.
-const STRIDE: usize = 8;
-
-// The brackets that may open inside a function.
-const BRACKETS: usize = 62;
-
 // Whether the record i is a point or a silent one, and its costs keep rules 3 and 5.
 fn priced(row: &[u64], i: usize) -> bool
     requires { ⌜ i * 8 + 8 ≤ length (now row) ⌝ }
-    ensures { λ r. ⌜ Says r (Priced (now (row .entry)) i) ⌝ }
+    ensures { λ r. ⌜ Says r (Block-right (now (row .entry)) i) ⌝ }
 {
-    let c = get(row, i, 2);
-    let m = get(row, i, 3);
-    if 1 < get(row, i, 1) {
+    let c = get(row, i, ISOLATED);
+    let m = get(row, i, MAX_LOAD);
+    if 1 < get(row, i, POINT) {
         return false;
     }
-    if COST < c {
+    if MAX_COST < c {
         return false;
     }
-    if COST < m {
+    if MAX_COST < m {
         return false;
     }
     if m < c {
@@ -78,19 +62,19 @@ fn priced(row: &[u64], i: usize) -> bool
 // Whether the record i stands at level l, which is not too high, and its form ends after it begins and by `to`.
 fn placed(row: &[u64], i: usize, to: usize, l: u64) -> bool
     requires { ⌜ i * 8 + 8 ≤ length (now row) ⌝ }
-    ensures { λ r. ⌜ Says r (Placed (now (row .entry)) l i to) ⌝ }
+    ensures { λ r. ⌜ Says r (Place-right (now (row .entry)) l i to) ⌝ }
 {
-    let end = index(row, i, 6);
-    if get(row, i, 7) != l {
+    let after = index(row, i, AFTER);
+    if get(row, i, LEVEL) != l {
         return false;
     }
-    if LEVELS < l {
+    if MAX_LEVEL < l {
         return false;
     }
-    if end <= i {
+    if after <= i {
         return false;
     }
-    if to < end {
+    if to < after {
         return false;
     }
     true
@@ -101,14 +85,14 @@ fn leaf_right(row: &[u64], i: usize) -> bool
     requires { ⌜ i * 8 + 8 ≤ length (now row) ⌝ }
     ensures { λ r. ⌜ Says r (Leaf-right (now (row .entry)) i) ⌝ }
 {
-    let number = get(row, i, 4);
-    if number != 0 {
+    let detail = get(row, i, DETAIL);
+    if detail != 0 {
         return false;
     }
-    if get(row, i, 5) != 0 {
+    if get(row, i, OTHER) != 0 {
         return false;
     }
-    if index(row, i, 6) != i + 1 {
+    if index(row, i, AFTER) != i + 1 {
         return false;
     }
     true
@@ -119,20 +103,20 @@ fn call_right(row: &[u64], i: usize, l: u64, hs: &[u64]) -> bool
     requires { ⌜ (i * 8 + 8 ≤ length (now row)) × (l ≤ 32) ⌝ }
     ensures { λ r. ⌜ Says r (Call-right (now (row .entry)) (now (hs .entry)) l i) ⌝ }
 {
-    let f = index(row, i, 4);
-    if FUNCTIONS <= f {
+    let f = index(row, i, DETAIL);
+    if MAX_FUNCTIONS <= f {
         return false;
     }
     if hs.len() <= f {
         return false;
     }
-    if LEVELS - l < hs[f] {
+    if MAX_LEVEL - l < hs[f] {
         return false;
     }
-    if get(row, i, 5) != 0 {
+    if get(row, i, OTHER) != 0 {
         return false;
     }
-    if index(row, i, 6) != i + 1 {
+    if index(row, i, AFTER) != i + 1 {
         return false;
     }
     true
@@ -143,17 +127,17 @@ fn loop_right(row: &[u64], i: usize, left: usize) -> bool
     requires { ⌜ i * 8 + 8 ≤ length (now row) ⌝ }
     ensures { λ r. ⌜ Says r (Loop-right (now (row .entry)) left i) ⌝ }
 {
-    let n = index(row, i, 4);
+    let n = get(row, i, DETAIL);
     if n < 1 {
         return false;
     }
-    if TURNS < n {
+    if MAX_LOOP_BOUND < n {
         return false;
     }
     if left < 1 {
         return false;
     }
-    if get(row, i, 5) != 0 {
+    if get(row, i, OTHER) != 0 {
         return false;
     }
     true
@@ -164,17 +148,17 @@ fn if_right(row: &[u64], i: usize, left: usize) -> bool
     requires { ⌜ i * 8 + 8 ≤ length (now row) ⌝ }
     ensures { λ r. ⌜ Says r (If-right (now (row .entry)) left i) ⌝ }
 {
-    let mid = index(row, i, 5);
-    if get(row, i, 4) != 0 {
+    let other = index(row, i, OTHER);
+    if get(row, i, DETAIL) != 0 {
         return false;
     }
     if left < 2 {
         return false;
     }
-    if mid <= i {
+    if other <= i {
         return false;
     }
-    if index(row, i, 6) < mid {
+    if index(row, i, AFTER) < other {
         return false;
     }
     true
@@ -191,7 +175,7 @@ fn sound(row: &[u64], i: usize, to: usize, left: usize, l: u64, hs: &[u64]) -> b
     if !placed(row, i, to, l) {
         return false;
     }
-    let kind = get(row, i, 0);
+    let kind = get(row, i, KIND);
     if kind == LEAF {
         return leaf_right(row, i);
     }
@@ -210,22 +194,22 @@ fn sound(row: &[u64], i: usize, to: usize, left: usize, l: u64, hs: &[u64]) -> b
 // Whether one whole form begins at i, and ends by `to`.
 fn whole(row: &[u64], i: usize, to: usize, left: usize, l: u64, hs: &[u64]) -> bool
     requires { ⌜ (i < to) × (to * 8 ≤ length (now row)) ⌝ }
-    ensures { λ r. ⌜ Says r (Head (now (row .entry)) (now (hs .entry)) left l i to) ⌝ }
+    ensures { λ r. ⌜ Says r (Whole-form (now (row .entry)) (now (hs .entry)) left l i to) ⌝ }
 {
     if !sound(row, i, to, left, l, hs) {
         return false;
     }
-    let kind = get(row, i, 0);
-    let end = index(row, i, 6);
+    let kind = get(row, i, KIND);
+    let after = index(row, i, AFTER);
     if kind == LOOP {
-        return valid(row, i + 1, end, left - 1, l + 1, hs);
+        return valid(row, i + 1, after, left - 1, l + 1, hs);
     }
     if kind == IF {
-        let mid = index(row, i, 5);
-        if !valid(row, i + 1, mid, left - 2, l, hs) {
+        let other = index(row, i, OTHER);
+        if !valid(row, i + 1, other, left - 2, l, hs) {
             return false;
         }
-        return valid(row, mid, end, left - 2, l, hs);
+        return valid(row, other, after, left - 2, l, hs);
     }
     true
 }
@@ -251,9 +235,9 @@ fn reach(row: &[u64], i: usize, hs: &[u64]) -> u64
     requires { ⌜ (i * 8 + 8 ≤ length (now row)) × Readable (now row) (now hs) i ⌝ }
     ensures { λ r. ⌜ r ≡ top (now (row .entry)) (now (hs .entry)) i ⌝ }
 {
-    let l = get(row, i, 7);
-    if get(row, i, 0) == CALL {
-        let f = index(row, i, 4);
+    let l = get(row, i, LEVEL);
+    if get(row, i, KIND) == CALL {
+        let f = index(row, i, DETAIL);
         return l + hs[f];
     }
     l
@@ -288,7 +272,7 @@ fn unused(starts: &[u64; BOUNDS], n: usize) -> bool
     ensures { λ r. ⌜ Says r ((f : ℕ) → n < f → f ≤ 16 → getD (now (starts .entry)) f 0 ≡ 0) ⌝ }
 {
     let mut f = n + 1;
-    while f <= FUNCTIONS {
+    while f <= MAX_FUNCTIONS {
         if start(starts, f) != 0 {
             return false;
         }
@@ -304,14 +288,14 @@ fn bounded(row: &[u64], starts: &[u64; BOUNDS], n: usize) -> bool
     if n < 1 {
         return false;
     }
-    if FUNCTIONS < n {
+    if MAX_FUNCTIONS < n {
         return false;
     }
     if start(starts, 0) != 0 {
         return false;
     }
     let leaves = start(starts, n);
-    if LEAVES < leaves {
+    if MAX_LEAVES < leaves {
         return false;
     }
     if row.len() < leaves * STRIDE {
@@ -340,7 +324,7 @@ fn formed(row: &[u64], starts: &[u64; BOUNDS], n: usize, hs: &mut [u64]) -> bool
         if leaves < to {
             return false;
         }
-        if !valid(row, from, to, BRACKETS, 1, &hs[..f]) {
+        if !valid(row, from, to, INNER_BRACKETS, 1, &hs[..f]) {
             return false;
         }
         let h = tall(row, from, to, &hs[..f]);
@@ -356,11 +340,11 @@ pub fn called(row: &[u64], starts: &[u64; BOUNDS], n: usize) -> bool
     ensures { λ r. ⌜ ((p : Plan-of (now (row .entry)) (now (starts .entry)) n) → Says r (Called (p .functions))) ⌝ }
 {
     let leaves = start(starts, n);
-    let mut named = [false; FUNCTIONS];
+    let mut named = [false; MAX_FUNCTIONS];
     let mut i = 0;
     while i < leaves {
-        if get(row, i, 0) == CALL {
-            let f = index(row, i, 4);
+        if get(row, i, KIND) == CALL {
+            let f = index(row, i, DETAIL);
             named[f] = true;
         }
         i += 1;
@@ -376,83 +360,83 @@ pub fn called(row: &[u64], starts: &[u64; BOUNDS], n: usize) -> bool
 }
 
 // Whether the record i is a point, or calls a function that has one.
-fn noisy(row: &[u64], i: usize, loud: &[bool]) -> bool
+fn has_point(row: &[u64], i: usize, has: &[bool]) -> bool
     requires { ⌜ i * 8 + 8 ≤ length (now row) ⌝ }
-    requires { ⌜ (field (now row) i 0 ≡ 1 → field (now row) i 4 < length (now loud)) ⌝ }
-    ensures { λ r. ⌜ Says r (Loud (now (row .entry)) (now (loud .entry)) i) ⌝ }
+    requires { ⌜ (kind-at (now row) i ≡ 1 → detail-at (now row) i < length (now has)) ⌝ }
+    ensures { λ r. ⌜ Says r (HasPoint (now (row .entry)) (now (has .entry)) i) ⌝ }
 {
-    if get(row, i, 1) == 1 {
+    if get(row, i, POINT) == 1 {
         return true;
     }
-    if get(row, i, 0) == CALL {
-        let f = index(row, i, 4);
-        return loud[f];
+    if get(row, i, KIND) == CALL {
+        let f = index(row, i, DETAIL);
+        return has[f];
     }
     false
 }
 
-// Whether the record i may stand where silent loops reach up to `hush`.
-fn allowed(row: &[u64], i: usize, hush: usize, loud: &[bool]) -> bool
+// Whether the record i may stand where silent loops reach up to `until`.
+fn allowed(row: &[u64], i: usize, until: usize, has: &[bool]) -> bool
     requires { ⌜ i * 8 + 8 ≤ length (now row) ⌝ }
-    requires { ⌜ (field (now row) i 0 ≡ 1 → field (now row) i 4 < length (now loud)) ⌝ }
-    ensures { λ r. ⌜ Says r (Allowed (now (row .entry)) (now (loud .entry)) hush i) ⌝ }
+    requires { ⌜ (kind-at (now row) i ≡ 1 → detail-at (now row) i < length (now has)) ⌝ }
+    ensures { λ r. ⌜ Says r (Allowed (now (row .entry)) (now (has .entry)) until i) ⌝ }
 {
-    if !noisy(row, i, loud) {
+    if !has_point(row, i, has) {
         return true;
     }
-    if i < hush {
+    if i < until {
         return false;
     }
-    if get(row, i, 1) != 1 {
+    if get(row, i, POINT) != 1 {
         return false;
     }
     true
 }
 
 // How far silent loops reach, the record i among them.
-fn hushed(row: &[u64], i: usize, hush: usize) -> usize
+fn silent_until(row: &[u64], i: usize, until: usize) -> usize
     requires { ⌜ i * 8 + 8 ≤ length (now row) ⌝ }
-    ensures { λ r. ⌜ r ≡ Prim.Native.Nat.max hush (silent-end (now (row .entry)) i) ⌝ }
+    ensures { λ r. ⌜ r ≡ Prim.Native.Nat.max until (silent-end (now (row .entry)) i) ⌝ }
 {
-    if get(row, i, 1) != 0 {
-        return hush;
+    if get(row, i, POINT) != 0 {
+        return until;
     }
-    if get(row, i, 0) != LOOP {
-        return hush;
+    if get(row, i, KIND) != LOOP {
+        return until;
     }
-    let end = index(row, i, 6);
-    if hush < end { end } else { hush }
+    let after = index(row, i, AFTER);
+    if until < after { after } else { until }
 }
 
-// Whether a function keeps rule 8, where `loud` says which functions before it have a point.
-fn seen(row: &[u64], from: usize, to: usize, loud: &[bool]) -> bool
+// Whether a function keeps rule 8, where `has` says which functions before it have a point.
+fn seen(row: &[u64], from: usize, to: usize, has: &[bool]) -> bool
     requires { ⌜ to * 8 ≤ length (now row) ⌝ }
-    requires { ⌜ Text (now row) (length (now loud)) from to ⌝ }
-    ensures { λ r. ⌜ ((fs : List Forms) → Flags (now (loud .entry)) fs → (t : Text (now (row .entry)) (length (now (loud .entry))) from to)
+    requires { ⌜ Text (now row) (length (now has)) from to ⌝ }
+    ensures { λ r. ⌜ ((fs : List Forms) → Flags (now (has .entry)) fs → (t : Text (now (row .entry)) (length (now (has .entry))) from to)
         → Says r (Seen (forms fs (t .lines)))) ⌝ }
 {
-    let mut hush = 0;
+    let mut until = 0;
     let mut i = from;
     while i < to {
-        if !allowed(row, i, hush, loud) {
+        if !allowed(row, i, until, has) {
             return false;
         }
-        hush = hushed(row, i, hush);
+        until = silent_until(row, i, until);
         i += 1;
     }
     true
 }
 
 // Whether a function has a point, inside it or in what it calls.
-fn pointed(row: &[u64], from: usize, to: usize, loud: &[bool]) -> bool
+fn pointed(row: &[u64], from: usize, to: usize, has: &[bool]) -> bool
     requires { ⌜ to * 8 ≤ length (now row) ⌝ }
-    requires { ⌜ Text (now row) (length (now loud)) from to ⌝ }
-    ensures { λ r. ⌜ ((fs : List Forms) → Flags (now (loud .entry)) fs → (t : Text (now (row .entry)) (length (now (loud .entry))) from to)
+    requires { ⌜ Text (now row) (length (now has)) from to ⌝ }
+    ensures { λ r. ⌜ ((fs : List Forms) → Flags (now (has .entry)) fs → (t : Text (now (row .entry)) (length (now (has .entry))) from to)
         → Says r (Pointed (forms fs (t .lines)))) ⌝ }
 {
     let mut i = from;
     while i < to {
-        if noisy(row, i, loud) {
+        if has_point(row, i, has) {
             return true;
         }
         i += 1;
@@ -465,16 +449,16 @@ pub fn seen_all(row: &[u64], starts: &[u64; BOUNDS], n: usize) -> bool
     requires { ⌜ Plan-of (now row) (now starts) n ⌝ }
     ensures { λ r. ⌜ ((p : Plan-of (now (row .entry)) (now (starts .entry)) n) → Says r (Seen-all [] (p .functions))) ⌝ }
 {
-    let mut loud = [false; FUNCTIONS];
+    let mut has = [false; MAX_FUNCTIONS];
     let mut f = 0;
     while f < n {
         let from = start(starts, f);
         let to = start(starts, f + 1);
-        if !seen(row, from, to, &loud[..f]) {
+        if !seen(row, from, to, &has[..f]) {
             return false;
         }
-        let some = pointed(row, from, to, &loud[..f]);
-        loud[f] = some;
+        let some = pointed(row, from, to, &has[..f]);
+        has[f] = some;
         f += 1;
     }
     true

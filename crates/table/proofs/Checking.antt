@@ -14,13 +14,14 @@ use Rattle.model.proofs.Limits.{short-total}
 use Rattle.reader.proofs.Theorems.{row-length}
 use Rattle.rows.specs.Answers.{Says}
 use Rattle.structure.specs.Plans.{Structured}
-use Rattle.structure.proofs.Theorems.{plan-leaves, plan-unique}
+use Rattle.rows.proofs.Plans.{plan-leaves, plan-unique}
 use Rattle.table.specs.declared.Head.{Head}
 use Rattle.table.specs.Table.{Table, table-of, head-of, table-at, plan-of, found, good}
-use Rattle.table.specs.Deriving.{Ranged, Agrees}
+use Rattle.table.specs.Private.{HeadRanged, Agrees}
 use Rattle.table.proofs.Tests.{leb-exactly, both}
 use Rattle.table.proofs.Plans.{head-whole, same-whole, plan-of-exactly}
-use Rattle.table.proofs.Bridge.{plan-row, plan-bounds, accepted-structured, structured-accepted}
+use Rattle.rows.proofs.Storing.{plan-row}
+use Rattle.table.proofs.Bridge.{plan-bounds, accepted-structured, structured-accepted}
 
 -- A table of an accepted plan.
 abbrev pub Of-plan : Table → Type 0
@@ -43,7 +44,7 @@ module _ (row turns tails stretches : List ℕ) (h : Head) where
   used = take (h .leaves * 8) row
 
   -- The table of an accepted plan is in range,
-  pub plan-ranged : Of-plan lent → Ranged (length row) h
+  pub plan-ranged : Of-plan lent → HeadRanged (length row) h
   plan-ranged (p, a, e) =
       let k = ap (λ t. t .head) e in
       let f = a .formed in
@@ -91,7 +92,7 @@ module _ (row turns tails stretches : List ℕ) (h : Head) where
         record {
           fits = both _ _ (leb-exactly _ _) (leb-exactly _ _) .1 (short-total C (main stands-for) (2 ^ 40) .0 (a .short), short-total M (main stands-for) (2 ^ 40) .0 (a .short-loaded));
           total = ap (λ (x : Head). x .total) k;
-          loaded = ap (λ (x : Head). x .loaded) k;
+          max-load-total = ap (λ (x : Head). x .«max_load_total») k;
           stretch = ap (λ (x : Head). x .stretch) k;
           totals = ap (λ (x : Head). x .totals) k;
           turns-are = ap (λ (u : Table). u .turns) e;
@@ -100,7 +101,7 @@ module _ (row turns tails stretches : List ℕ) (h : Head) where
         }
 
     -- and where all of this holds, it is one.
-    pub agrees-plan : Ranged (length row) h → length (h .bounds) ≡ 17 → getD (h .bounds) (h .functions) 0 ≡ h .leaves → Agrees stands-for turns tails stretches h → Of-plan lent
+    pub agrees-plan : HeadRanged (length row) h → length (h .bounds) ≡ 17 → getD (h .bounds) (h .functions) 0 ≡ h .leaves → Agrees stands-for turns tails stretches h → Of-plan lent
     agrees-plan r wide end g =
         let (c, m) = both _ _ (leb-exactly (total C (main stands-for)) _) (leb-exactly (total M (main stands-for)) _) .0 (g .fits) in
         let held : length used ≡ getD (h .bounds) (h .functions) 0 * 8 = omega (arith, length-take (h .leaves * 8) row, r .held, end) in (
@@ -112,7 +113,7 @@ module _ (row turns tails stretches : List ℕ) (h : Head) where
             g .tails-are,
             g .stretches-are,
             head-whole h (head-of stands-for) (
-              (refl, refl, g .total, g .loaded),
+              (refl, refl, g .total, g .max-load-total),
               (g .stretch, sym end ∙ plan-leaves (q .plan), sym (q .plan .count), plan-bounds (q .plan) wide, g .totals),
             ),
           ),

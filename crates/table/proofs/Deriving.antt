@@ -8,7 +8,7 @@ use native.Mathlib.Decide.{decLt}
 use native.Mathlib.Omega.{arith}
 use lib.Dec.{eqb, leb}
 use lib.ListN.{length, getD, take, length-append, length-map, List·getD-eq-default}
-use lib.Seq.{length-take-le, ext-getD}
+use lib.Seq.{ext-getD}
 use borrow.Author.Tests.{eqb-true, le-leb, lt-leb}
 use Rattle.model.specs.Plan.{Block, C, M, Lines, close, leaf-line, call-line, loop-line, if-line, Plan, leaves, all-leaves}
 use Rattle.model.specs.Forms.{Forms, done, leaf, call, loop, cond, main}
@@ -16,7 +16,6 @@ use Rattle.model.specs.Runs.{Among}
 use Rattle.model.specs.Total.{total, tally, tallies}
 use Rattle.model.specs.Tail.{tail}
 use Rattle.model.specs.Stretch.{its, hit, silence, rounds-silence, rounds-stretch, stretch}
-use Rattle.model.specs.Levels.{heights}
 use Rattle.model.specs.Acceptance.{size, sizes, Formed, Accepted}
 use Rattle.model.specs.Places.{pick}
 use Rattle.model.specs.Static.{line-silence}
@@ -26,24 +25,24 @@ use Rattle.model.proofs.Statics.{plan-totals, main-last}
 use Rattle.model.proofs.Targets.{Turning, plan-below, plan-turning}
 use Rattle.model.proofs.Theorems.{long-by-total, static-stretches}
 use Rattle.reader.specs.Raw.{padded}
-use Rattle.structure.specs.Plans.{Plan-of, Structured}
-use Rattle.structure.proofs.Measures.{function-part}
-use Rattle.structure.proofs.Functions.{functions-at, bound-le}
-use Rattle.structure.proofs.Callers.{plan-rep}
-use Rattle.structure.proofs.Listening.{length-heights}
-use Rattle.columns.specs.Sums.{limit, cap, price}
-use Rattle.columns.specs.Columns.{column, turn, turns, Holds}
-use Rattle.columns.specs.Whole.{Funs, Measured, Summed, tailed, painted}
+use Rattle.rows.specs.Plans.{Plan-of, lines-of}
+use Rattle.structure.specs.Plans.{Structured}
+use Rattle.rows.specs.Turns.{turns-in}
+use Rattle.rows.proofs.Plans.{plan-rep, plan-own}
+use Rattle.columns.specs.Sums.{limit, cap}
+use Rattle.columns.specs.Columns.{column-of, held-turn, turns, Contains}
+use Rattle.columns.specs.Whole.{Measured, SummedBoth, tails-written, stretches-written}
 use Rattle.columns.proofs.Capped.{cap-low}
 use Rattle.columns.proofs.Sizes.{round-le}
 use Rattle.columns.proofs.Functions.{tally-same, turns-same}
-use Rattle.columns.proofs.Painting.{below-more}
-use Rattle.columns.proofs.Reading.{length-tailed, length-painted}
+use Rattle.columns.proofs.Written.{below-more}
+use Rattle.columns.proofs.Reading.{length-tails, length-stretches}
 use Rattle.columns.proofs.Meaning.{measured-totals, totals-summed, cs-known, tail-entry, stretch-entry, release-entry}
 use Rattle.table.specs.declared.Derived.{Derived}
-use Rattle.table.specs.Table.{turns-in, all-turns, all-tails, stretch-of}
+use Rattle.table.specs.Table.{all-turns, all-tails, stretch-of}
 use Rattle.table.specs.Accepting.{short?}
-use Rattle.table.specs.Deriving.{Wide, Numbers, Derives}
+use Rattle.table.specs.Reading.{Wide}
+use Rattle.table.specs.Private.{DerivedNumbers, Derives}
 use Rattle.table.proofs.Tests.{no-truth}
 use Rattle.reader.proofs.Tasks.{padded-same}
 use Rattle.table.proofs.Holding.{leaves-size, Marks, leaves-hold, marks-of, Joins, joined-take}
@@ -51,18 +50,18 @@ use Rattle.table.proofs.Holding.{leaves-size, Marks, leaves-hold, marks
 -- TURNS
 
 -- One number for each leaf.
-turns-size : (ts : List ℕ) (l : Lines) → length (turns-in ts l) ≡ size l
+turns-size : (ts : List ℕ) (l : Lines) → length (turns-in C ts l) ≡ size l
 unfolding turns-in size
 turns-size ts close = refl
 turns-size ts (leaf-line b r) = omega (arith, turns-size ts r)
 turns-size ts (call-line b f r) = omega (arith, turns-size ts r)
-turns-size ts (loop-line b n body r) = omega (arith, length-append (turns-in ts body) (turns-in ts r), turns-size ts body, turns-size ts r)
+turns-size ts (loop-line b n body r) = omega (arith, length-append (turns-in C ts body) (turns-in C ts r), turns-size ts body, turns-size ts r)
 turns-size ts (if-line b t e r) =
-    omega (arith, length-append (turns-in ts t) (turns-in ts e ++ turns-in ts r), length-append (turns-in ts e) (turns-in ts r), turns-size ts t, turns-size ts e, turns-size ts r)
+    omega (arith, length-append (turns-in C ts t) (turns-in C ts e ++ turns-in C ts r), length-append (turns-in C ts e) (turns-in C ts r), turns-size ts t, turns-size ts e, turns-size ts r)
 
 -- Where no total is over the limit, none of the rounds' sums is held.
-pub turns-exact : (ts : List ℕ) (l : Lines) → Turning l → tally C ts l ≤ limit → turns C ts l ≡ turns-in ts l
-unfolding column turn turns-in tally Turning
+pub turns-exact : (ts : List ℕ) (l : Lines) → Turning l → tally C ts l ≤ limit → turns C ts l ≡ turns-in C ts l
+unfolding column-of held-turn turns-in tally Turning
 turns-exact ts close t h = refl
 turns-exact ts (leaf-line b r) t h = ap (λ (z : List ℕ). 0 ∷ z) (turns-exact ts r t (omega arith))
 turns-exact ts (call-line b f r) t h = ap (λ (z : List ℕ). 0 ∷ z) (turns-exact ts r t (omega arith))
@@ -76,7 +75,7 @@ turns-exact ts (if-line b u s r) t h =
 -- THE THREE COLUMNS
 
 -- Each is put together from the columns of the functions.
-pub turns-join : (ts : List ℕ) → Joins (turns-in ts) (all-turns ts)
+pub turns-join : (ts : List ℕ) → Joins (turns-in C ts) (all-turns ts)
 unfolding all-turns
 turns-join ts = record { none = refl; more = λ l ls. refl; each = turns-size ts }
 
@@ -96,7 +95,7 @@ module _ (n : ℕ) where
   Mute b = b .number ≡ n → b .point ≡ false
 
   -- A visit of it shows nothing.
-  mute-hit : (b : Block) (e : ℕ) → Mute b → hit n b e ≡ 0
+  mute-hit : (b : Block) (e : ℕ) → Mute b → hit M n b e ≡ 0
   mute-hit b e h = go (b .point) (eqb (b .number) n) refl refl
     where
       go : (p q : Bool) → b .point ≡ p → eqb (b .number) n ≡ q → its (p && q) (M b + e) ≡ 0
@@ -105,50 +104,35 @@ module _ (n : ℕ) where
       go true true x y = let z = h (eqb-true (b .number) n y) in no-truth (sym z ∙ x)
 
   -- Nor do the visits of a loop whose body shows nothing.
-  mute-rounds : (b : Block) (f g : ℕ → ℕ) (e m : ℕ) → Mute b → ((u : ℕ) → g u ≡ 0) → rounds-stretch n b f g e m ≡ 0
+  mute-rounds : (b : Block) (f g : ℕ → ℕ) (e m : ℕ) → Mute b → ((u : ℕ) → g u ≡ 0) → rounds-stretch M n b f g e m ≡ 0
   unfolding rounds-stretch
   mute-rounds b f g e zero p h = mute-hit b e p
   mute-rounds b f g e (suc m) p h =
-      omega (arith, mute-hit b (max e (f (rounds-silence b f e m))) p, h (rounds-silence b f e m), mute-rounds b f g e m p h)
+      omega (arith, mute-hit b (max e (f (rounds-silence M b f e m))) p, h (rounds-silence M b f e m), mute-rounds b f g e m p h)
 
   -- A number that is no point's has no stretch.
-  mute-stretch : (fs : Forms) (e : ℕ) → Every Mute fs → stretch n fs e ≡ 0
+  mute-stretch : (fs : Forms) (e : ℕ) → Every Mute fs → stretch M n fs e ≡ 0
   unfolding stretch Every
   mute-stretch done e h = refl
-  mute-stretch (leaf b r) e h = omega (arith, mute-hit b (silence r e) (h .0), mute-stretch r e (h .1))
+  mute-stretch (leaf b r) e h = omega (arith, mute-hit b (silence M r e) (h .0), mute-stretch r e (h .1))
   mute-stretch (call b f r) e h =
-      omega (arith, mute-hit b (silence f (silence r e)) (h .0), mute-stretch f (silence r e) (h .1), mute-stretch r e (h .2))
+      omega (arith, mute-hit b (silence M f (silence M r e)) (h .0), mute-stretch f (silence M r e) (h .1), mute-stretch r e (h .2))
   mute-stretch (loop b m body r) e h =
       omega (
         arith,
-        mute-rounds b (λ k. silence body k) (λ k. stretch n body k) (silence r e) m (h .0) (λ u. mute-stretch body u (h .1)),
+        mute-rounds b (λ k. silence M body k) (λ k. stretch M n body k) (silence M r e) m (h .0) (λ u. mute-stretch body u (h .1)),
         mute-stretch r e (h .2),
       )
   mute-stretch (cond b t s r) e h =
       omega (
         arith,
-        mute-hit b (max (silence t (silence r e)) (silence s (silence r e))) (h .0),
-        mute-stretch t (silence r e) (h .1),
-        mute-stretch s (silence r e) (h .2),
+        mute-hit b (max (silence M t (silence M r e)) (silence M s (silence M r e))) (h .0),
+        mute-stretch t (silence M r e) (h .1),
+        mute-stretch s (silence M r e) (h .2),
         mute-stretch r e (h .3),
       )
 
--- THE FUNCTIONS OF A ROW
-
--- The first m functions of a plan, as its row holds them.
-abbrev pub funs-at : {w s : List ℕ} {n : ℕ} (q : Plan-of w s n) (m : ℕ) → m ≤ n → Funs w s m
-funs-at {w} {s} {n} q m le =
-    let ls = q .functions in
-    record {
-      lines = λ f. getD ls f close;
-      heights = λ f. heights [] (take f ls);
-      before = λ f lt. omega (arith, length-heights (take f ls) [], length-take-le f ls (omega (arith, q .count)));
-      rep = λ f lt. plan-rep q (omega arith);
-      rules = λ f lt. function-part (getD ls f close) (plan-rep q (omega arith)) (functions-at ls [] 0 f (q .kept) (omega (arith, q .count))) refl .rules;
-      inside = λ f lt.
-          let h = bound-le {f = f} q (omega arith) in
-          (omega (arith, q .bounds .held), omega (arith, q .bounds .leaves));
-    }
+-- A PLAN IN ITS ROW
 
 -- The totals of functions are as many as these.
 pub tallies-length : (k : Block → ℕ) (ts : List ℕ) (ls : List Lines) → length (tallies k ts ls) ≡ length ts + length ls
@@ -195,12 +179,12 @@ module _ {w s : List ℕ} {n : ℕ} (q : Structured w s n) where
   main-total k = plan-totals k plain (length ls - 1) (omega (arith, formed .some-function)) ∙ sym (ap (total k) (main-last plain))
 
   -- So its held total is the plan's, held.
-  held-total : {l : Bool} {ts o : List ℕ} → Measured l line s (length ls) ts o → getD ts (length ls - 1) 0 ≡ cap (total (price l) (main plain))
-  held-total {l} m =
-      measured-totals plain (λ f. refl) m (length ls - 1) (omega (arith, formed .some-function)) ∙ ap (λ (x : ℕ). cap x) (main-total (price l))
+  held-total : {k : Block → ℕ} {ts o : List ℕ} → Measured k line s (length ls) ts o → getD ts (length ls - 1) 0 ≡ cap (total k (main plain))
+  held-total {k} m =
+      measured-totals plain (λ f. refl) m (length ls - 1) (omega (arith, formed .some-function)) ∙ ap (λ (x : ℕ). cap x) (main-total k)
 
   -- Consider what is measured at both costs.
-  module _ {cs o ms b : List ℕ} (mc : Measured false line s (length ls) cs o) (mm : Measured true line s (length ls) ms b) where
+  module _ {cs o ms b : List ℕ} (mc : Measured C line s (length ls) cs o) (mm : Measured M line s (length ls) ms b) where
     -- A held total over the limit breaks rule 10.
     long-isolated : limit < getD cs (length ls - 1) 0 → short? plain ≡ false
     long-isolated h = rw (lt-leb (total C (main plain)) (2 ^ 40) (omega (arith, held-total mc)))
@@ -241,8 +225,8 @@ module _ {w s : List ℕ} {n : ℕ} (q : Structured w s n) where
           }
 
       -- The totals of all functions are exact.
-      abbrev pub summed : Summed w s (length ls) cs o ms b
-      summed = totals-summed (funs-at (q .plan) (length ls) (omega (arith, q .plan .count))) (q .called) mc mm h k
+      abbrev pub summed : SummedBoth w s (length ls) cs o ms b
+      summed = totals-summed (plan-own (q .plan)) (q .called) mc mm h k
 
       -- The isolated totals.
       abbrev ts : List ℕ
@@ -260,7 +244,7 @@ module _ {w s : List ℕ} {n : ℕ} (q : Structured w s n) where
           ]) ∙ sym (padded-same 16 ts j (omega arith)))
 
       -- The column of turns: at each function's bound, and whole.
-      turns-hold : (f : ℕ) → f < length ls → Holds o (getD s f 0) (turns-in ts (line f))
+      turns-hold : (f : ℕ) → f < length ls → Contains o (getD s f 0) (turns-in C ts (line f))
       turns-hold f lt =
           let v = summed in
           let below = below-more f (length ls) (line f) (omega arith) (plan-below plain formed f lt) in
@@ -274,52 +258,52 @@ module _ {w s : List ℕ} {n : ℕ} (q : Structured w s n) where
       turns-taken long = joined-take (turns-join ts) w s o ls (q .plan .lie) (q .plan .bounds .first) long turns-hold
 
       -- The column of tails.
-      tails-taken : (c : List ℕ) → length c ≡ 512 → take (sizes ls) (tailed cs line s (length ls) c) ≡ all-tails ts ls
+      tails-taken : (c : List ℕ) → length c ≡ 512 → take (sizes ls) (tails-written cs line s (length ls) c) ≡ all-tails ts ls
       tails-taken c wide =
-          let d = tailed cs line s (length ls) c in
-          joined-take (tails-join ts) w s d ls (q .plan .lie) (q .plan .bounds .first) (omega (arith, q .plan .small, length-tailed cs line s (length ls) c))
+          let d = tails-written cs line s (length ls) c in
+          joined-take (tails-join ts) w s d ls (q .plan .lie) (q .plan .bounds .first) (omega (arith, q .plan .small, length-tails cs line s (length ls) c))
           (λ f lt.
           leaves-hold (λ b. tail ts (b .number) (line f) 0) d w (line f) 1 (getD s f 0) (getD s (f + 1) 0) (plan-rep (q .plan) (omega (arith, q .plan .count)))
           (λ b m. tail-entry plain accepted summed (λ f. refl) c wide f lt b m))
 
       -- A silent leaf has no stretch.
-      silent-zero : (b : Block) → Among b (all-leaves ls) → (p : Bool) → b .point ≡ p → stretch (b .number) (main plain) 0 ≡ pick p (stretch (b .number) (main plain) 0) 0
+      silent-zero : (b : Block) → Among b (all-leaves ls) → (p : Bool) → b .point ≡ p → stretch M (b .number) (main plain) 0 ≡ pick p (stretch M (b .number) (main plain) 0) 0
       silent-zero b m true e = refl
       silent-zero b m false e =
           mute-stretch (b .number) (main plain) 0
           (every-main (Mute (b .number)) plain (λ c k i. ap (λ (y : Block). y .point) (among-number plain accepted c b k m i) ∙ e))
 
       -- The silence of a function, before what follows it.
-      abbrev hushes : ℕ → ℕ → ℕ
-      hushes f x = line-silence ms (line f) x
+      abbrev silences : ℕ → ℕ → ℕ
+      silences f x = line-silence M ms (line f) x
 
       -- The column of stretches.
-      pub stretches-taken : (c : List ℕ) → length c ≡ 512 → take (sizes ls) (painted ms hushes line s (length ls) (length ls) c) ≡ map (stretch-of plain) (all-leaves ls)
+      pub stretches-taken : (c : List ℕ) → length c ≡ 512 → take (sizes ls) (stretches-written M ms silences line s (length ls) (length ls) c) ≡ map (stretch-of plain) (all-leaves ls)
       stretches-taken c wide =
-          let d = painted ms hushes line s (length ls) (length ls) c in
+          let d = stretches-written M ms silences line s (length ls) (length ls) c in
           let marks : Marks (stretch-of plain) d (all-leaves ls) = λ b m.
           stretch-entry plain accepted summed (λ f. refl) c wide b m ∙ sym (static-stretches plain accepted (b .number)) ∙ silent-zero b m (b .point) refl in
           joined-take (leaves-join (stretch-of plain)) w s d ls (q .plan .lie) (q .plan .bounds .first)
-          (omega (arith, q .plan .small, length-painted ms hushes line s (length ls) (length ls) c))
+          (omega (arith, q .plan .small, length-stretches M ms silences line s (length ls) (length ls) c))
           (λ f lt.
           leaves-hold (stretch-of plain) d w (line f) 1 (getD s f 0) (getD s (f + 1) 0) (plan-rep (q .plan) (omega (arith, q .plan .count)))
           (marks-of (stretch-of plain) d ls marks f lt))
 
       -- The stretch of the release.
-      pub release-is : line-silence ms (line (length ls - 1)) 0 ≡ silence (main plain) 0
+      pub release-is : line-silence M ms (line (length ls - 1)) 0 ≡ silence M (main plain) 0
       release-is = release-entry plain accepted summed (λ f. refl)
 
 -- WHAT `measure` AND `derive` GIVE
 
 -- The totals at one cost, and the sums of the rounds.
-abbrev pub Gives : Bool → List ℕ → List ℕ → ℕ → List ℕ → List ℕ → Type 0
-Gives l w starts n ts o = (v : Funs w starts n) → Measured l (v .lines) starts n ts o
+abbrev pub Gives : (Block → ℕ) → List ℕ → List ℕ → ℕ → List ℕ → List ℕ → Type 0
+Gives k w starts n ts o = (v : Plan-of w starts n) → Measured k (lines-of v) starts n ts o
 
 -- The stretch r of the release, and the columns t and u with the tails and the stretches, over what they were.
 pub record Gave (w starts : List ℕ) (n : ℕ) (cs o ms b t₀ u₀ : List ℕ) (r : ℕ) (t u : List ℕ) : Type 0 where
-  pub release : (v : Summed w starts n cs o ms b) → r ≡ line-silence ms (v .funs .lines (n - 1)) 0
-  pub tails : (v : Summed w starts n cs o ms b) → t ≡ tailed cs (v .funs .lines) starts n t₀
-  pub stretches : (v : Summed w starts n cs o ms b) → u ≡ painted ms (λ f x. line-silence ms (v .funs .lines f) x) (v .funs .lines) starts n n u₀
+  pub release : (v : SummedBoth w starts n cs o ms b) → r ≡ line-silence M ms (lines-of (v .plan) (n - 1)) 0
+  pub tails : (v : SummedBoth w starts n cs o ms b) → t ≡ tails-written cs (lines-of (v .plan)) starts n t₀
+  pub stretches : (v : SummedBoth w starts n cs o ms b) → u ≡ stretches-written M ms (λ f x. line-silence M ms (lines-of (v .plan) f) x) (lines-of (v .plan)) starts n n u₀
 
 -- The totals have 16 places, with 0 behind the last function, and the columns are as long as they must be.
 pub record Room (n : ℕ) (cs o t₀ u₀ : List ℕ) : Type 0 where
@@ -330,23 +314,23 @@ pub record Room (n : ℕ) (cs o t₀ u₀ : List ℕ) : Type 0 where
   pub stretches : length u₀ ≡ 512
 
 -- The columns stay as long as they were.
-pub still-wide : {w starts cs o ms b t₀ u₀ t u : List ℕ} {n r : ℕ} → Summed w starts n cs o ms b → Room n cs o t₀ u₀ → Gave w starts n cs o ms b t₀ u₀ r t u → Wide o t u
+pub still-wide : {w starts cs o ms b t₀ u₀ t u : List ℕ} {n r : ℕ} → SummedBoth w starts n cs o ms b → Room n cs o t₀ u₀ → Gave w starts n cs o ms b t₀ u₀ r t u → Wide o t u
 still-wide {starts = starts} {cs = cs} {ms = ms} {t₀ = t₀} {u₀ = u₀} {n = n} v z g =
     record {
       turns-wide = z .turns;
-      tails-wide = ap length (g .tails v) ∙ (length-tailed cs (v .funs .lines) starts n t₀ ∙ z .tails);
+      tails-wide = ap length (g .tails v) ∙ (length-tails cs (lines-of (v .plan)) starts n t₀ ∙ z .tails);
       stretches-wide =
           ap length (g .stretches v) ∙
-          (length-painted ms (λ f x. line-silence ms (v .funs .lines f) x) (v .funs .lines) starts n n u₀ ∙ z .stretches);
+          (length-stretches M ms (λ f x. line-silence M ms (lines-of (v .plan) f) x) (lines-of (v .plan)) starts n n u₀ ∙ z .stretches);
     }
 
 -- The derived numbers of n functions whose totals are cs and ms; r is the stretch of the release.
 abbrev pub derived : List ℕ → List ℕ → ℕ → ℕ → Derived
-derived cs ms r n = record { fits = true; total = getD cs (n - 1) 0; loaded = getD ms (n - 1) 0; stretch = r; totals = cs }
+derived cs ms r n = record { fits = true; total = getD cs (n - 1) 0; «max_load_total» = getD ms (n - 1) 0; stretch = r; totals = cs }
 
 -- The row's functions, where the bounds are handed in as indexes.
-pub row-funs : {w s starts : List ℕ} {n : ℕ} → starts ≡ s → Structured w s n → Funs w starts n
-row-funs {n = n} e q = rw e (funs-at (q .plan) n (omega arith))
+pub row-plan : {w s starts : List ℕ} {n : ℕ} → starts ≡ s → Structured w s n → Plan-of w starts n
+row-plan e q = rw e (q .plan)
 
 -- Consider a row that keeps rules 3 to 9, and what `measure` and `derive` give for it.
 module _ {w s : List ℕ} {n : ℕ} (q : Structured w s n) where
@@ -355,44 +339,44 @@ module _ {w s : List ℕ} {n : ℕ} (q : Structured w s n) where
   moved K x e = subst (λ (t : List ℕ). K t n) (sym e) (subst (λ (m : ℕ). K s m) (q .plan .count) x)
 
   -- All functions of the row.
-  abbrev row : Funs w s (length (ls q))
-  row = funs-at (q .plan) (length (ls q)) (omega (arith, q .plan .count))
+  abbrev row : Plan-of w s (length (ls q))
+  row = plan-own (q .plan)
 
   module _ {cs o ms b : List ℕ} where
     -- What `derive` asks.
     pub row-summed :
-        {starts : List ℕ} → starts ≡ s → Gives false w starts n cs o → Gives true w starts n ms b → getD cs (n - 1) 0 ≤ limit → getD ms (n - 1) 0 ≤ limit
-        → Summed w starts n cs o ms b
+        {starts : List ℕ} → starts ≡ s → Gives C w starts n cs o → Gives M w starts n ms b → getD cs (n - 1) 0 ≤ limit → getD ms (n - 1) 0 ≤ limit
+        → SummedBoth w starts n cs o ms b
     row-summed =
-        moved (λ t m. Gives false w t m cs o → Gives true w t m ms b → getD cs (m - 1) 0 ≤ limit → getD ms (m - 1) 0 ≤ limit → Summed w t m cs o ms b)
+        moved (λ t m. Gives C w t m cs o → Gives M w t m ms b → getD cs (m - 1) 0 ≤ limit → getD ms (m - 1) 0 ≤ limit → SummedBoth w t m cs o ms b)
         (λ x y h k. summed q (x row) (y row) h k)
 
     module _ (p : Plan) (same : p .functions ≡ ls q) where
       -- A total over the limit breaks rule 10.
       pub row-long-isolated :
-          {starts : List ℕ} → starts ≡ s → Gives false w starts n cs o → Gives true w starts n ms b → limit < getD cs (n - 1) 0 → short? p ≡ false
+          {starts : List ℕ} → starts ≡ s → Gives C w starts n cs o → Gives M w starts n ms b → limit < getD cs (n - 1) 0 → short? p ≡ false
       row-long-isolated =
-          moved (λ t m. Gives false w t m cs o → Gives true w t m ms b → limit < getD cs (m - 1) 0 → short? p ≡ false)
+          moved (λ t m. Gives C w t m cs o → Gives M w t m ms b → limit < getD cs (m - 1) 0 → short? p ≡ false)
           (λ x y h. rw same (long-isolated q (x row) (y row) h))
 
       pub row-long-loaded :
-          {starts : List ℕ} → starts ≡ s → Gives false w starts n cs o → Gives true w starts n ms b → limit < getD ms (n - 1) 0 → short? p ≡ false
+          {starts : List ℕ} → starts ≡ s → Gives C w starts n cs o → Gives M w starts n ms b → limit < getD ms (n - 1) 0 → short? p ≡ false
       row-long-loaded =
-          moved (λ t m. Gives false w t m cs o → Gives true w t m ms b → limit < getD ms (m - 1) 0 → short? p ≡ false)
+          moved (λ t m. Gives C w t m cs o → Gives M w t m ms b → limit < getD ms (m - 1) 0 → short? p ≡ false)
           (λ x y h. rw same (long-loaded q (x row) (y row) h))
 
       module _ {t₀ u₀ t u : List ℕ} {r : ℕ} where
         -- The numbers, where the bounds are the row's own.
         numbers :
-            (x : Measured false (line q) s (length (ls q)) cs o) (y : Measured true (line q) s (length (ls q)) ms b)
+            (x : Measured C (line q) s (length (ls q)) cs o) (y : Measured M (line q) s (length (ls q)) ms b)
             → getD cs (length (ls q) - 1) 0 ≤ limit → getD ms (length (ls q) - 1) 0 ≤ limit → Room (length (ls q)) cs o t₀ u₀
-            → Gave w s (length (ls q)) cs o ms b t₀ u₀ r t u → Numbers p (derived cs ms r (length (ls q))) o t u
+            → Gave w s (length (ls q)) cs o ms b t₀ u₀ r t u → DerivedNumbers p (derived cs ms r (length (ls q))) o t u
         numbers x y h k z g =
             let v = summed q x y h k in
             rw same
             (record {
               total = exact-isolated q x y h k;
-              loaded = exact-loaded q x y h k;
+              max-load-total = exact-loaded q x y h k;
               stretch = g .release v ∙ release-is q x y h k;
               totals = totals-are q x y h k (z .long) (z .behind);
               turns-are = turns-taken q x y h k (omega (arith, q .plan .small, z .turns));
@@ -402,10 +386,10 @@ module _ {w s : List ℕ} {n : ℕ} (q : Structured w s n) where
 
         -- Totals within the limit keep rule 10, and the numbers are those of the plan's table.
         pub row-derives :
-            {starts : List ℕ} → starts ≡ s → Gives false w starts n cs o → Gives true w starts n ms b → getD cs (n - 1) 0 ≤ limit → getD ms (n - 1) 0 ≤ limit
+            {starts : List ℕ} → starts ≡ s → Gives C w starts n cs o → Gives M w starts n ms b → getD cs (n - 1) 0 ≤ limit → getD ms (n - 1) 0 ≤ limit
             → Room n cs o t₀ u₀ → Gave w starts n cs o ms b t₀ u₀ r t u → Derives p (derived cs ms r n) o t u
         row-derives =
-            moved (λ i m. Gives false w i m cs o → Gives true w i m ms b → getD cs (m - 1) 0 ≤ limit → getD ms (m - 1) 0 ≤ limit
+            moved (λ i m. Gives C w i m cs o → Gives M w i m ms b → getD cs (m - 1) 0 ≤ limit → getD ms (m - 1) 0 ≤ limit
             → Room m cs o t₀ u₀ → Gave w i m cs o ms b t₀ u₀ r t u → Derives p (derived cs ms r m) o t u)
             (λ x y h k z g.
             record { fits = rw same (sym (short q (x row) (y row) h k)); numbers = λ e. numbers (x row) (y row) h k z g })

@@ -1,6 +1,6 @@
 -- Turns, tails and isolated totals that fit where they stand are those of the plan's table, and those of the plan's table fit.
 -- Assumes nothing.
-use mathlib.Core.Bool.{true, false}
+use mathlib.Core.Bool.{true}
 use mathlib.Core.List.{List, [], map}
 use mathlib.Core.Path.{_≡_, refl, sym, ap, _∙_}
 use Prim.Native.Nat.{ℕ, _+_, _-_, _^_, _≤_, _<_}
@@ -20,38 +20,39 @@ use Rattle.reader.specs.Raw.{padded}
 use Rattle.reader.proofs.Tasks.{padded-same}
 use Rattle.rows.specs.Rows.{Rep}
 use Rattle.structure.specs.Plans.{Structured}
-use Rattle.structure.proofs.Measures.{rep-size}
-use Rattle.structure.proofs.Theorems.{plan-leaves}
+use Rattle.rows.proofs.Measures.{rep-size}
+use Rattle.rows.proofs.Plans.{plan-leaves, plan-rep, plan-own}
+use Rattle.rows.specs.Plans.{Plan-of, lines-of}
 use Rattle.columns.specs.Sums.{limit}
-use Rattle.columns.specs.Columns.{column, turns, tail-rule, Holds}
-use Rattle.columns.specs.Whole.{Funs, known, Measured, Costed, painted}
-use Rattle.columns.specs.Local.{Lent}
-use Rattle.columns.proofs.Stores.{holds-sets}
+use Rattle.columns.specs.Columns.{column-of, turns, tail-rule, Contains}
+use Rattle.columns.specs.Whole.{known, Measured, Summed, stretches-written}
+use Rattle.columns.specs.Local.{AllDerived}
+use Rattle.columns.proofs.Stores.{contains-sets}
 use Rattle.columns.proofs.Functions.{tally-same, turns-same, known-at, fun-below}
-use Rattle.columns.proofs.Painting.{below-more, loaded-of}
+use Rattle.columns.proofs.Written.{below-more, max-load-of}
 use Rattle.columns.proofs.Known.{Agree, tail-same, exact-known, exact-measured, known-tallies, main-most}
-use Rattle.columns.proofs.Looking.{fill-of, holds-look, tail-look}
-use Rattle.columns.proofs.Reading.{rep-spans, length-painted}
+use Rattle.columns.proofs.Looking.{fill-of, contains-look, tail-look}
+use Rattle.columns.proofs.Reading.{rep-spans, length-stretches}
 use Rattle.table.specs.declared.Head.{Head}
 use Rattle.table.specs.Table.{all-turns, all-tails, table-of}
 use Rattle.table.specs.Accepting.{short?}
-use Rattle.table.specs.Deriving.{Numbers, Derives, Agrees}
+use Rattle.table.specs.Private.{DerivedNumbers, Derives, Agrees}
 use Rattle.table.proofs.Tests.{leb-exactly, both}
 use Rattle.table.proofs.Holding.{leaves-size, Marks, leaves-hold, holds-one, joined-take, joined-part, joined-long}
 use Rattle.table.proofs.Deriving as derived-numbers
-use Rattle.table.proofs.Deriving.{turns-exact, turns-join, tails-join, tallies-length, funs-at, Gives, derived, moved, row-funs, row-summed}
+use Rattle.table.proofs.Deriving.{turns-exact, turns-join, tails-join, tallies-length, Gives, derived, moved, row-plan, row-summed}
 
 -- A column of tails has the tail of each leaf, in text order.
-tails-listed : (ts w : List ℕ) (v i e : ℕ) (l : Lines) → Rep w v i e l → column (tail-rule ts) l 0 ≡ map (λ b. tail ts (b .number) l 0) (leaves l)
+tails-listed : (ts w : List ℕ) (v i e : ℕ) (l : Lines) → Rep w v i e l → column-of (tail-rule ts) l 0 ≡ map (λ b. tail ts (b .number) l 0) (leaves l)
 tails-listed ts w v i e l r =
     let g : Block → ℕ = λ b. tail ts (b .number) l 0 in
-    let xs = column (tail-rule ts) l 0 in
+    let xs = column-of (tail-rule ts) l 0 in
     let fill = fill-of (tail-rule ts) w v i e l 0 r in
     let o = sets (replicate e 0) i xs in
-    let there : Holds o i xs = holds-sets xs (replicate e 0) i (omega (arith, fill, length-replicate {A = ℕ} e 0)) in
+    let there : Contains o i xs = contains-sets xs (replicate e 0) i (omega (arith, fill, length-replicate {A = ℕ} e 0)) in
     let marks : Marks g o (leaves l) = λ b m.
     let k = leaf-range l i e (rep-spans w v i e l r) b m in
-    holds-look xs o i (b .number) there (k .0) (omega (arith, k .1, fill)) ∙ sym (tail-look ts (b .number) w v i e l 0 r) in
+    contains-look xs o i (b .number) there (k .0) (omega (arith, k .1, fill)) ∙ sym (tail-look ts (b .number) w v i e l 0 r) in
     holds-one xs (map g (leaves l)) o i there (leaves-hold g o w l v i e r marks) (omega (arith, fill, rep-size w l v i e r, length-map (leaves l) g, leaves-size l))
 
 -- Consider a row that keeps rules 3 to 9.
@@ -68,8 +69,8 @@ module _ {w s : List ℕ} {n : ℕ} (q : Structured w s n) where
   abbrev ts : List ℕ
   ts = tallies C [] ls
 
-  abbrev own : Funs w s (length ls)
-  own = funs-at (q .plan) (length ls) (omega (arith, q .plan .count))
+  abbrev own : Plan-of w s (length ls)
+  own = plan-own (q .plan)
 
   count : length ts ≡ length ls
   count = tallies-length C [] ls ∙ omega arith
@@ -79,17 +80,17 @@ module _ {w s : List ℕ} {n : ℕ} (q : Structured w s n) where
 
   -- The tails by totals that agree with the plan's.
   tails-agreed : (cs : List ℕ) → Agree cs ts (length ls) → (f : ℕ) → f < length ls
-      → column (tail-rule cs) (line f) 0 ≡ map (λ b. tail ts (b .number) (line f) 0) (leaves (line f))
+      → column-of (tail-rule cs) (line f) 0 ≡ map (λ b. tail ts (b .number) (line f) 0) (leaves (line f))
   tails-agreed cs a f lt =
       let l = line f in
       let below = below-more f (length ls) l (omega arith) (fun-below own f lt) in
-      tails-listed cs w 1 (getD s f 0) (getD s (f + 1) 0) l (own .rep f lt) ∙
+      tails-listed cs w 1 (getD s f 0) (getD s (f + 1) 0) l (plan-rep {k = f} own lt) ∙
       ap (λ (g : Block → ℕ). map g (leaves l)) (λ i b. tail-same cs ts (length ls) (b .number) a l 0 below i)
 
   -- LENT NUMBERS THAT FIT
 
-  module _ {cs o t : List ℕ} (x : Lent line s (length ls) cs o t) where
-    measured : Measured false line s (length ls) cs o
+  module _ {cs o t : List ℕ} (x : AllDerived line s (length ls) cs o t) where
+    measured : Measured C line s (length ls) cs o
     measured = exact-measured own (x .exact)
 
     some : length ls - 1 < length ls
@@ -111,16 +112,16 @@ module _ {w s : List ℕ} {n : ℕ} (q : Structured w s n) where
     behind long f le = elim (decLt f 16) [ yes lt ↦ x .behind f le lt | no ge ↦ List·getD-eq-default cs 0 (omega arith) ]
 
     -- The numbers are those of the plan's table, where its stretches are derived.
-    module _ {ms b : List ℕ} (y : Measured true line s (length ls) ms b) (k : getD ms (length ls - 1) 0 ≤ limit) where
+    module _ {ms b : List ℕ} (y : Measured M line s (length ls) ms b) (k : getD ms (length ls - 1) 0 ≤ limit) where
       numbers :
-          (u₀ : List ℕ) {u : List ℕ} {r : ℕ} (p : Plan) → p .functions ≡ ls → length cs ≡ 16 → length u₀ ≡ 512 → r ≡ line-silence ms (line (length ls - 1)) 0
-          → u ≡ painted ms (λ f z. line-silence ms (line f) z) line s (length ls) (length ls) u₀ → Numbers p (derived cs ms r (length ls)) o t u
+          (u₀ : List ℕ) {u : List ℕ} {r : ℕ} (p : Plan) → p .functions ≡ ls → length cs ≡ 16 → length u₀ ≡ 512 → r ≡ line-silence M ms (line (length ls - 1)) 0
+          → u ≡ stretches-written M ms (λ f z. line-silence M ms (line f) z) line s (length ls) (length ls) u₀ → DerivedNumbers p (derived cs ms r (length ls)) o t u
       numbers u₀ p same long wide release stretches =
           let m = measured in
           rw same
           (record {
             total = derived-numbers.exact-isolated q m y low k;
-            loaded = derived-numbers.exact-loaded q m y low k;
+            max-load-total = derived-numbers.exact-loaded q m y low k;
             stretch = release ∙ derived-numbers.release-is q m y low k;
             totals = derived-numbers.totals-are q m y low k long (behind long);
             turns-are = derived-numbers.turns-taken q m y low k (omega (arith, x .turns-long, ends));
@@ -161,7 +162,7 @@ module _ {w s : List ℕ} {n : ℕ} (q : Structured w s n) where
           c,
         )
 
-    fitting : (o t : List ℕ) → short? plain ≡ true → take (sizes ls) o ≡ all-turns ts ls → take (sizes ls) t ≡ all-tails ts ls → Lent line s (length ls) cs o t
+    fitting : (o t : List ℕ) → short? plain ≡ true → take (sizes ls) o ≡ all-turns ts ls → take (sizes ls) t ≡ all-tails ts ls → AllDerived line s (length ls) cs o t
     fitting o t fits turns-are tails-are =
         let few = q .plan .bounds .few in
         record {
@@ -188,53 +189,53 @@ module _ {w s : List ℕ} {n : ℕ} (q : Structured w s n) where
 
 -- Lent numbers that fit.
 abbrev pub Fitting : List ℕ → List ℕ → ℕ → List ℕ → List ℕ → List ℕ → Type 0
-Fitting w starts n cs o t = (v : Funs w starts n) → Lent (v .lines) starts n cs o t
+Fitting w starts n cs o t = (v : Plan-of w starts n) → AllDerived (lines-of v) starts n cs o t
 
 -- They are as `measure` gives them.
-pub as-measured : {w starts cs o t : List ℕ} {n : ℕ} → Fitting w starts n cs o t → Gives false w starts n cs o
+pub as-measured : {w starts cs o t : List ℕ} {n : ℕ} → Fitting w starts n cs o t → Gives C w starts n cs o
 as-measured x v = exact-measured v (x v .exact)
 
 -- The column of stretches stays as long as it was.
-pub painted-wide :
+pub written-wide :
     (u₀ : List ℕ) {w starts ms b u : List ℕ} {n : ℕ} → length u₀ ≡ 512
-    → ((v : Costed true w starts n ms b) → u ≡ painted ms (λ f z. line-silence ms (v .funs .lines f) z) (v .funs .lines) starts n n u₀)
-    → Costed true w starts n ms b → length u ≡ 512
-painted-wide u₀ {starts = starts} {ms = ms} {n = n} wide h v =
-    ap length (h v) ∙ (length-painted ms (λ f z. line-silence ms (v .funs .lines f) z) (v .funs .lines) starts n n u₀ ∙ wide)
+    → ((v : Summed M w starts n ms b) → u ≡ stretches-written M ms (λ f z. line-silence M ms (lines-of (v .plan) f) z) (lines-of (v .plan)) starts n n u₀)
+    → Summed M w starts n ms b → length u ≡ 512
+written-wide u₀ {starts = starts} {ms = ms} {n = n} wide h v =
+    ap length (h v) ∙ (length-stretches M ms (λ f z. line-silence M ms (lines-of (v .plan) f) z) (lines-of (v .plan)) starts n n u₀ ∙ wide)
 
 module _ {w s : List ℕ} {n : ℕ} (q : Structured w s n) {starts : List ℕ} (e : starts ≡ s) where
   -- The total of the plan is within the limit.
   pub fitting-low : {cs o t : List ℕ} → Fitting w starts n cs o t → getD cs (n - 1) 0 ≤ limit
-  fitting-low x = x (row-funs e q) .exact .small (n - 1) (omega (arith, q .plan .bounds .some))
+  fitting-low x = x (row-plan e q) .exact .small (n - 1) (omega (arith, q .plan .bounds .some))
 
   -- What `stretches` asks.
-  pub fitting-costed : {cs o t ms b : List ℕ} → Fitting w starts n cs o t → Gives true w starts n ms b → getD ms (n - 1) 0 ≤ limit → Costed true w starts n ms b
-  fitting-costed x y k = loaded-of (row-summed q e (as-measured x) y (fitting-low x) k)
+  pub fitting-costed : {cs o t ms b : List ℕ} → Fitting w starts n cs o t → Gives M w starts n ms b → getD ms (n - 1) 0 ≤ limit → Summed M w starts n ms b
+  fitting-costed x y k = max-load-of (row-summed q e (as-measured x) y (fitting-low x) k)
 
   module _ (p : Plan) (same : p .functions ≡ q .plan .functions) where
     -- The numbers of the plan's table fit.
-    pub table-fits : {o t u : List ℕ} (h : Head) → sizes (p .functions) ≡ h .leaves → Agrees p o t u h → ((v : Funs w starts n) → Lent (v .lines) starts n (h .totals) o t → ⊥) → ⊥
+    pub table-fits : {o t u : List ℕ} (h : Head) → sizes (p .functions) ≡ h .leaves → Agrees p o t u h → ((v : Plan-of w starts n) → AllDerived (lines-of v) starts n (h .totals) o t → ⊥) → ⊥
     table-fits {o} {t} {u} h few g =
         let cut : (l : List ℕ) → take (sizes (q .plan .functions)) l ≡ take (h .leaves) l = λ l. ap (λ (m : ℕ). take m l) (sym (ap sizes same) ∙ few) in
         let turned : take (sizes (q .plan .functions)) o ≡ table-of p .turns = cut o ∙ g .turns-are in
-        let tailed : take (sizes (q .plan .functions)) t ≡ table-of p .tails = cut t ∙ g .tails-are in
-        let x = fitting q (rw same at (g .totals)) o t (rw same at (g .fits)) (rw same at turned) (rw same at tailed) in
-        moved q (λ i m. ((v : Funs w i m) → Lent (v .lines) i m (h .totals) o t → ⊥) → ⊥) (λ no. no (own q) x) e
+        let held : take (sizes (q .plan .functions)) t ≡ table-of p .tails = cut t ∙ g .tails-are in
+        let x = fitting q (rw same at (g .totals)) o t (rw same at (g .fits)) (rw same at turned) (rw same at held) in
+        moved q (λ i m. ((v : Plan-of w i m) → AllDerived (lines-of v) i m (h .totals) o t → ⊥) → ⊥) (λ no. no (own q) x) e
 
     -- Lent numbers that fit, and derived stretches, are those of the plan's table.
     pub fitting-derives :
-        (u₀ : List ℕ) {cs o t ms b u : List ℕ} {r : ℕ} → Fitting w starts n cs o t → Gives true w starts n ms b → getD ms (n - 1) 0 ≤ limit → length cs ≡ 16 → length u₀ ≡ 512
-        → ((v : Costed true w starts n ms b) → r ≡ line-silence ms (v .funs .lines (n - 1)) 0)
-        → ((v : Costed true w starts n ms b) → u ≡ painted ms (λ f z. line-silence ms (v .funs .lines f) z) (v .funs .lines) starts n n u₀)
+        (u₀ : List ℕ) {cs o t ms b u : List ℕ} {r : ℕ} → Fitting w starts n cs o t → Gives M w starts n ms b → getD ms (n - 1) 0 ≤ limit → length cs ≡ 16 → length u₀ ≡ 512
+        → ((v : Summed M w starts n ms b) → r ≡ line-silence M ms (lines-of (v .plan) (n - 1)) 0)
+        → ((v : Summed M w starts n ms b) → u ≡ stretches-written M ms (λ f z. line-silence M ms (lines-of (v .plan) f) z) (lines-of (v .plan)) starts n n u₀)
         → Derives p (derived cs ms r n) o t u
     fitting-derives u₀ {cs} {o} {t} {ms} {b} {u} {r} x y k long wide release stretches =
-        moved q (λ i m. Fitting w i m cs o t → Gives true w i m ms b → getD ms (m - 1) 0 ≤ limit
-        → ((v : Costed true w i m ms b) → r ≡ line-silence ms (v .funs .lines (m - 1)) 0)
-        → ((v : Costed true w i m ms b) → u ≡ painted ms (λ f z. line-silence ms (v .funs .lines f) z) (v .funs .lines) i m m u₀)
+        moved q (λ i m. Fitting w i m cs o t → Gives M w i m ms b → getD ms (m - 1) 0 ≤ limit
+        → ((v : Summed M w i m ms b) → r ≡ line-silence M ms (lines-of (v .plan) (m - 1)) 0)
+        → ((v : Summed M w i m ms b) → u ≡ stretches-written M ms (λ f z. line-silence M ms (lines-of (v .plan) f) z) (lines-of (v .plan)) i m m u₀)
         → Derives p (derived cs ms r m) o t u)
         (λ x y k release stretches.
         let v = own q in
-        let c = loaded-of (derived-numbers.summed q (measured q (x v)) (y v) (low q (x v)) k) in
+        let c = max-load-of (derived-numbers.summed q (measured q (x v)) (y v) (low q (x v)) k) in
         record {
           fits = rw same (sym (derived-numbers.short q (measured q (x v)) (y v) (low q (x v)) k));
           numbers = λ _. numbers q (x v) (y v) k u₀ p same long wide (release c) (stretches c);

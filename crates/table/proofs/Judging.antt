@@ -6,26 +6,22 @@ use mathlib.Core.Path.{_≡_, refl, ap, sym, _∙_, subst}
 use Prim.Native.Nat.{ℕ, _-_, _*_, _≤_}
 use native.Mathlib.Omega.{arith}
 use lib.ListN.{length, take}
-use lib.Seq.{sets}
 use Rattle.model.specs.Plan.{Lines, Plan}
-use Rattle.model.specs.Acceptance.{sizes, Formed, Seen-all, Called}
-use Rattle.model.specs.Places.{pick}
+use Rattle.model.specs.Acceptance.{sizes, Seen-all, Called}
 use Rattle.reader.specs.declared.Answer.{Answer}
 use Rattle.reader.specs.declared.Answer.the-variants.{Accepted, Refused}
 use Rattle.reader.specs.declared.Raw.{Raw}
 use Rattle.reader.specs.Outcome.{Outcome, plan, refused}
-use Rattle.reader.specs.Records.{row-of, bounds-of}
-use Rattle.reader.specs.Raw.{padded, raw-of}
-use Rattle.reader.proofs.Theorems.{row-length}
-use Rattle.structure.specs.Plans.{Plan-of, Structured}
+use Rattle.rows.specs.Records.{row-of}
+use Rattle.reader.specs.Raw.{raw-of}
+use Rattle.rows.specs.Plans.{Plan-of}
 use Rattle.table.specs.declared.Head.{Head}
 use Rattle.table.specs.declared.Verdict.{Verdict}
 use Rattle.table.specs.declared.Derived.{Derived}
 use Rattle.table.specs.Accepting.{seen-all?, called-from?, short?}
 use Rattle.table.specs.Table.{table-of, head-of}
-use Rattle.table.specs.Reading.{judged, after-lines, verdict-of}
-use Rattle.table.specs.Deriving.{Numbers, Derives, Came, Filled, headed}
-use Rattle.table.proofs.Tests.{no-truth}
+use Rattle.table.specs.Reading.{judged, after-lines, verdict-of, RawOf, ColumnsWritten}
+use Rattle.table.specs.Private.{DerivedNumbers, headed}
 use Rattle.table.proofs.Accepting.{seen-all-exactly, called-exactly}
 use Rattle.table.proofs.Plans.{head-whole}
 use Rattle.table.proofs.Bridge.{formed-plan}
@@ -65,7 +61,7 @@ pub record Given (o : Outcome) (raw : Raw) (row : List ℕ) : Type 0 where
 pub not-accepted : {A : Type 0} {k j : ℕ} → Refused k j ≡ Accepted → A
 not-accepted e = absurd (let z : _≡_ {A = ℕ} 0 1 = cc in omega arith)
 
-pub given : (o : Outcome) {raw : Raw} {row : List ℕ} → Came o raw row → raw .answer ≡ Accepted → Given o raw row
+pub given : (o : Outcome) {raw : Raw} {row : List ℕ} → RawOf o raw row → raw .answer ≡ Accepted → Given o raw row
 given (refused k j) c e = not-accepted (sym (ap (λ (r : Raw). r .answer) (c .raw-is)) ∙ e)
 given (plan p) {raw} {row} c e =
     let f = c .formed p refl in
@@ -77,7 +73,7 @@ given (plan p) {raw} {row} c e =
     record { of = p; is = refl; read = read .0; same = sym (read .1); count = n; begins = w; few = f .few-leaves }
 
 -- Lines that were refused gave a refusal, which stays.
-pub not-given : (o : Outcome) {raw : Raw} {row : List ℕ} (h : Head) {k j : ℕ} → Came o raw row → raw .answer ≡ Refused k j →
+pub not-given : (o : Outcome) {raw : Raw} {row : List ℕ} (h : Head) {k j : ℕ} → RawOf o raw row → raw .answer ≡ Refused k j →
     record { answer = Refused k j; head = h } ≡ verdict-of (after-lines o) h
 not-given (plan p) h c e = not-accepted (sym e ∙ ap (λ (r : Raw). r .answer) (c .raw-is))
 not-given (refused k j) h c e = ap (λ (a : Answer). record { answer = a; head = h }) (sym e ∙ ap (λ (r : Raw). r .answer) (c .raw-is))
@@ -86,10 +82,10 @@ no-plan : {A : Type 0} {k j : ℕ} {p : Plan} → refused k j ≡ plan p → A
 no-plan e = absurd (let z : _≡_ {A = ℕ} 0 1 = cc in omega arith)
 
 -- Nothing is asked of the columns of a refused plan.
-pub nothing-filled : (o : Outcome) {k j : ℕ} {t u v : List ℕ} → o ≡ refused k j → Filled o t u v
+pub nothing-filled : (o : Outcome) {k j : ℕ} {t u v : List ℕ} → o ≡ refused k j → ColumnsWritten o t u v
 nothing-filled o e = record { turns-are = λ p x. no-plan (sym e ∙ x); tails-are = λ p x. no-plan (sym e ∙ x); stretches-are = λ p x. no-plan (sym e ∙ x) }
 
-pub refusal-filled : (o : Outcome) {raw : Raw} {row : List ℕ} {k j : ℕ} {t u v : List ℕ} → Came o raw row → raw .answer ≡ Refused k j → Filled (after-lines o) t u v
+pub refusal-filled : (o : Outcome) {raw : Raw} {row : List ℕ} {k j : ℕ} {t u v : List ℕ} → RawOf o raw row → raw .answer ≡ Refused k j → ColumnsWritten (after-lines o) t u v
 refusal-filled (plan p) c e = not-accepted (sym e ∙ ap (λ (r : Raw). r .answer) (c .raw-is))
 refusal-filled (refused k j) c e = nothing-filled (refused k j) refl
 
@@ -100,7 +96,7 @@ pub refuses : (o : Outcome) {raw : Raw} {row : List ℕ} (g : Given o raw row) (
     r ≡ verdict-of (after-lines o) h
 refuses o g h k e x = x ∙ ap (λ (y : Outcome). verdict-of y h) (sym (ap (λ (y : Outcome). after-lines y) (g .is) ∙ e))
 
-pub refuses-filled : (o : Outcome) {raw : Raw} {row : List ℕ} (g : Given o raw row) {k : ℕ} {t u v : List ℕ} → judged (g .of) ≡ refused k 0 → Filled (after-lines o) t u v
+pub refuses-filled : (o : Outcome) {raw : Raw} {row : List ℕ} (g : Given o raw row) {k : ℕ} {t u v : List ℕ} → judged (g .of) ≡ refused k 0 → ColumnsWritten (after-lines o) t u v
 refuses-filled o g e = nothing-filled (after-lines o) (ap (λ (y : Outcome). after-lines y) (g .is) ∙ e)
 
 -- The rules that a structured row keeps are kept by the plan that was read.
@@ -117,22 +113,22 @@ pub called-plan : {o : Outcome} {raw : Raw} {row : List ℕ} (g : Given o raw ro
 called-plan g s = subst (λ (ls : List Lines). Called ls) (g .same) s
 
 -- An acceptance: the head is the plan's,
-head-given : (p : Plan) (raw : Raw) (d : Derived) {t u v : List ℕ} → raw ≡ raw-of (plan p) → Numbers p d t u v → headed raw d ≡ head-of p
+head-given : (p : Plan) (raw : Raw) (d : Derived) {t u v : List ℕ} → raw ≡ raw-of (plan p) → DerivedNumbers p d t u v → headed raw d ≡ head-of p
 head-given p raw d e n =
     head-whole (headed raw d) (head-of p) (
-      (ap (λ (r : Raw). r .deadline) e, ap (λ (r : Raw). r .switch) e, n .total, n .loaded),
+      (ap (λ (r : Raw). r .deadline) e, ap (λ (r : Raw). r .switch) e, n .total, n .max-load-total),
       (n .stretch, ap (λ (r : Raw). r .leaves) e, ap (λ (r : Raw). r .functions) e, ap (λ (r : Raw). r .bounds) e, n .totals),
     )
 
-pub accepts : (o : Outcome) {raw : Raw} {row : List ℕ} (c : Came o raw row) (g : Given o raw row) (h k : Head) {d : Derived} {t u v : List ℕ} → judged (g .of) ≡ plan (g .of)
-    → Numbers (g .of) d t u v → k ≡ headed raw d → record { answer = Accepted; head = k } ≡ verdict-of (after-lines o) h
+pub accepts : (o : Outcome) {raw : Raw} {row : List ℕ} (c : RawOf o raw row) (g : Given o raw row) (h k : Head) {d : Derived} {t u v : List ℕ} → judged (g .of) ≡ plan (g .of)
+    → DerivedNumbers (g .of) d t u v → k ≡ headed raw d → record { answer = Accepted; head = k } ≡ verdict-of (after-lines o) h
 accepts o {raw} c g h k {d} e n x =
     ap (λ (y : Head). record { answer = Accepted; head = y }) (x ∙ head-given (g .of) raw d (c .raw-is ∙ ap (λ (y : Outcome). raw-of y) (g .is)) n) ∙
     ap (λ (y : Outcome). verdict-of y h) (sym (ap (λ (y : Outcome). after-lines y) (g .is) ∙ e))
 
 -- and its columns are filled.
 pub accepts-filled : (o : Outcome) {raw : Raw} {row : List ℕ} (g : Given o raw row) {d : Derived} {t u v : List ℕ} → judged (g .of) ≡ plan (g .of)
-    → Numbers (g .of) d t u v → Filled (after-lines o) t u v
+    → DerivedNumbers (g .of) d t u v → ColumnsWritten (after-lines o) t u v
 accepts-filled o g {d} {t} {u} {v} e n =
     let z = ap (λ (y : Outcome). after-lines y) (g .is) ∙ e in
     record {

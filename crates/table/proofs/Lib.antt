@@ -1,7 +1,6 @@
 pub mod Tests
 pub mod Lists
 pub mod Accepting
-pub mod Storing
 pub mod Bridge
 pub mod Plans
 pub mod Reading

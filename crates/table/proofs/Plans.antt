@@ -10,7 +10,7 @@ use lib.Dec.{eqb}
 use Rattle.model.specs.Plan.{Plan}
 use Rattle.model.specs.Acceptance.{Formed, Accepted}
 use Rattle.model.specs.Places.{pick}
-use Rattle.structure.proofs.Theorems.{plan-read}
+use Rattle.rows.proofs.Plans.{plan-read}
 use Rattle.table.specs.Accepting.{accepted?}
 use Rattle.table.specs.declared.Head.{Head}
 use Rattle.table.specs.Table.{Table, table-of, plan-at, same-numbers, same-head, same-table, plan-of}
@@ -35,13 +35,13 @@ same-list (n ∷ u) (m ∷ v) =
 
 abbrev pub SameHead : Head → Head → Type 0
 SameHead h k =
-    ((h .deadline ≡ k .deadline) × (h .switch ≡ k .switch) × (h .total ≡ k .total) × (h .loaded ≡ k .loaded)) ×
+    ((h .deadline ≡ k .deadline) × (h .switch ≡ k .switch) × (h .total ≡ k .total) × (h .«max_load_total» ≡ k .«max_load_total»)) ×
     ((h .stretch ≡ k .stretch) × (h .leaves ≡ k .leaves) × (h .functions ≡ k .functions) × (h .bounds ≡ k .bounds) × (h .totals ≡ k .totals))
 
 head-parts : (h k : Head) → (same-head h k ≡ true) ↔ SameHead h k
 head-parts h k =
     both _ _
-    (four _ _ _ _ (eqb-exactly (h .deadline) (k .deadline)) (eqb-exactly (h .switch) (k .switch)) (eqb-exactly (h .total) (k .total)) (eqb-exactly (h .loaded) (k .loaded)))
+    (four _ _ _ _ (eqb-exactly (h .deadline) (k .deadline)) (eqb-exactly (h .switch) (k .switch)) (eqb-exactly (h .total) (k .total)) (eqb-exactly (h .«max_load_total») (k .«max_load_total»)))
     (five _ _ _ _ _ (eqb-exactly (h .stretch) (k .stretch)) (eqb-exactly (h .leaves) (k .leaves)) (eqb-exactly (h .functions) (k .functions)) (same-list (h .bounds) (k .bounds)) (same-list (h .totals) (k .totals)))
 
 pub head-whole : (h k : Head) → SameHead h k → h ≡ k
@@ -50,7 +50,7 @@ head-whole h k ((a, b, c, d), (e, f, g, i, j)) = λ x.
       deadline = a x;
       switch = b x;
       total = c x;
-      loaded = d x;
+      «max_load_total» = d x;
       stretch = e x;
       leaves = f x;
       functions = g x;
@@ -60,7 +60,7 @@ head-whole h k ((a, b, c, d), (e, f, g, i, j)) = λ x.
 
 head-refl : (h k : Head) → h ≡ k → SameHead h k
 head-refl h k e = (
-  (ap (λ x. x .deadline) e, ap (λ x. x .switch) e, ap (λ x. x .total) e, ap (λ x. x .loaded) e),
+  (ap (λ x. x .deadline) e, ap (λ x. x .switch) e, ap (λ x. x .total) e, ap (λ x. x .«max_load_total») e),
   (ap (λ x. x .stretch) e, ap (λ x. x .leaves) e, ap (λ x. x .functions) e, ap (λ x. x .bounds) e, ap (λ x. x .totals) e),
 )
 

@@ -4,7 +4,7 @@ use mathlib.Core.Bool.{Bool, true, false, _&&_, _||_, not}
 use mathlib.Core.List.{List, [], _∷_, _++_}
 use Prim.Native.Nat.{ℕ, zero, suc, _+_, _-_, _^_}
 use lib.Dec.{eqb, leb, ltb}
-use lib.ListN.{length, getD}
+use lib.ListN.{length}
 use Rattle.model.specs.Plan.{Block, C, M, Lines, close, leaf-line, call-line, loop-line, if-line, Plan}
 use Rattle.model.specs.Forms.{Forms, done, leaf, call, loop, cond, forms, main}
 use Rattle.model.specs.Total.{total}

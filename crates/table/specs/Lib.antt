@@ -1,4 +1,4 @@
 pub mod Accepting
 pub mod Table
 pub mod Reading
-pub mod Deriving
+pub mod Private

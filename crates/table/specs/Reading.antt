@@ -1,14 +1,19 @@
 -- Reading a plan whole (01, 'Calls'): 1; then line by line, in a line 2 to 7; then 8, 9, 10, with line 0.
 -- Assumes nothing: these are definitions.
 use mathlib.Core.List.{List, []}
-use Prim.Native.Nat.{ℕ, _-_}
-use lib.ListN.{length}
+use mathlib.Core.Path.{_≡_}
+use Prim.Native.Nat.{ℕ, _-_, _*_}
+use lib.ListN.{length, take}
 use Rattle.model.specs.Plan.{Plan}
+use Rattle.model.specs.Acceptance.{sizes, Formed}
 use Rattle.model.specs.Places.{pick}
 use lib.Seq.{sets}
 use Rattle.reader.specs.declared.Answer.the-variants.{Accepted, Refused}
+use Rattle.reader.specs.declared.Raw.{Raw}
 use Rattle.reader.specs.Machine.{outcome}
 use Rattle.reader.specs.Outcome.{Outcome, plan, refused}
+use Rattle.reader.specs.Raw.{raw-of}
+use Rattle.rows.specs.Records.{row-of}
 use Rattle.table.specs.declared.Head.{Head}
 use Rattle.table.specs.declared.Verdict.{Verdict}
 use Rattle.table.specs.Accepting.{seen-all?, called-from?, short?}
@@ -40,3 +45,23 @@ verdict-of (refused k j) h = record { answer = Refused k j; head = h }
 abbrev pub stored : Outcome → (Table → List ℕ) → List ℕ → List ℕ
 stored (plan p) part o = sets o 0 (part (table-of p))
 stored (refused k j) part o = o
+
+-- BEHIND THE LINES
+
+-- Each column has 512 numbers.
+pub record Wide (turns tails stretches : List ℕ) : Type 0 where
+  pub turns-wide : length turns ≡ 512
+  pub tails-wide : length tails ≡ 512
+  pub stretches-wide : length stretches ≡ 512
+
+-- The lines of a text were read with the outcome o: the raw numbers are its, and a plan keeps rules 3 to 7 and begins the row.
+pub record RawOf (o : Outcome) (raw : Raw) (row : List ℕ) : Type 0 where
+  pub raw-is : raw ≡ raw-of o
+  pub formed : (p : Plan) → o ≡ plan p → Formed p
+  pub row-is : (p : Plan) → o ≡ plan p → take (sizes (p .functions) * 8) row ≡ row-of p
+
+-- The columns of an accepted plan begin these lists.
+pub record ColumnsWritten (o : Outcome) (turns tails stretches : List ℕ) : Type 0 where
+  pub turns-are : (p : Plan) → o ≡ plan p → take (sizes (p .functions)) turns ≡ table-of p .turns
+  pub tails-are : (p : Plan) → o ≡ plan p → take (sizes (p .functions)) tails ≡ table-of p .tails
+  pub stretches-are : (p : Plan) → o ≡ plan p → take (sizes (p .functions)) stretches ≡ table-of p .stretches

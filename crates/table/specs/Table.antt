@@ -4,19 +4,20 @@
 use mathlib.Core.Bool.{Bool, true, false, _&&_}
 use mathlib.Core.List.{List, [], _∷_, _++_, map}
 use mathlib.Core.Option.{Option, none, some}
-use Prim.Native.Nat.{ℕ, _+_, _*_}
+use Prim.Native.Nat.{ℕ, _*_}
 use lib.Dec.{eqb}
 use lib.ListN.{length, take}
-use Rattle.model.specs.Plan.{Block, C, M, Lines, close, leaf-line, call-line, loop-line, if-line, Plan, leaves, all-leaves}
+use Rattle.model.specs.Plan.{Block, C, M, Lines, Plan, leaves, all-leaves}
 use Rattle.model.specs.Forms.{main}
-use Rattle.model.specs.Total.{total, tally, tallies}
+use Rattle.model.specs.Total.{total, tallies}
 use Rattle.model.specs.Stretch.{silence, stretch}
 use Rattle.model.specs.Tail.{tail}
 use Rattle.model.specs.Acceptance.{sizes}
 use Rattle.model.specs.Places.{pick}
-use Rattle.reader.specs.Records.{row-of, bounds-of}
+use Rattle.rows.specs.Records.{row-of, bounds-of}
 use Rattle.reader.specs.Raw.{padded}
 use Rattle.rows.specs.Reading.{functions-at}
+use Rattle.rows.specs.Turns.{turns-in}
 use Rattle.table.specs.declared.Head.{Head}
 use Rattle.table.specs.Accepting.{accepted?}
 
@@ -30,27 +31,19 @@ pub record Table : Type 0 where
 
 -- THE TABLE OF A PLAN
 
--- Turn (001's w): the isolated total of a loop's round, its condition and one pass of its body; 0 for any other leaf. In text order; ts are the
--- isolated totals of the functions.
-unfoldable pub turns-in : List ℕ → Lines → List ℕ
-turns-in ts close = []
-turns-in ts (leaf-line b rest) = 0 ∷ turns-in ts rest
-turns-in ts (call-line b f rest) = 0 ∷ turns-in ts rest
-turns-in ts (loop-line b n body rest) = (C b + tally C ts body) ∷ (turns-in ts body ++ turns-in ts rest)
-turns-in ts (if-line b then else rest) = 0 ∷ (turns-in ts then ++ (turns-in ts else ++ turns-in ts rest))
-
+-- Turns (rows/specs/Turns) and tails (01) of all leaves, in text order; ts are the isolated totals of the functions. Tail: from a first visit of the
+-- leaf to the end of its own function.
 unfoldable pub all-turns : List ℕ → List Lines → List ℕ
 all-turns ts [] = []
-all-turns ts (l ∷ ls) = turns-in ts l ++ all-turns ts ls
+all-turns ts (l ∷ ls) = turns-in C ts l ++ all-turns ts ls
 
--- Tail (01): of each leaf, from a first visit of it to the end of its own function.
 unfoldable pub all-tails : List ℕ → List Lines → List ℕ
 all-tails ts [] = []
 all-tails ts (l ∷ ls) = map (λ b. tail ts (b .number) l 0) (leaves l) ++ all-tails ts ls
 
 -- Stretch (01) of a point; 0 for a silent leaf.
 abbrev pub stretch-of : Plan → Block → ℕ
-stretch-of p b = pick (b .point) (stretch (b .number) (main p) 0) 0
+stretch-of p b = pick (b .point) (stretch M (b .number) (main p) 0) 0
 
 -- What stands beside the row: D, T, both totals, the stretch of the release, how many leaves and functions there are, the functions' bounds, and their
 -- isolated totals. What 16 functions would need is filled up with 0.
@@ -60,8 +53,8 @@ head-of p =
       deadline = p .deadline;
       switch = p .switch;
       total = total C (main p);
-      loaded = total M (main p);
-      stretch = silence (main p) 0;
+      «max_load_total» = total M (main p);
+      stretch = silence M (main p) 0;
       leaves = sizes (p .functions);
       functions = length (p .functions);
       bounds = padded 17 (bounds-of p);
@@ -94,7 +87,7 @@ same-numbers (n ∷ u) (m ∷ v) = eqb n m && same-numbers u v
 
 abbrev pub same-head : Head → Head → Bool
 same-head h k =
-    (eqb (h .deadline) (k .deadline) && (eqb (h .switch) (k .switch) && (eqb (h .total) (k .total) && eqb (h .loaded) (k .loaded)))) &&
+    (eqb (h .deadline) (k .deadline) && (eqb (h .switch) (k .switch) && (eqb (h .total) (k .total) && eqb (h .«max_load_total») (k .«max_load_total»)))) &&
     (eqb (h .stretch) (k .stretch) && (eqb (h .leaves) (k .leaves) && (eqb (h .functions) (k .functions) &&
     (same-numbers (h .bounds) (k .bounds) && same-numbers (h .totals) (k .totals)))))
 
@@ -125,7 +118,7 @@ zeros =
       deadline = 0;
       switch = 0;
       total = 0;
-      loaded = 0;
+      «max_load_total» = 0;
       stretch = 0;
       leaves = 0;
       functions = 0;

@@ -9,14 +9,23 @@ ghost use Rattle.rows.specs.Answers.{Says};
 ghost use Rattle.structure.specs.Plans.{Structured};
 ghost use Rattle.table.specs.Table.{zeros, table-at, good};
 ghost use Rattle.reader.specs.Outcome.{Outcome, refused};
-ghost use Rattle.table.specs.Reading.{after-lines, verdict, verdict-of, stored};
-ghost use Rattle.table.specs.Deriving.{Ranged, Wide, Derives, Agrees, Came, Filled, headed};
+ghost use Rattle.table.specs.Reading.{after-lines, verdict, verdict-of, stored, Wide, RawOf, ColumnsWritten};
+ghost use Rattle.table.specs.Private.{HeadRanged, Derives, Agrees, headed};
 use columns::derive;
 use columns::measure;
 use columns::tails_agree;
 use reader::Answer;
 use reader::Raw;
-use reader::read_raw;
+use reader::read_lines;
+use rows::BOUNDS;
+use rows::ISOLATED;
+use rows::LIMIT;
+use rows::MAX_FUNCTIONS;
+use rows::MAX_LEAVES;
+use rows::MAX_LOAD;
+use rows::MAX_SWITCH;
+use rows::ROW;
+use rows::STRIDE;
 use structure::called;
 use structure::seen_all;
 use structure::structured;
@@ -28,12 +37,12 @@ pub struct Head {
     pub deadline: u64,
     pub switch: u64,
     pub total: u64,
-    pub loaded: u64,
+    pub max_load_total: u64,
     pub stretch: u64,
     pub leaves: usize,
     pub functions: usize,
-    pub bounds: [u64; 17],
-    pub totals: [u64; 16],
+    pub bounds: [u64; BOUNDS],
+    pub totals: [u64; MAX_FUNCTIONS],
 }
 
 // What reading a plan answers, and the head afterwards.
@@ -50,12 +59,12 @@ pub fn no_head() -> Head
         deadline: 0,
         switch: 0,
         total: 0,
-        loaded: 0,
+        max_load_total: 0,
         stretch: 0,
         leaves: 0,
         functions: 0,
-        bounds: [0; 17],
-        totals: [0; 16],
+        bounds: [0; BOUNDS],
+        totals: [0; MAX_FUNCTIONS],
     }
 }
 
@@ -63,22 +72,10 @@ pub fn no_head() -> Head
 struct Derived {
     fits: bool,
     total: u64,
-    loaded: u64,
+    max_load_total: u64,
     stretch: u64,
-    totals: [u64; 16],
+    totals: [u64; MAX_FUNCTIONS],
 }
-
-// The largest deadline and total, 2^40.
-const LIMIT: u64 = 1099511627776;
-
-// The largest switch cost, 2^20.
-const SWITCH: u64 = 1048576;
-
-// The most leaves.
-const LEAVES: usize = 512;
-
-// The numbers of a record.
-const STRIDE: usize = 8;
 
 // Unseen, uncalled and long, by their numbers.
 const UNSEEN: u64 = 8;
@@ -88,11 +85,11 @@ const UNCALLED: u64 = 9;
 const LONG: u64 = 10;
 
 // The bounds as indexes.
-fn indexes(bounds: [u64; 17]) -> [usize; 17]
+fn indexes(bounds: [u64; BOUNDS]) -> [usize; BOUNDS]
     ensures { λ r. ⌜ r ≡ bounds ⌝ }
 {
-    let mut starts: [usize; 17] = [0; 17];
-    for f in 0..17 {
+    let mut starts: [usize; BOUNDS] = [0; BOUNDS];
+    for f in 0..BOUNDS {
         starts[f] = bounds[f] as usize;
     }
     starts
@@ -101,11 +98,11 @@ fn indexes(bounds: [u64; 17]) -> [usize; 17]
 // The derived numbers of a row that keeps rules 3 to 9; the columns are written.
 fn derive_all(
     row: &[u64],
-    bounds: [u64; 17],
+    bounds: [u64; BOUNDS],
     n: usize,
-    turns: &mut [u64; 512],
-    tails: &mut [u64; 512],
-    stretches: &mut [u64; 512],
+    turns: &mut [u64; MAX_LEAVES],
+    tails: &mut [u64; MAX_LEAVES],
+    stretches: &mut [u64; MAX_LEAVES],
 ) -> Derived
     requires { ⌜ Structured (now row) bounds n ⌝ }
     requires { ⌜ Wide (now turns) (now tails) (now stretches) ⌝ }
@@ -114,16 +111,16 @@ fn derive_all(
     ensures { λ _. ⌜ Wide (now (turns .exit)) (now (tails .exit)) (now (stretches .exit)) ⌝ }
 {
     let starts = indexes(bounds);
-    let mut burden: [u64; 512] = [0; 512];
-    let totals = measure(row, &starts, n, false, turns);
-    let loads = measure(row, &starts, n, true, &mut burden);
+    let mut rounds: [u64; MAX_LEAVES] = [0; MAX_LEAVES];
+    let totals = measure(row, &starts, n, ISOLATED, turns);
+    let loads = measure(row, &starts, n, MAX_LOAD, &mut rounds);
     let total = totals[n - 1];
-    let loaded = loads[n - 1];
-    if LIMIT < total || LIMIT < loaded {
+    let max_load_total = loads[n - 1];
+    if LIMIT < total || LIMIT < max_load_total {
         return Derived {
             fits: false,
             total,
-            loaded,
+            max_load_total,
             stretch: 0,
             totals,
         };
@@ -135,14 +132,14 @@ fn derive_all(
         &totals,
         turns,
         &loads,
-        &burden,
+        &rounds,
         tails,
         stretches,
     );
     Derived {
         fits: true,
         total,
-        loaded,
+        max_load_total,
         stretch,
         totals,
     }
@@ -168,7 +165,7 @@ fn same(lent: &[u64], derived: &[u64], n: usize) -> bool
 
 // Whether deadline and switch cost are in range, and a lent row of so many numbers holds the leaves.
 fn ranged(head: Head, room: usize) -> bool
-    ensures { λ r. ⌜ Says r (Ranged room head) ⌝ }
+    ensures { λ r. ⌜ Says r (HeadRanged room head) ⌝ }
 {
     if head.deadline < 1 {
         return false;
@@ -176,10 +173,10 @@ fn ranged(head: Head, room: usize) -> bool
     if LIMIT < head.deadline {
         return false;
     }
-    if SWITCH < head.switch {
+    if MAX_SWITCH < head.switch {
         return false;
     }
-    if LEAVES < head.leaves {
+    if MAX_LEAVES < head.leaves {
         return false;
     }
     if room < head.leaves * STRIDE {
@@ -215,18 +212,18 @@ fn agrees(row: &[u64], turns: &[u64], tails: &[u64], stretches: &[u64], head: He
     if !tails_agree(row, &starts, n, &totals, turns, tails) {
         return false;
     }
-    let mut burden: [u64; 512] = [0; 512];
-    let loads = measure(row, &starts, n, true, &mut burden);
-    let loaded = loads[n - 1];
-    if LIMIT < loaded {
+    let mut rounds: [u64; MAX_LEAVES] = [0; MAX_LEAVES];
+    let loads = measure(row, &starts, n, MAX_LOAD, &mut rounds);
+    let max_load_total = loads[n - 1];
+    if LIMIT < max_load_total {
         return false;
     }
-    let mut derived: [u64; 512] = [0; 512];
-    let stretch = columns::stretches(row, &starts, n, &loads, &burden, &mut derived);
+    let mut derived: [u64; MAX_LEAVES] = [0; MAX_LEAVES];
+    let stretch = columns::stretches(row, &starts, n, MAX_LOAD, &loads, &rounds, &mut derived);
     if head.total != totals[n - 1] {
         return false;
     }
-    if head.loaded != loaded {
+    if head.max_load_total != max_load_total {
         return false;
     }
     if head.stretch != stretch {
@@ -245,7 +242,7 @@ pub fn check(row: &[u64], turns: &[u64], tails: &[u64], stretches: &[u64], head:
     let n = head.functions;
     let bounds = head.bounds;
     let end = head.leaves * STRIDE;
-    let mut heights: [u64; 16] = [0; 16];
+    let mut heights: [u64; MAX_FUNCTIONS] = [0; MAX_FUNCTIONS];
     if !structured(&row[..end], &bounds, n, &mut heights) {
         return false;
     }
@@ -275,7 +272,7 @@ fn head_from(raw: Raw, d: Derived) -> Head
         deadline: raw.deadline,
         switch: raw.switch,
         total: d.total,
-        loaded: d.loaded,
+        max_load_total: d.max_load_total,
         stretch: d.stretch,
         leaves: raw.leaves,
         functions: raw.functions,
@@ -284,18 +281,18 @@ fn head_from(raw: Raw, d: Derived) -> Head
     }
 }
 
-// What to say of a text whose lines gave these raw numbers and this row: rules 8 to 10. The columns are written.
-fn judge(
+// What to say of a text whose lines gave these raw numbers and this row: rules 8 to 10. The columns are written; of a refused plan they hold nothing.
+pub fn judge(
     raw: Raw,
     row: &[u64],
-    turns: &mut [u64; 512],
-    tails: &mut [u64; 512],
-    stretches: &mut [u64; 512],
+    turns: &mut [u64; MAX_LEAVES],
+    tails: &mut [u64; MAX_LEAVES],
+    stretches: &mut [u64; MAX_LEAVES],
     head: Head,
 ) -> Verdict
-    requires { ⌜ ((o : Outcome) × Came o raw (now row)) × Wide (now turns) (now tails) (now stretches) ⌝ }
-    ensures { λ r. ⌜ ((o : Outcome) → Came o raw (now (row .entry)) → r ≡ verdict-of (after-lines o) head) ⌝ }
-    ensures { λ _. ⌜ ((o : Outcome) → Came o raw (now (row .entry)) → Filled (after-lines o) (now (turns .exit)) (now (tails .exit)) (now (stretches .exit))) ⌝ }
+    requires { ⌜ ((o : Outcome) × RawOf o raw (now row)) × Wide (now turns) (now tails) (now stretches) ⌝ }
+    ensures { λ r. ⌜ ((o : Outcome) → RawOf o raw (now (row .entry)) → r ≡ verdict-of (after-lines o) head) ⌝ }
+    ensures { λ _. ⌜ ((o : Outcome) → RawOf o raw (now (row .entry)) → ColumnsWritten (after-lines o) (now (turns .exit)) (now (tails .exit)) (now (stretches .exit))) ⌝ }
     ensures { λ _. ⌜ Wide (now (turns .exit)) (now (tails .exit)) (now (stretches .exit)) ⌝ }
 {
     let answer = raw.answer;
@@ -330,10 +327,10 @@ fn judge(
 pub fn read(
     text: &[u8],
     capacity: usize,
-    row: &mut [u64; 4096],
-    turns: &mut [u64; 512],
-    tails: &mut [u64; 512],
-    stretches: &mut [u64; 512],
+    row: &mut [u64; ROW],
+    turns: &mut [u64; MAX_LEAVES],
+    tails: &mut [u64; MAX_LEAVES],
+    stretches: &mut [u64; MAX_LEAVES],
     head: Head,
 ) -> Verdict
     ensures answers { λ r. ⌜ r ≡ verdict-of (verdict capacity (now (text .entry))) head ⌝ }
@@ -342,16 +339,17 @@ pub fn read(
     ensures tails { λ _. ⌜ now (tails .exit) ≡ stored (verdict capacity (now (text .entry))) (λ t. t .tails) (now (tails .entry)) ⌝ }
     ensures stretches { λ _. ⌜ now (stretches .exit) ≡ stored (verdict capacity (now (text .entry))) (λ t. t .stretches) (now (stretches .entry)) ⌝ }
 {
-    let mut w: [u64; 4096] = [0; 4096];
-    let mut t: [u64; 512] = [0; 512];
-    let mut u: [u64; 512] = [0; 512];
-    let mut v: [u64; 512] = [0; 512];
-    let raw = read_raw(text, capacity, &mut w);
+    let mut w: [u64; ROW] = [0; ROW];
+    let mut t: [u64; MAX_LEAVES] = [0; MAX_LEAVES];
+    let mut u: [u64; MAX_LEAVES] = [0; MAX_LEAVES];
+    let mut v: [u64; MAX_LEAVES] = [0; MAX_LEAVES];
+    let raw = read_lines(text, capacity, &mut w);
     let n = raw.leaves;
-    let said = judge(raw, &w, &mut t, &mut u, &mut v, head);
+    let end = n * STRIDE;
+    let said = judge(raw, &w[..end], &mut t, &mut u, &mut v, head);
     let answer = said.answer;
     if let Answer::Accepted = answer {
-        store(&w[..n * STRIDE], row);
+        store(&w[..end], row);
         store(&t[..n], turns);
         store(&u[..n], tails);
         store(&v[..n], stretches);

@@ -3,12 +3,12 @@
 use Prim.Native.Nat.{ℕ, zero, suc, _+_, _≤_, _<_}
 use mathlib.Core.Path.{_≡_, refl, ap, _∙_}
 use mathlib.Core.List.{List, [], _∷_}
-use mathlib.Core.Bool.{Bool, true, false, _&&_}
+use mathlib.Core.Bool.{Bool, true, false, _&&_, cond as pick}
 use native.Mathlib.Omega.{arith}
 use lib.ListN.{getD}
 use lib.Dec.{eqb, leb}
 use borrow.Author.Tests.{le-leb, leb-true, eqb-true}
-use Rattle.text.specs.Text.{pick, class-of, is-digit}
+use Rattle.text.specs.Patterns.{class-of, is-digit}
 
 -- The values of a rule at n places, from the place i on.
 unfoldable pub values : (ℕ → ℕ) → ℕ → ℕ → List ℕ

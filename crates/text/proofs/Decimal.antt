@@ -3,13 +3,13 @@
 use Prim.Native.Nat.{ℕ, zero, suc, _+_, _-_, _*_, _/_, _%_, _≤_, _<_}
 use mathlib.Core.Path.{_≡_, refl, sym, ap, _∙_}
 use mathlib.Core.List.{List, [], _∷_, _++_, append-assoc}
-use mathlib.Core.Bool.{Bool, true, false}
+use mathlib.Core.Bool.{Bool, true, false, cond as pick}
 use native.Mathlib.Omega.{arith}
 use native.Mathlib.Decide.{decLe}
 use lib.ListN.{length, length-append}
 use lib.Dec.{eqb}
 use borrow.Author.Tests.{lt-ltb, le-ltb, ne-eqb, eqb-true, eqb-false}
-use Rattle.text.specs.Text.{pick, is-digit, digits, number, none, some}
+use Rattle.text.specs.Patterns.{is-digit, digits, number, none, some}
 use Rattle.text.specs.Spelling.{numerals, decimal}
 use Rattle.text.proofs.Classes.{digit, digit-range}
 

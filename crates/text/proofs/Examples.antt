@@ -5,10 +5,10 @@ use mathlib.Core.List.{[], _∷_, _++_}
 use mathlib.Core.Bool.{true, false}
 use Rattle.text.specs.declared.Form.the-variants.{Task, Leaf, Call, Loop, If}
 use Rattle.text.specs.declared.Read.the-variants.{Unread, Line}
-use Rattle.text.specs.Text.{bytes, lines, digits, number, item, matched, class-of}
-use Rattle.text.specs.Grammar.{no-form, form, line-form}
+use Rattle.text.specs.Text.{bytes, lines, line-of, line-at, line-end}
+use Rattle.text.specs.Patterns.{digits, number, item, match, matched, any-over, class-of}
+use Rattle.text.specs.Grammar.{no-form, form, line-form, read-at}
 use Rattle.text.specs.Spelling.{numerals, decimal}
-use Rattle.text.specs.Positions.{line-of, line-at, line-end, read-at}
 
 -- Lines of the plans A and B.
 task-line : line-form (bytes "(task 100 4\n") ≡ form (Task 100 4)
@@ -97,6 +97,18 @@ at-end = refl
 past-end : read-at (bytes "(fun\n") 9 ≡ Unread
 unfolding read-at line-end line-at line-of line-form matched item number digits
 past-end = refl
+
+-- Lines of another text, with patterns of its own: both numbers of the first are exact, and the greater one is over a limit below it.
+other-text : matched (bytes "point N E") false (bytes "point 3 18446744073709551615\n") ≡ match false (3 ∷ 18446744073709551615 ∷ [])
+unfolding matched item number digits
+other-text = refl
+
+over-limit : any-over 18446744073709551615 (3 ∷ 18446744073709551615 ∷ []) ∷ any-over 99 (3 ∷ 18446744073709551615 ∷ []) ∷ [] ≡ false ∷ true ∷ []
+over-limit = refl
+
+nine-numbers : matched (bytes "(leaf K C M M M M M M M M)") false (bytes "(leaf p 1 2 3 4 5 6 7 8 9)\n") ≡ match true (1 ∷ 2 ∷ 3 ∷ 4 ∷ 5 ∷ 6 ∷ 7 ∷ 8 ∷ 9 ∷ [])
+unfolding matched item number digits
+nine-numbers = refl
 
 -- A text whose last line lacks its line feed still has that line.
 two-lines : lines (bytes "(fun\n)") ≡ bytes "(fun\n" ∷ bytes ")" ∷ []

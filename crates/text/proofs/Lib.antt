@@ -3,6 +3,8 @@ pub mod Laws
 pub mod Positions
 pub mod Capped
 pub mod Decimal
+pub mod Filled
+pub mod Forms
 pub mod Spell
 pub mod Unspell
 pub mod Length

@@ -3,7 +3,7 @@
 use Prim.Native.Nat.{ℕ, suc, _-_, _≤_, _<_}
 use mathlib.Core.Path.{_≡_, refl, sym, ap, _∙_, subst}
 use mathlib.Core.List.{List, [], _∷_}
-use mathlib.Core.Bool.{Bool, true, false}
+use mathlib.Core.Bool.{Bool, true, false, cond as pick}
 use native.Mathlib.Omega.{arith}
 use native.Mathlib.Decide.{decLe}
 use lib.ListN.{length, getD, drop, length-drop, drop-of-length-le}
@@ -11,16 +11,15 @@ use lib.Seq.{drop-cons, drop-drop}
 use lib.Dec.{eqb}
 use Rattle.text.specs.declared.Form.{Form}
 use Rattle.text.specs.declared.Read.{Read}
-use Rattle.text.specs.declared.Read.the-variants.{Line}
-use Rattle.text.specs.Text.{pick, joined, lines, matched, item}
+use Rattle.text.specs.Text.{joined, lines, line-of, after-line, line-at, rest-at, line-end}
+use Rattle.text.specs.Patterns.{matched, item}
 use Rattle.text.specs.Grammar as grammar
-use Rattle.text.specs.Grammar.{no-form, form, line-form}
-use Rattle.text.specs.Positions.{line-of, rest-of, line-at, rest-at, line-end, cap-form, answered, read-at, Found, Means}
+use Rattle.text.specs.Grammar.{no-form, form, line-form, cap-form, answered, read-at, Found, Means}
 use Rattle.text.proofs.Laws.{line-none}
 
 -- A text that is not empty has the line it begins with, and then the lines of the rest.
-lines-first : (b : ℕ) (bs : List ℕ) → lines (b ∷ bs) ≡ line-of (b ∷ bs) ∷ lines (rest-of (b ∷ bs))
-unfolding lines line-of rest-of
+lines-first : (b : ℕ) (bs : List ℕ) → lines (b ∷ bs) ≡ line-of (b ∷ bs) ∷ lines (after-line (b ∷ bs))
+unfolding lines line-of after-line
 lines-first b [] = go (eqb b 10)
   where
     go : (t : Bool) → joined b t [] ≡ pick t (b ∷ []) (b ∷ []) ∷ lines (pick t [] [])
@@ -28,8 +27,8 @@ lines-first b [] = go (eqb b 10)
     go false = refl
 lines-first b (d ∷ ds) = go (eqb b 10) (lines-first d ds)
   where
-    go : (t : Bool) → lines (d ∷ ds) ≡ line-of (d ∷ ds) ∷ lines (rest-of (d ∷ ds))
-        → joined b t (lines (d ∷ ds)) ≡ pick t (b ∷ []) (b ∷ line-of (d ∷ ds)) ∷ lines (pick t (d ∷ ds) (rest-of (d ∷ ds)))
+    go : (t : Bool) → lines (d ∷ ds) ≡ line-of (d ∷ ds) ∷ lines (after-line (d ∷ ds))
+        → joined b t (lines (d ∷ ds)) ≡ pick t (b ∷ []) (b ∷ line-of (d ∷ ds)) ∷ lines (pick t (d ∷ ds) (after-line (d ∷ ds)))
     go true e = refl
     go false e = rw e
 
@@ -59,12 +58,12 @@ unfolding line-at
 line-fits s i = omega (arith, line-short (drop i s), length-drop i s)
 
 -- What follows a line is the rest.
-line-drop : (l : List ℕ) → rest-of l ≡ drop (length (line-of l)) l
-unfolding line-of rest-of
+line-drop : (l : List ℕ) → after-line l ≡ drop (length (line-of l)) l
+unfolding line-of after-line
 line-drop [] = refl
 line-drop (b ∷ bs) = go (eqb b 10) (line-drop bs)
   where
-    go : (t : Bool) → rest-of bs ≡ drop (length (line-of bs)) bs → pick t bs (rest-of bs) ≡ drop (length (pick t (b ∷ []) (b ∷ line-of bs))) (b ∷ bs)
+    go : (t : Bool) → after-line bs ≡ drop (length (line-of bs)) bs → pick t bs (after-line bs) ≡ drop (length (pick t (b ∷ []) (b ∷ line-of bs))) (b ∷ bs)
     go true e = refl
     go false e = e
 

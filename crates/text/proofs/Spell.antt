@@ -3,14 +3,15 @@
 use Prim.Native.Nat.{ℕ, zero, suc, _+_, _/_, _%_, _≤_, _<_}
 use mathlib.Core.Path.{_≡_, refl, _∙_}
 use mathlib.Core.List.{List, [], _∷_, _++_, append-assoc}
-use mathlib.Core.Bool.{Bool, true, false}
+use mathlib.Core.Bool.{Bool, true, false, cond as pick}
 use native.Mathlib.Omega.{arith}
 use native.Mathlib.Decide.{decLe}
 use lib.Dec.{eqb}
 use borrow.Author.Tests.{lt-ltb, le-ltb, ne-eqb, eqb-true}
 use Rattle.text.specs.declared.Form.{Form}
 use Rattle.text.specs.declared.Form.the-variants.{Task, Fun, Then, Else, Close, Leaf, Call, Loop, If}
-use Rattle.text.specs.Text.{pick, joined, lines, is-upper, number, some, item, fit, matched}
+use Rattle.text.specs.Text.{joined, lines}
+use Rattle.text.specs.Patterns.{is-upper, number, some, item, fit-kind, fit-number, matched}
 use Rattle.text.specs.Grammar.{form, line-form}
 use Rattle.text.specs.Spelling.{numerals, decimal, kind-text, spell}
 use Rattle.text.proofs.Decimal.{Apart, never-some, number-decimal}
@@ -94,27 +95,27 @@ number-feed b l n r h = go (eqb b 10) refl
     go false e = refl
 
 -- A number sign of a pattern takes a printed number.
-item-decimal : (t n : ℕ) (k : Bool) (acc r : List ℕ) → eqb t 75 ≡ false → is-upper t ≡ true → Apart r → item t k acc (decimal n ++ r) ≡ fit k (n ∷ acc) r
+item-decimal : (t n : ℕ) (r : List ℕ) → eqb t 75 ≡ false → is-upper t ≡ true → Apart r → item t (decimal n ++ r) ≡ fit-number n r
 unfolding item number
-item-decimal t n k acc r e u a = go (decimal n ++ r) (number-decimal n r a)
+item-decimal t n r e u a = go (decimal n ++ r) (number-decimal n r a)
   where
-    go : (l : List ℕ) → number l ≡ some n r → item t k acc l ≡ fit k (n ∷ acc) r
+    go : (l : List ℕ) → number l ≡ some n r → item t l ≡ fit-number n r
     go [] h = never-some h
     go (b ∷ l) h = rw (number-feed b l n r h, e, u, h)
 
 -- The sign K takes a printed kind.
-item-kind : (j k : Bool) (acc r : List ℕ) → item 75 j acc (kind-text k ++ r) ≡ fit k acc r
+item-kind : (k : Bool) (r : List ℕ) → item 75 (kind-text k ++ r) ≡ fit-kind k r
 unfolding item
-item-kind j true acc r = refl
-item-kind j false acc r = refl
+item-kind true r = refl
+item-kind false r = refl
 
 -- A form is read from the text that spells it.
 pub reads-spelled : (f : Form) → line-form (spell f) ≡ form f
 unfolding line-form spell matched item
 reads-spelled (Task d t) =
     rw (
-      item-decimal 68 d false [] (32 ∷ (decimal t ++ (10 ∷ []))) refl refl refl,
-      item-decimal 84 t false (d ∷ []) (10 ∷ []) refl refl refl,
+      item-decimal 68 d (32 ∷ (decimal t ++ (10 ∷ []))) refl refl refl,
+      item-decimal 84 t (10 ∷ []) refl refl refl,
     )
 reads-spelled Fun = refl
 reads-spelled Then = refl
@@ -122,27 +123,27 @@ reads-spelled Else = refl
 reads-spelled Close = refl
 reads-spelled (Leaf k c m) =
     rw (
-      item-kind false k [] (32 ∷ (decimal c ++ (32 ∷ (decimal m ++ (41 ∷ 10 ∷ []))))),
-      item-decimal 67 c k [] (32 ∷ (decimal m ++ (41 ∷ 10 ∷ []))) refl refl refl,
-      item-decimal 77 m k (c ∷ []) (41 ∷ 10 ∷ []) refl refl refl,
+      item-kind k (32 ∷ (decimal c ++ (32 ∷ (decimal m ++ (41 ∷ 10 ∷ []))))),
+      item-decimal 67 c (32 ∷ (decimal m ++ (41 ∷ 10 ∷ []))) refl refl refl,
+      item-decimal 77 m (41 ∷ 10 ∷ []) refl refl refl,
     )
 reads-spelled (Call k f c m) =
     rw (
-      item-kind false k [] (32 ∷ (decimal f ++ (32 ∷ (decimal c ++ (32 ∷ (decimal m ++ (41 ∷ 10 ∷ []))))))),
-      item-decimal 70 f k [] (32 ∷ (decimal c ++ (32 ∷ (decimal m ++ (41 ∷ 10 ∷ []))))) refl refl refl,
-      item-decimal 67 c k (f ∷ []) (32 ∷ (decimal m ++ (41 ∷ 10 ∷ []))) refl refl refl,
-      item-decimal 77 m k (c ∷ f ∷ []) (41 ∷ 10 ∷ []) refl refl refl,
+      item-kind k (32 ∷ (decimal f ++ (32 ∷ (decimal c ++ (32 ∷ (decimal m ++ (41 ∷ 10 ∷ []))))))),
+      item-decimal 70 f (32 ∷ (decimal c ++ (32 ∷ (decimal m ++ (41 ∷ 10 ∷ []))))) refl refl refl,
+      item-decimal 67 c (32 ∷ (decimal m ++ (41 ∷ 10 ∷ []))) refl refl refl,
+      item-decimal 77 m (41 ∷ 10 ∷ []) refl refl refl,
     )
 reads-spelled (Loop k b c m) =
     rw (
-      item-kind false k [] (32 ∷ (decimal b ++ (32 ∷ (decimal c ++ (32 ∷ (decimal m ++ (10 ∷ []))))))),
-      item-decimal 66 b k [] (32 ∷ (decimal c ++ (32 ∷ (decimal m ++ (10 ∷ []))))) refl refl refl,
-      item-decimal 67 c k (b ∷ []) (32 ∷ (decimal m ++ (10 ∷ []))) refl refl refl,
-      item-decimal 77 m k (c ∷ b ∷ []) (10 ∷ []) refl refl refl,
+      item-kind k (32 ∷ (decimal b ++ (32 ∷ (decimal c ++ (32 ∷ (decimal m ++ (10 ∷ []))))))),
+      item-decimal 66 b (32 ∷ (decimal c ++ (32 ∷ (decimal m ++ (10 ∷ []))))) refl refl refl,
+      item-decimal 67 c (32 ∷ (decimal m ++ (10 ∷ []))) refl refl refl,
+      item-decimal 77 m (10 ∷ []) refl refl refl,
     )
 reads-spelled (If k c m) =
     rw (
-      item-kind false k [] (32 ∷ (decimal c ++ (32 ∷ (decimal m ++ (10 ∷ []))))),
-      item-decimal 67 c k [] (32 ∷ (decimal m ++ (10 ∷ []))) refl refl refl,
-      item-decimal 77 m k (c ∷ []) (10 ∷ []) refl refl refl,
+      item-kind k (32 ∷ (decimal c ++ (32 ∷ (decimal m ++ (10 ∷ []))))),
+      item-decimal 67 c (32 ∷ (decimal m ++ (10 ∷ []))) refl refl refl,
+      item-decimal 77 m (10 ∷ []) refl refl refl,
     )

@@ -1,26 +1,29 @@
 -- The theorems of this crate, to be read; each is proved in a file beside this one.
--- The definitions to believe are in specs/: Text and Grammar (what a line is), Spelling (its text), Positions (what stands at a place).
+-- The definitions to believe are in specs/: Text (what stands at a place), Patterns (when a line fits a pattern), Grammar (what a line of a plan is),
+-- Spelling (its text).
 -- Assumes nothing.
 use Prim.Native.Nat.{ℕ, _^_, _≤_, _<_}
 use mathlib.Core.Path.{_≡_}
 use mathlib.Core.List.{List, [], _∷_, _++_}
-use mathlib.Core.Bool.{Bool}
+use mathlib.Core.Bool.{Bool, true, false}
 use lib.ListN.{length, drop}
 use lib.Dec.{leb}
 use Rattle.text.specs.declared.Form.{Form}
 use Rattle.text.specs.declared.Form.the-variants.{Task, Leaf, Call, Loop, If}
 use Rattle.text.specs.declared.Read.{Read}
-use Rattle.text.specs.Text.{lines, number, some}
-use Rattle.text.specs.Grammar.{form, line-form}
+use Rattle.text.specs.Text.{lines, line-at, rest-at, line-end}
+use Rattle.text.specs.Patterns.{number, some, match, matched, capped}
+use Rattle.text.specs.Grammar.{form, line-form, read-at, Found, Means}
 use Rattle.text.specs.Spelling.{decimal, spell}
-use Rattle.text.specs.Positions.{line-at, rest-at, line-end, cap, read-at, Found, Means}
 use Rattle.text.proofs.Decimal as decimals
 use Rattle.text.proofs.Decimal.{Apart}
+use Rattle.text.proofs.Filled as fillings
+use Rattle.text.proofs.Filled.{once, Filled}
 use Rattle.text.proofs.Spell as spelling
 use Rattle.text.proofs.Unspell as unspelling
 use Rattle.text.proofs.Length as lengths
 use Rattle.text.proofs.Positions as positions
-use Rattle.text.proofs.Capped as capped
+use Rattle.text.proofs.Capped as caps
 
 -- A number is read from its decimal text, if no digit follows.
 pub number-decimal : (n : ℕ) (rest : List ℕ) → Apart rest → number (decimal n ++ rest) ≡ some n rest
@@ -29,6 +32,10 @@ number-decimal = decimals.number-decimal
 -- A number is read from no other text.
 pub decimal-number : (l : List ℕ) (n : ℕ) (rest : List ℕ) → number l ≡ some n rest → l ≡ decimal n ++ rest
 decimal-number = decimals.decimal-number
+
+-- A line that a pattern fits, with at most one K, is the pattern with its capitals filled in, and shows as many numbers as the pattern has.
+pub pattern-filled : (p l : List ℕ) (k : Bool) (ns : List ℕ) → once p ≡ true → matched p false l ≡ match k ns → Filled p l k ns
+pattern-filled p = fillings.filled p false
 
 -- A form is read from the text that spells it.
 pub reads-spelled : (f : Form) → line-form (spell f) ≡ form f
@@ -62,17 +69,20 @@ read-means = positions.read-means
 pub lines-found : {s : List ℕ} {i : ℕ} {f : Form} {e : ℕ} → Found s i f e → lines (drop i s) ≡ line-at s i ∷ lines (drop e s)
 lines-found = positions.lines-found
 
--- A number below 2^41 is held as it is.
-pub cap-same : (a : ℕ) → a < 2 ^ 41 → cap a ≡ a
-cap-same = capped.cap-same
+-- A number up to a limit is held as it is, and a greater one as the limit.
+pub cap-same : (limit a : ℕ) → a ≤ limit → capped limit a ≡ a
+cap-same = caps.cap-same
 
--- A test of a held number against a bound below 2^41 is the same as of the exact number.
-pub cap-high : (a b : ℕ) → b < 2 ^ 41 → leb (cap a) b ≡ leb a b
-cap-high = capped.cap-high
+pub cap-over : (limit a : ℕ) → limit < a → capped limit a ≡ limit
+cap-over = caps.cap-over
+
+-- A test of a held number against a bound below the limit is the same as of the exact number.
+pub cap-high : (limit a b : ℕ) → b < limit → leb (capped limit a) b ≡ leb a b
+cap-high = caps.cap-high
 
 -- A held number is 0 where the exact one is.
-pub cap-low : (a : ℕ) → leb 1 (cap a) ≡ leb 1 a
-cap-low = capped.cap-low
+pub cap-low : (limit a : ℕ) → 1 ≤ limit → leb 1 (capped limit a) ≡ leb 1 a
+cap-low = caps.cap-low
 
 -- A cost is written in at most 7 bytes.
 pub cost-length : (n : ℕ) → n ≤ 2 ^ 20 → length (decimal n) ≤ 7

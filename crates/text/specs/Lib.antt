@@ -1,5 +1,5 @@
 pub mod Text
+pub mod Patterns
 pub mod Grammar
 pub mod Spelling
-pub mod Positions
-pub mod Helpers
+pub mod Private

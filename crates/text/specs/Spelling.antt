@@ -2,11 +2,11 @@
 -- Assumes nothing: these are definitions.
 use Prim.Native.Nat.{ℕ, zero, suc, _+_, _/_, _%_}
 use mathlib.Core.List.{List, [], _∷_, _++_}
-use mathlib.Core.Bool.{Bool, true, false}
+use mathlib.Core.Bool.{Bool, true, false, cond as pick}
 use lib.Dec.{ltb}
 use Rattle.text.specs.declared.Form.{Form}
 use Rattle.text.specs.declared.Form.the-variants.{Task, Fun, Then, Else, Close, Leaf, Call, Loop, If}
-use Rattle.text.specs.Text.{pick, bytes}
+use Rattle.text.specs.Text.{bytes}
 
 -- A number in decimal, with no leading zero (01). The fuel k is at least the number of digits.
 unfoldable pub numerals : ℕ → ℕ → List ℕ

@@ -1,14 +1,15 @@
-// The lines of a plan text: which form a line is, with its numbers (document 01, 'A plan, one form a line').
+// Lines and patterns: whether the line at a place of a text fits a pattern, with its kind and its numbers; and the lines of a plan text, by a table of
+// patterns (document 01, 'A plan, one form a line').
 ghost use mathlib.Core.Path.{_≡_};
-ghost use mathlib.Core.Bool.{true};
-ghost use Prim.Native.Nat.{_+_};
-ghost use Rattle.text.specs.Text.{class-of, is-upper};
-ghost use Rattle.text.specs.Positions.{read-at};
-ghost use Rattle.text.specs.declared.Fields.{Fields};
-ghost use Rattle.text.specs.declared.Fitted.the-variants.{Fit};
-ghost use Rattle.text.specs.Helpers.{Classed, NumberAt, ItemAt, MatchAt, Pushed, Kinded};
+ghost use mathlib.Core.Bool.{true, false};
+ghost use Prim.Native.Nat.{_+_, _*_, _<_, _≤_};
+ghost use lib.ListN.{set};
+ghost use lib.Dec.{ltb};
+ghost use Rattle.text.specs.Patterns.{class-of, is-upper, MatchAt};
+ghost use Rattle.text.specs.Grammar.{read-at};
+ghost use Rattle.text.specs.Private.{Classed, DigitsTo, NumberAt, StandsAt, CapitalAt, Worded};
 
-// The lines of the grammar. The kind K is true for p, a point, and false for s, silent. Numbers from 2^41 on are held at 2^41.
+// The lines of the grammar. The kind K is true for p, a point, and false for s, silent. Numbers over 2^41 are held at 2^41.
 pub enum Form {
     Task(u64, u64),
     Fun,
@@ -27,28 +28,34 @@ pub enum Read {
     Line(Form, usize),
 }
 
-// A number that was read, held at CAP, and the place after it; or no number.
-enum Num {
-    No,
-    At(u64, usize),
-}
-
-// What a line has shown so far: its kind, and its last three numbers, the latest first.
-struct Fields {
-    kind: bool,
-    last: u64,
-    second: u64,
-    third: u64,
+// What a line shows beside the numbers themselves: its kind; whether one of the numbers is over the limit; and how many there are.
+pub struct Shown {
+    pub kind: bool,
+    pub over: bool,
+    pub count: usize,
 }
 
 // What a line has shown after a sign or a pattern that fits, and the place after it; or no fit.
-enum Fitted {
+pub enum Fitted {
     Misfit,
-    Fit(Fields, usize),
+    Fit(Shown, usize),
 }
 
-// Numbers from 2^41 on are held here: no range of document 01 goes so far.
-const CAP: u64 = 1 << 41;
+// A number that was read, or one over the limit, and the place after it; or no number.
+enum Num {
+    No,
+    Over(usize),
+    At(u64, usize),
+}
+
+// The limit of a plan's numbers: no range of document 01 goes so far.
+const LIMIT: u64 = 1 << 41;
+
+// The room for the numbers of a line.
+const ROOM: usize = 10;
+
+// The base of the decimal numbers.
+const TEN: u64 = 10;
 
 // The classes of bytes.
 const DIGIT: u8 = 0;
@@ -328,7 +335,14 @@ const CLASS: [u8; 256] = [
     OTHER, // 255
 ];
 
-// Says which class a byte is of, by the table, which `line` makes once: a constant that is indexed is made anew each time.
+// Gives the table of classes. A line is read with one, since a constant that is indexed is made anew each time.
+fn class_table() -> Classes
+    ensures { λ r. ⌜ Classed r ⌝ }
+{
+    CLASS
+}
+
+// Says which class a byte is of, by the table.
 fn class(table: &Classes, b: u8) -> u8
     requires { ⌜ Classed (now table) ⌝ }
     ensures { λ r. ⌜ r ≡ class-of b ⌝ }
@@ -354,10 +368,36 @@ fn wide(b: u8) -> u64
     b as u64
 }
 
-// Reads the number that stands at a place: 0, or a digit that is not 0 and as many digits as follow.
-fn number(table: &Classes, text: &[u8], at: usize) -> Num
+// Says whether a value with one more digit is over the limit, without making a number over the limit.
+fn exceeds(v: u64, d: u64, limit: u64) -> bool
+    ensures { λ r. ⌜ r ≡ ltb limit (v * 10 + d) ⌝ }
+{
+    if limit / TEN < v {
+        return true;
+    }
+    limit - v * TEN < d
+}
+
+// Passes over the digits that stand from a place on.
+fn digits_end(table: &Classes, text: &[u8], at: usize) -> usize
+    requires { do ⌜ Classed (now table) × (at ≤ (← ⟦text.len()⟧)) ⌝ }
+    ensures { λ r. ⌜ DigitsTo (now (text .entry)) at r ⌝ }
+{
+    let mut i = at;
+    while i < text.len() {
+        let b = text[i];
+        if class(table, b) != DIGIT {
+            return i;
+        }
+        i += 1;
+    }
+    i
+}
+
+// Reads the number that stands at a place, up to the limit: 0, or a digit that is not 0 and as many digits as follow.
+fn number(table: &Classes, text: &[u8], at: usize, limit: u64) -> Num
     requires { ⌜ Classed (now table) ⌝ }
-    ensures { λ r. ⌜ NumberAt (now (text .entry)) at r ⌝ }
+    ensures { λ r. ⌜ NumberAt limit (now (text .entry)) at r ⌝ }
 {
     if text.len() <= at {
         return Num::No;
@@ -370,58 +410,75 @@ fn number(table: &Classes, text: &[u8], at: usize) -> Num
         return Num::At(0, at + 1);
     }
     let mut v = wide(b - b'0');
+    if limit < v {
+        return Num::Over(digits_end(table, text, at + 1));
+    }
     let mut i = at + 1;
     while i < text.len() {
-        let d = text[i];
-        if class(table, d) != DIGIT {
+        let c = text[i];
+        if class(table, c) != DIGIT {
             return Num::At(v, i);
         }
-        v = v * 10 + wide(d - b'0');
-        if CAP < v {
-            v = CAP;
+        let d = wide(c - b'0');
+        if exceeds(v, d, limit) {
+            return Num::Over(digits_end(table, text, i + 1));
         }
+        v = v * TEN + d;
         i += 1;
     }
     Num::At(v, i)
 }
 
-// Adds a number to what a line has shown.
-fn pushed(f: Fields, v: u64) -> Fields
-    ensures { λ r. ⌜ Pushed f v r ⌝ }
+// Stores a number at a place of the lent row, if the row has that place.
+fn store(row: &mut [u64], n: usize, v: u64)
+    ensures { λ _. ⌜ now (row .exit) ≡ set (now (row .entry)) n v ⌝ }
 {
-    Fields {
-        kind: f.kind,
-        last: v,
-        second: f.last,
-        third: f.second,
+    if n < row.len() {
+        row[n] = v;
     }
 }
 
 // Adds a kind to what a line has shown.
-fn kinded(f: Fields, k: bool) -> Fields
-    ensures { λ r. ⌜ Kinded f k r ⌝ }
+fn kinded(f: Shown, k: bool) -> Shown
+    ensures { λ r. ⌜ r ≡ record { kind = k; over = f .over; count = f .count } ⌝ }
 {
-    Fields {
+    Shown {
         kind: k,
-        last: f.last,
-        second: f.second,
-        third: f.third,
+        over: f.over,
+        count: f.count,
     }
 }
 
-// Holds the sign t of a pattern against what stands at a place: K takes a kind, any other capital a number, any other sign itself.
-fn item(table: &Classes, text: &[u8], at: usize, t: u8, f: Fields) -> Fitted
-    requires { ⌜ Classed (now table) ⌝ }
-    ensures { λ r. ⌜ ItemAt (now (text .entry)) at t f r ⌝ }
+// Adds a number to what a line has shown.
+fn counted(f: Shown, over: bool) -> Shown
+    requires { ⌜ f .count < 18446744073709551615 ⌝ }
+    ensures { λ r. ⌜ r ≡ record { kind = f .kind; over = over; count = f .count + 1 } ⌝ }
 {
-    if text.len() <= at {
-        return Fitted::Misfit;
+    Shown {
+        kind: f.kind,
+        over: over,
+        count: f.count + 1,
     }
-    let b = text[at];
-    if class(table, b) == LINE_FEED {
-        return Fitted::Misfit;
-    }
+}
+
+// Holds the capital t of a pattern against what stands at a place: K takes a kind, any other capital a number, which is stored behind the others.
+fn capital(
+    table: &Classes,
+    text: &[u8],
+    at: usize,
+    t: u8,
+    limit: u64,
+    row: &mut [u64],
+    f: Shown,
+) -> Fitted
+    requires { ⌜ Classed (now table) × (f .count < 18446744073709551615) × (is-upper t ≡ true) ⌝ }
+    ensures { λ r. ⌜ CapitalAt limit (now (text .entry)) at t (now (row .entry)) (now (row .exit)) f r ⌝ }
+{
     if t == b'K' {
+        if text.len() <= at {
+            return Fitted::Misfit;
+        }
+        let b = text[at];
         if b == b'p' {
             return Fitted::Fit(kinded(f, true), at + 1);
         }
@@ -430,22 +487,23 @@ fn item(table: &Classes, text: &[u8], at: usize, t: u8, f: Fields) -> Fitted
         }
         return Fitted::Misfit;
     }
-    if is_upper(t) {
-        let Num::At(v, e) = number(table, text, at) else {
-            return Fitted::Misfit;
-        };
-        return Fitted::Fit(pushed(f, v), e);
+    match number(table, text, at, limit) {
+        Num::No => Fitted::Misfit,
+        Num::Over(e) => {
+            store(row, f.count, limit);
+            Fitted::Fit(counted(f, true), e)
+        }
+        Num::At(v, e) => {
+            store(row, f.count, v);
+            Fitted::Fit(counted(f, f.over), e)
+        }
     }
-    if b == t {
-        return Fitted::Fit(f, at + 1);
-    }
-    Fitted::Misfit
 }
 
-// Says yes only where the sign t stands for itself and is what stands at a place: the short way for most signs of a pattern, which need no fields.
-fn stands(table: &Classes, text: &[u8], at: usize, t: u8) -> bool
-    requires { ⌜ Classed (now table) ⌝ }
-    ensures { λ r. ⌜ (r ≡ true → (f : Fields) → ItemAt (now (text .entry)) at t f (Fit f (at + 1))) ⌝ }
+// Says whether the sign t of a pattern, which is no capital, stands at a place.
+fn stands(text: &[u8], at: usize, t: u8) -> bool
+    requires { ⌜ is-upper t ≡ false ⌝ }
+    ensures { λ r. ⌜ StandsAt (now (text .entry)) at t r ⌝ }
 {
     if text.len() <= at {
         return false;
@@ -454,40 +512,42 @@ fn stands(table: &Classes, text: &[u8], at: usize, t: u8) -> bool
     if b != t {
         return false;
     }
-    if is_upper(t) {
-        return false;
-    }
-    if class(table, b) == LINE_FEED {
-        return false;
-    }
-    true
+    t != b'\n'
 }
 
-// Holds the pattern p against the line at a place, with its line feed.
-fn matches(table: &Classes, text: &[u8], at: usize, p: &[u8]) -> Fitted
+// Holds a pattern against the line at a place, with the table of classes.
+fn matches_by(
+    table: &Classes,
+    text: &[u8],
+    at: usize,
+    pattern: &[u8],
+    limit: u64,
+    row: &mut [u64],
+) -> Fitted
     requires { ⌜ Classed (now table) ⌝ }
-    ensures { λ r. ⌜ MatchAt (now (text .entry)) at (now (p .entry)) r ⌝ }
+    ensures { λ r. ⌜ MatchAt limit (now (text .entry)) at (now (pattern .entry)) (now (row .entry)) (now (row .exit)) r ⌝ }
 {
-    let mut f = Fields {
+    let mut f = Shown {
         kind: false,
-        last: 0,
-        second: 0,
-        third: 0,
+        over: false,
+        count: 0,
     };
     let mut i = at;
     let mut j = 0;
-    while j < p.len() {
-        let t = p[j];
-        if stands(table, text, i, t) {
-            i += 1;
-        } else {
-            match item(table, text, i, t, f) {
+    while j < pattern.len() {
+        let t = pattern[j];
+        if is_upper(t) {
+            match capital(table, text, i, t, limit, row, f) {
                 Fitted::Fit(g, e) => {
                     f = g;
                     i = e;
                 }
                 Fitted::Misfit => return Fitted::Misfit,
             }
+        } else if stands(text, i, t) {
+            i += 1;
+        } else {
+            return Fitted::Misfit;
         }
         j += 1;
     }
@@ -501,36 +561,67 @@ fn matches(table: &Classes, text: &[u8], at: usize, p: &[u8]) -> Fitted
     Fitted::Misfit
 }
 
+// Holds a pattern against the line at a place, with its line feed. Where it fits, the numbers of the line stand in the lent row in their order, each
+// held at the limit, as many as the row has places; where it does not, the row may have changed.
+pub fn matches(text: &[u8], at: usize, pattern: &[u8], limit: u64, row: &mut [u64]) -> Fitted
+    ensures { λ r. ⌜ MatchAt limit (now (text .entry)) at (now (pattern .entry)) (now (row .entry)) (now (row .exit)) r ⌝ }
+{
+    let table = class_table();
+    matches_by(&table, text, at, pattern, limit, row)
+}
+
+// Holds a pattern that begins with a bracket and a word against the line at a place. Their first two signs come first: they tell most lines apart.
+fn matches_word(
+    table: &Classes,
+    text: &[u8],
+    at: usize,
+    pattern: &[u8],
+    limit: u64,
+    row: &mut [u64],
+) -> Fitted
+    requires { ⌜ Classed (now table) × Worded (now pattern) ⌝ }
+    ensures { λ r. ⌜ MatchAt limit (now (text .entry)) at (now (pattern .entry)) (now (row .entry)) (now (row .exit)) r ⌝ }
+{
+    if !stands(text, at, pattern[0]) {
+        return Fitted::Misfit;
+    }
+    if !stands(text, at + 1, pattern[1]) {
+        return Fitted::Misfit;
+    }
+    matches_by(table, text, at, pattern, limit, row)
+}
+
 // Reads the line at a place, with the table of classes.
 fn line_by(table: &Classes, text: &[u8], at: usize) -> Read
     requires { ⌜ Classed (now table) ⌝ }
     ensures { λ r. ⌜ r ≡ read-at (now (text .entry)) at ⌝ }
 {
-    if let Fitted::Fit(f, e) = matches(table, text, at, b"(task D T") {
-        return Read::Line(Form::Task(f.second, f.last), e);
+    let mut n = [0; ROOM];
+    if let Fitted::Fit(_, e) = matches_word(table, text, at, b"(task D T", LIMIT, &mut n) {
+        return Read::Line(Form::Task(n[0], n[1]), e);
     }
-    if let Fitted::Fit(_, e) = matches(table, text, at, b"(fun") {
+    if let Fitted::Fit(_, e) = matches_word(table, text, at, b"(fun", LIMIT, &mut n) {
         return Read::Line(Form::Fun, e);
     }
-    if let Fitted::Fit(f, e) = matches(table, text, at, b"(leaf K C M)") {
-        return Read::Line(Form::Leaf(f.kind, f.second, f.last), e);
+    if let Fitted::Fit(f, e) = matches_word(table, text, at, b"(leaf K C M)", LIMIT, &mut n) {
+        return Read::Line(Form::Leaf(f.kind, n[0], n[1]), e);
     }
-    if let Fitted::Fit(f, e) = matches(table, text, at, b"(call K F C M)") {
-        return Read::Line(Form::Call(f.kind, f.third, f.second, f.last), e);
+    if let Fitted::Fit(f, e) = matches_word(table, text, at, b"(call K F C M)", LIMIT, &mut n) {
+        return Read::Line(Form::Call(f.kind, n[0], n[1], n[2]), e);
     }
-    if let Fitted::Fit(f, e) = matches(table, text, at, b"(loop K B C M") {
-        return Read::Line(Form::Loop(f.kind, f.third, f.second, f.last), e);
+    if let Fitted::Fit(f, e) = matches_word(table, text, at, b"(loop K B C M", LIMIT, &mut n) {
+        return Read::Line(Form::Loop(f.kind, n[0], n[1], n[2]), e);
     }
-    if let Fitted::Fit(f, e) = matches(table, text, at, b"(if K C M") {
-        return Read::Line(Form::If(f.kind, f.second, f.last), e);
+    if let Fitted::Fit(f, e) = matches_word(table, text, at, b"(if K C M", LIMIT, &mut n) {
+        return Read::Line(Form::If(f.kind, n[0], n[1]), e);
     }
-    if let Fitted::Fit(_, e) = matches(table, text, at, b"(then") {
+    if let Fitted::Fit(_, e) = matches_word(table, text, at, b"(then", LIMIT, &mut n) {
         return Read::Line(Form::Then, e);
     }
-    if let Fitted::Fit(_, e) = matches(table, text, at, b"(else") {
+    if let Fitted::Fit(_, e) = matches_word(table, text, at, b"(else", LIMIT, &mut n) {
         return Read::Line(Form::Else, e);
     }
-    if let Fitted::Fit(_, e) = matches(table, text, at, b")") {
+    if let Fitted::Fit(_, e) = matches_by(table, text, at, b")", LIMIT, &mut n) {
         return Read::Line(Form::Close, e);
     }
     Read::Unread
@@ -540,6 +631,6 @@ fn line_by(table: &Classes, text: &[u8], at: usize) -> Read
 pub fn line(text: &[u8], at: usize) -> Read
     ensures { λ r. ⌜ r ≡ read-at (now (text .entry)) at ⌝ }
 {
-    let table = CLASS;
+    let table = class_table();
     line_by(&table, text, at)
 }

@@ -5,8 +5,10 @@ use native.Mathlib.Omega.{arith}
 use Prim.Native.Nat.{_+_, _-_}
 use Rattle.rows.proofs.Answers.{said-true, said-false, same-answer}
 use Rattle.rows.proofs.Shape.{ends, parts, loop-at, flat-end}
-use Rattle.columns.specs.Sums.{Laid}
-use Rattle.columns.proofs.Sizes.{body-laid, then-laid, else-laid, kind-low, if-three}
+use Rattle.rows.specs.Rows.{Piece}
+use lib.ListN.{getD}
+use Rattle.columns.specs.Private.{AsDerived, AsDerived-first}
+use Rattle.columns.proofs.Sizes.{body-part, then-part, else-part, kind-low, if-three}
 use Rattle.columns.proofs.Fitting.{Walking, begins, walk-start, walk-refuse, walk-next, walk-end, first-within, first-round, flat-first, first-flat, loop-first, first-rounds, first-body, first-start, if-first, first-then, first-else, first-either}
 use Prim.Native.Nat.{ℕ, _<_}
 use borrow.Fn.Kinds.{In}
@@ -54,7 +56,7 @@ abbrev block-fits-calls : ℕ → block-fits-lts.Claims
 block-fits-calls t = (after-reads.Asked, after-reads.Learnt, start-reads.Asked, start-reads.Learnt, form-fits-below t, form-fits.Post)
 
 abbrev block-fits-Inv-loop : block-fits-lts.InvT-loop
-block-fits-Inv-loop row from to left sums turn tail e i₀ i = (p : Laid row left from to) → Walking sums turn tail row left from i to e (p .part .lines)
+block-fits-Inv-loop row from to left sums turn tail e i₀ i = (p : Piece row left from to) → Walking sums turn tail row left from i to e (p .part .lines)
 
 abbrev block-fits-μ-loop : block-fits-lts.MeasureT-loop
 block-fits-μ-loop row from to left sums turn tail e i₀ i = to - i
@@ -90,7 +92,7 @@ block-fits-returns t c =
     let a = c .before .before .before .before .before .loop in
     let lt = c .before .before .before .before .loop-test .taken in
     λ p f. let q = a .inv p in
-    walk-refuse ts o u lt (c .before .before .before .after .ensures) (c .before .before .start .ensures) q (said-false (c .before .form-fits .result) (not-true _ (c .if1 .taken)) (c .before .form-fits .ensures (q .more))) f
+    walk-refuse ts o u lt (c .before .before .before .after .ensures) (c .before .before .start .ensures) q (said-false {A = AsDerived-first ts o u (q .more .part .lines) (a .i) (c .before .before .start .result)} (c .before .form-fits .result) (not-true _ (c .if1 .taken)) (c .before .form-fits .ensures (q .more))) f
 
 block-fits-loop-less : (t : ℕ) → block-fits-lts.Need-loop-less (block-fits-calls t) (block-fits-at t) block-fits.Post block-fits-Inv-loop block-fits-μ-loop
 block-fits-loop-less t c =
@@ -106,7 +108,7 @@ block-fits-loop-again t c =
     let a = c .before .before .before .before .before .loop in
     let lt = c .before .before .before .before .loop-test .taken in
     λ p. let q = a .inv p in
-    walk-next ts o u lt (c .before .before .before .after .ensures) (c .before .before .start .ensures) q (said-true (c .before .form-fits .result) (not-false _ (c .if1 .left)) (c .before .form-fits .ensures (q .more)))
+    walk-next ts o u lt (c .before .before .before .after .ensures) (c .before .before .start .ensures) q (said-true {A = AsDerived-first ts o u (q .more .part .lines) (a .i) (c .before .before .start .result)} (c .before .form-fits .result) (not-false _ (c .if1 .left)) (c .before .form-fits .ensures (q .more)))
 
 block-fits-returns-2 : (t : ℕ) → block-fits-lts.Need-returns-2 (block-fits-calls t) (block-fits-at t) block-fits.Post block-fits-Inv-loop block-fits-μ-loop
 block-fits-returns-2 t c =
@@ -208,7 +210,7 @@ form-fits-block-fits-requires t c κs =
     let h = loop-at lt (z .part) (c .before .before .before .before .before .get .ensures) (c .before .before .if2 .taken) in
     let e = ends lt (z .part) in
     let he = c .before .before .before .index .ensures in
-    (omega (arith, h .opens), ((omega (arith, e, he, r .1), omega (arith, e, he, r .2), omega (arith, e, he, r .3), omega (arith, b .1)), body-laid he h))
+    (omega (arith, h .opens), ((omega (arith, e, he, r .1), omega (arith, e, he, r .2), omega (arith, e, he, r .3), omega (arith, b .1)), body-part he h))
 
 form-fits-returns-3 : (t : ℕ) → form-fits-lts.Need-returns-3 (form-fits-calls t) (form-fits-at t) form-fits.Post
 form-fits-returns-3 t c =
@@ -220,7 +222,7 @@ form-fits-returns-3 t c =
     let o = s .args .turn .now in
     let u = s .args .tail .now in
     λ p f. let h = loop-at lt (p .part) (c .before .before .before .before .before .before .before .get .ensures) (c .before .before .before .before .if2 .taken) in
-    said-false (c .before .block-fits .result) (not-true _ (c .if4 .taken)) (c .before .block-fits .ensures (body-laid (c .before .before .before .before .before .index .ensures) h)) (first-body ts o u h f)
+    said-false {A = AsDerived ts o u (h .body .lines) (s .args .i + 1) (getD u (s .args .i) 0 - getD o (s .args .i) 0)} (c .before .block-fits .result) (not-true _ (c .if4 .taken)) (c .before .block-fits .ensures (body-part (c .before .before .before .before .before .index .ensures) h)) (first-body ts o u h f)
 
 form-fits-add-start : (t : ℕ) → form-fits-lts.Need-add-start (form-fits-calls t) (form-fits-at t) form-fits.Post
 form-fits-add-start t c = search needs
@@ -249,8 +251,8 @@ form-fits-add-equal t c =
     let o = s .args .turn .now in
     let u = s .args .tail .now in
     let h = loop-at lt (z .part) (c .before .before .before .before .before .before .before .before .get .ensures) (c .before .before .before .before .before .if2 .taken) in
-    let f = said-true (c .before .before .block-fits .result) (not-false _ (c .before .if4 .left)) (c .before .before .block-fits .ensures (body-laid (c .before .before .before .before .before .before .index .ensures) h)) in
-    let y = begins ts o u (c .start .ensures) (body-laid (c .before .before .before .before .before .before .index .ensures) h) f in
+    let f = said-true {A = AsDerived ts o u (h .body .lines) (s .args .i + 1) (getD u (s .args .i) 0 - getD o (s .args .i) 0)} (c .before .before .block-fits .result) (not-false _ (c .before .if4 .left)) (c .before .before .block-fits .ensures (body-part (c .before .before .before .before .before .before .index .ensures) h)) in
+    let y = begins ts o u (c .start .ensures) (body-part (c .before .before .before .before .before .before .index .ensures) h) f in
     omega (arith, y, f .small, h .costs .isolated-range, c .before .before .before .before .before .before .before .get2 .ensures)
 
 form-fits-equal-requires : (t : ℕ) → form-fits-lts.Need-equal-requires (form-fits-calls t) (form-fits-at t) form-fits.Post
@@ -268,8 +270,8 @@ form-fits-returns-4 t c =
     let b = said-true (c .before .before .before .before .before .before .before .before .before .before .before .within .result) (not-false _ (c .before .before .before .before .before .before .before .before .before .before .if1 .left)) (c .before .before .before .before .before .before .before .before .before .before .before .within .ensures) in
     let d = said-true (c .before .before .before .before .before .rounds-fit .result) (not-false _ (c .before .before .before .before .if3 .left)) (c .before .before .before .before .before .rounds-fit .ensures) in
     λ p. let h = loop-at lt (p .part) (c .before .before .before .before .before .before .before .before .before .get .ensures) (c .before .before .before .before .before .before .if2 .taken) in
-    let f = said-true (c .before .before .before .block-fits .result) (not-false _ (c .before .before .if4 .left)) (c .before .before .before .block-fits .ensures (body-laid (c .before .before .before .before .before .before .before .index .ensures) h)) in
-    let y = begins ts o u (c .before .start .ensures) (body-laid (c .before .before .before .before .before .before .before .index .ensures) h) f in
+    let f = said-true {A = AsDerived ts o u (h .body .lines) (s .args .i + 1) (getD u (s .args .i) 0 - getD o (s .args .i) 0)} (c .before .before .before .block-fits .result) (not-false _ (c .before .before .if4 .left)) (c .before .before .before .block-fits .ensures (body-part (c .before .before .before .before .before .before .before .index .ensures) h)) in
+    let y = begins ts o u (c .before .start .ensures) (body-part (c .before .before .before .before .before .before .before .index .ensures) h) f in
     same-answer (c .equal .result) (λ e. loop-first ts o u h b d f y (omega (arith, e, c .before .before .before .before .before .before .before .before .get2 .ensures)))
     (λ g. let q = first-start ts o u h g y in omega (arith, q, c .before .before .before .before .before .before .before .before .get2 .ensures)) (c .equal .ensures)
 
@@ -310,7 +312,7 @@ form-fits-block-fits-requires-2 t c κs =
     let e = ends lt (z .part) in
     let d = parts (c .index2 .ensures) (c .before .before .before .before .index .ensures) h in
     let he = c .before .before .before .before .index .ensures in
-    (omega (arith, h .opens), ((omega (arith, e, d, he, r .1), omega (arith, e, d, he, r .2), omega (arith, e, d, he, r .3), omega (arith, b .0, b .1)), then-laid (c .index2 .ensures) h))
+    (omega (arith, h .opens), ((omega (arith, e, d, he, r .1), omega (arith, e, d, he, r .2), omega (arith, e, d, he, r .3), omega (arith, b .0, b .1)), then-part (c .index2 .ensures) h))
 
 form-fits-returns-6 : (t : ℕ) → form-fits-lts.Need-returns-6 (form-fits-calls t) (form-fits-at t) form-fits.Post
 form-fits-returns-6 t c =
@@ -322,7 +324,7 @@ form-fits-returns-6 t c =
     let o = s .args .turn .now in
     let u = s .args .tail .now in
     λ p f. let h = if-three lt p (c .before .before .before .before .before .before .before .before .get .ensures) (c .before .before .before .if6 .taken) in
-    said-false (c .before .block-fits2 .result) (not-true _ (c .if7 .taken)) (c .before .block-fits2 .ensures (then-laid (c .before .before .index2 .ensures) h)) (first-then ts o u h (c .before .before .index2 .ensures) f)
+    said-false {A = AsDerived ts o u (h .then .lines) (s .args .i + 1) (s .args .x)} (c .before .block-fits2 .result) (not-true _ (c .if7 .taken)) (c .before .block-fits2 .ensures (then-part (c .before .before .index2 .ensures) h)) (first-then ts o u h (c .before .before .index2 .ensures) f)
 
 form-fits-sub-block-fits-4 : (t : ℕ) → form-fits-lts.Need-sub-block-fits-4 (form-fits-calls t) (form-fits-at t) form-fits.Post
 form-fits-sub-block-fits-4 t c =
@@ -343,7 +345,7 @@ form-fits-block-fits-requires-3 t c κs =
     let h = if-three lt z (c .before .before .before .before .before .before .before .before .get .ensures) (c .before .before .before .if6 .taken) in
     let e = ends lt (z .part) in
     let he = c .before .before .before .before .before .before .index .ensures in
-    (omega (arith, h .opens), ((omega (arith, e, he, r .1), omega (arith, e, he, r .2), omega (arith, e, he, r .3), omega (arith, b .0, b .1)), else-laid (c .before .before .index2 .ensures) he h))
+    (omega (arith, h .opens), ((omega (arith, e, he, r .1), omega (arith, e, he, r .2), omega (arith, e, he, r .3), omega (arith, b .0, b .1)), else-part (c .before .before .index2 .ensures) he h))
 
 form-fits-returns-7 : (t : ℕ) → form-fits-lts.Need-returns-7 (form-fits-calls t) (form-fits-at t) form-fits.Post
 form-fits-returns-7 t c =
@@ -355,7 +357,7 @@ form-fits-returns-7 t c =
     let o = s .args .turn .now in
     let u = s .args .tail .now in
     λ p f. let h = if-three lt p (c .before .before .before .before .before .before .before .before .before .before .get .ensures) (c .before .before .before .before .before .if6 .taken) in
-    said-false (c .before .block-fits3 .result) (not-true _ (c .if8 .taken)) (c .before .block-fits3 .ensures (else-laid (c .before .before .before .before .index2 .ensures) (c .before .before .before .before .before .before .before .before .index .ensures) h)) (first-else ts o u h (c .before .before .before .before .index2 .ensures) f)
+    said-false {A = AsDerived ts o u (h .else .lines) (c .before .before .before .before .index2 .result) (s .args .x)} (c .before .block-fits3 .result) (not-true _ (c .if8 .taken)) (c .before .block-fits3 .ensures (else-part (c .before .before .before .before .index2 .ensures) (c .before .before .before .before .before .before .before .before .index .ensures) h)) (first-else ts o u h (c .before .before .before .before .index2 .ensures) f)
 
 form-fits-add-start-2 : (t : ℕ) → form-fits-lts.Need-add-start-2 (form-fits-calls t) (form-fits-at t) form-fits.Post
 form-fits-add-start-2 t c =
@@ -400,10 +402,10 @@ form-fits-add-equal-2 t c =
     let o = s .args .turn .now in
     let u = s .args .tail .now in
     let h = if-three lt z (c .before .before .before .before .before .before .before .before .before .before .before .before .before .get .ensures) (c .before .before .before .before .before .before .before .before .if6 .taken) in
-    let f = said-true (c .before .before .before .before .before .before .block-fits2 .result) (not-false _ (c .before .before .before .before .before .if7 .left)) (c .before .before .before .before .before .before .block-fits2 .ensures (then-laid (c .before .before .before .before .before .before .before .index2 .ensures) h)) in
-    let g = said-true (c .before .before .before .before .block-fits3 .result) (not-false _ (c .before .before .before .if8 .left)) (c .before .before .before .before .block-fits3 .ensures (else-laid (c .before .before .before .before .before .before .before .index2 .ensures) (c .before .before .before .before .before .before .before .before .before .before .before .index .ensures) h)) in
-    let ya = begins ts o u (c .before .before .start2 .ensures) (then-laid (c .before .before .before .before .before .before .before .index2 .ensures) h) f in
-    let yb = begins ts o u (c .before .start3 .ensures) (else-laid (c .before .before .before .before .before .before .before .index2 .ensures) (c .before .before .before .before .before .before .before .before .before .before .before .index .ensures) h) g in
+    let f = said-true {A = AsDerived ts o u (h .then .lines) (s .args .i + 1) (s .args .x)} (c .before .before .before .before .before .before .block-fits2 .result) (not-false _ (c .before .before .before .before .before .if7 .left)) (c .before .before .before .before .before .before .block-fits2 .ensures (then-part (c .before .before .before .before .before .before .before .index2 .ensures) h)) in
+    let g = said-true {A = AsDerived ts o u (h .else .lines) (c .before .before .before .before .before .before .before .index2 .result) (s .args .x)} (c .before .before .before .before .block-fits3 .result) (not-false _ (c .before .before .before .if8 .left)) (c .before .before .before .before .block-fits3 .ensures (else-part (c .before .before .before .before .before .before .before .index2 .ensures) (c .before .before .before .before .before .before .before .before .before .before .before .index .ensures) h)) in
+    let ya = begins ts o u (c .before .before .start2 .ensures) (then-part (c .before .before .before .before .before .before .before .index2 .ensures) h) f in
+    let yb = begins ts o u (c .before .start3 .ensures) (else-part (c .before .before .before .before .before .before .before .index2 .ensures) (c .before .before .before .before .before .before .before .before .before .before .before .index .ensures) h) g in
     omega (arith, c .larger .ensures, ya, yb, f .small, g .small, h .costs .isolated-range, c .before .before .before .before .before .before .before .before .before .before .before .before .get2 .ensures)
 
 form-fits-equal-requires-2 : (t : ℕ) → form-fits-lts.Need-equal-requires-2 (form-fits-calls t) (form-fits-at t) form-fits.Post
@@ -420,10 +422,10 @@ form-fits-returns-8 t c =
     let u = s .args .tail .now in
     let b = said-true (c .before .before .before .before .before .before .before .before .before .before .before .before .before .before .before .before .within .result) (not-false _ (c .before .before .before .before .before .before .before .before .before .before .before .before .before .before .before .if1 .left)) (c .before .before .before .before .before .before .before .before .before .before .before .before .before .before .before .before .within .ensures) in
     λ p. let h = if-three lt p (c .before .before .before .before .before .before .before .before .before .before .before .before .before .before .get .ensures) (c .before .before .before .before .before .before .before .before .before .if6 .taken) in
-    let f = said-true (c .before .before .before .before .before .before .before .block-fits2 .result) (not-false _ (c .before .before .before .before .before .before .if7 .left)) (c .before .before .before .before .before .before .before .block-fits2 .ensures (then-laid (c .before .before .before .before .before .before .before .before .index2 .ensures) h)) in
-    let g = said-true (c .before .before .before .before .before .block-fits3 .result) (not-false _ (c .before .before .before .before .if8 .left)) (c .before .before .before .before .before .block-fits3 .ensures (else-laid (c .before .before .before .before .before .before .before .before .index2 .ensures) (c .before .before .before .before .before .before .before .before .before .before .before .before .index .ensures) h)) in
-    let ya = begins ts o u (c .before .before .before .start2 .ensures) (then-laid (c .before .before .before .before .before .before .before .before .index2 .ensures) h) f in
-    let yb = begins ts o u (c .before .before .start3 .ensures) (else-laid (c .before .before .before .before .before .before .before .before .index2 .ensures) (c .before .before .before .before .before .before .before .before .before .before .before .before .index .ensures) h) g in
+    let f = said-true {A = AsDerived ts o u (h .then .lines) (s .args .i + 1) (s .args .x)} (c .before .before .before .before .before .before .before .block-fits2 .result) (not-false _ (c .before .before .before .before .before .before .if7 .left)) (c .before .before .before .before .before .before .before .block-fits2 .ensures (then-part (c .before .before .before .before .before .before .before .before .index2 .ensures) h)) in
+    let g = said-true {A = AsDerived ts o u (h .else .lines) (c .before .before .before .before .before .before .before .before .index2 .result) (s .args .x)} (c .before .before .before .before .before .block-fits3 .result) (not-false _ (c .before .before .before .before .if8 .left)) (c .before .before .before .before .before .block-fits3 .ensures (else-part (c .before .before .before .before .before .before .before .before .index2 .ensures) (c .before .before .before .before .before .before .before .before .before .before .before .before .index .ensures) h)) in
+    let ya = begins ts o u (c .before .before .before .start2 .ensures) (then-part (c .before .before .before .before .before .before .before .before .index2 .ensures) h) f in
+    let yb = begins ts o u (c .before .before .start3 .ensures) (else-part (c .before .before .before .before .before .before .before .before .index2 .ensures) (c .before .before .before .before .before .before .before .before .before .before .before .before .index .ensures) h) g in
     same-answer (c .equal2 .result)
     (λ e. if-first ts o u h (c .before .before .before .before .before .before .before .before .index2 .ensures) (omega (arith, c .before .before .before .before .before .before .before .before .before .before .if5 .left)) (b .1) f g ya yb (c .before .larger .ensures) (omega (arith, e, c .before .before .before .before .before .before .before .before .before .before .before .before .before .get2 .ensures)))
     (λ w. let q = first-either ts o u lt p h w ya yb (c .before .larger .ensures) in omega (arith, q, c .before .before .before .before .before .before .before .before .before .before .before .before .before .get2 .ensures)) (c .equal2 .ensures)

@@ -1,12 +1,12 @@
 -- `columns::sum_block` and `columns::sum_form`, which call each other, meet their contracts. Assumes nothing.
 use Rattle.columns.proofs.Summing.{leaf-turn, call-turn, if-turn, leaf-sum, call-sum, loop-sum, if-sum, loop-note, Passed, pass, passed-all}
 use Rattle.columns.proofs.Fronts.{leaf-front, call-front, loop-front, if-front}
-use Rattle.columns.proofs.Sizes.{body-laid, then-laid, else-laid}
-use Rattle.columns.proofs.Capped.{price-le}
+use Rattle.columns.proofs.Sizes.{body-part, then-part, else-part}
+use Rattle.columns.proofs.Capped.{cost-le}
 use Rattle.columns.specs.Columns.{turn-rule, turns}
-use Rattle.columns.specs.Sums.{ceiling, price, Laid}
+use Rattle.columns.specs.Sums.{ceiling, cost-in}
 use Rattle.rows.proofs.Shape.{leaf-at, call-at, loop-at, if-at, ends, parts, flat-end}
-use Rattle.rows.specs.Rows.{block-at}
+use Rattle.rows.specs.Rows.{block-at, Piece}
 use Rattle.model.specs.Total.{tally}
 use lib.Seq.{sets}
 use lib.ListN.{getD}
@@ -57,10 +57,10 @@ abbrev sum-block-calls : ℕ → sum-block-lts.Claims
 sum-block-calls t = (sum-form-below t, sum-form.Post, clip-reads.Asked, clip-reads.Learnt, after-reads.Asked, after-reads.Learnt)
 
 abbrev sum-block-Inv-loop : sum-block-lts.InvT-loop
-sum-block-Inv-loop row load from to left sums turn₀ acc₀ i₀ turn acc i = (acc ≤ ceiling) × ((p : Laid row left from to) → Passed row (price load) sums left i to acc (tally (price load) sums (p .part .lines)) turn (sets turn₀ from (turns (price load) sums (p .part .lines))))
+sum-block-Inv-loop row column from to left sums turn₀ acc₀ i₀ turn acc i = (acc ≤ ceiling) × ((p : Piece row left from to) → Passed row (cost-in column) sums left i to acc (tally (cost-in column) sums (p .part .lines)) turn (sets turn₀ from (turns (cost-in column) sums (p .part .lines))))
 
 abbrev sum-block-μ-loop : sum-block-lts.MeasureT-loop
-sum-block-μ-loop row load from to left sums turn₀ acc₀ i₀ turn acc i = to - i
+sum-block-μ-loop row column from to left sums turn₀ acc₀ i₀ turn acc i = to - i
 
 sum-block-loop-holds : (t : ℕ) → sum-block-lts.Need-loop-holds (sum-block-calls t) (sum-block-at t) sum-block.Post sum-block-Inv-loop sum-block-μ-loop
 sum-block-loop-holds t c = (omega arith, λ p. record { more = p; sum = omega arith; todo = refl })
@@ -136,16 +136,17 @@ sum-form-returns t c =
     let s = c .before .before .before .before in
     let lt = s .pre .1 .0 in
     let z = s .pre .1 .1 .1 in
-    let l = s .args .load in
+    let l = s .args .column in
     let ts = s .args .sums .now in
     let o = s .args .turn .now in
     let v = c .before .before .get .ensures in (
       let h = leaf-at lt (z .part) v (c .if1 .taken) in
-          leaf-sum l ts h (c .before .cost .ensures) .0,
+          leaf-sum (cost-in l) ts h (cost-le l (block-at (s .args .row .now) (s .args .i)) (h .costs)) (c .before .cost .ensures) .0,
       (
-        (λ p. leaf-sum l ts (leaf-at lt (p .part) v (c .if1 .taken)) (c .before .cost .ensures) .1),
+        (λ p. let h = leaf-at lt (p .part) v (c .if1 .taken) in
+            leaf-sum (cost-in l) ts h (cost-le l (block-at (s .args .row .now) (s .args .i)) (h .costs)) (c .before .cost .ensures) .1),
         λ p. let h = leaf-at lt (p .part) v (c .if1 .taken) in
-            leaf-front (turn-rule (price l) ts) o 0 h (leaf-turn (price l) ts h),
+            leaf-front (turn-rule (cost-in l) ts) o 0 h (leaf-turn (cost-in l) ts h),
       ),
     )
 
@@ -181,10 +182,10 @@ sum-form-add-clip t c =
     let s = c .before .before .before .before .before .before .before in
     let lt = s .pre .1 .0 in
     let z = s .pre .1 .1 .1 in
-    let l = s .args .load in
+    let l = s .args .column in
     let v = c .before .before .before .before .before .get .ensures in
     let h = call-at lt (z .part) v (c .before .before .if2 .taken) in
-    omega (arith, price-le l (block-at (s .args .row .now) (s .args .i)) (h .costs), c .before .before .before .before .cost .ensures, s .pre .1 .1 .0 .2 (c .before .index .result))
+    omega (arith, cost-le l (block-at (s .args .row .now) (s .args .i)) (h .costs), c .before .before .before .before .cost .ensures, s .pre .1 .1 .0 .2 (c .before .index .result))
 
 sum-form-clip-requires : (t : ℕ) → sum-form-lts.Need-clip-requires (sum-form-calls t) (sum-form-at t) sum-form.Post
 sum-form-clip-requires t c κs = search needs
@@ -193,16 +194,16 @@ sum-form-returns-2 : (t : ℕ) → sum-form-lts.Need-returns-2 (sum-form-calls t
 sum-form-returns-2 t c =
     let s = c .before .before .before .before .before .before .before .before in
     let lt = s .pre .1 .0 in
-    let l = s .args .load in
+    let l = s .args .column in
     let ts = s .args .sums .now in
     let o = s .args .turn .now in
     let v = c .before .before .before .before .before .before .get .ensures in (
       omega (arith, c .clip .ensures),
       (
         (λ p. let h = call-at lt (p .part) v (c .before .before .before .if2 .taken) in
-            call-sum l ts h (c .before .before .before .before .before .cost .ensures) (ap (λ (y : ℕ). getD ts y 0) (c .before .before .index .ensures)) (c .clip .ensures)),
+            call-sum (cost-in l) ts h (c .before .before .before .before .before .cost .ensures) (ap (λ (y : ℕ). getD ts y 0) (c .before .before .index .ensures)) (c .clip .ensures)),
         λ p. let h = call-at lt (p .part) v (c .before .before .before .if2 .taken) in
-            call-front (turn-rule (price l) ts) o 0 h (call-turn (price l) ts h),
+            call-front (turn-rule (cost-in l) ts) o 0 h (call-turn (cost-in l) ts h),
       ),
     )
 
@@ -229,17 +230,17 @@ sum-form-sum-block-requires t c κs =
     let v = c .before .before .before .before .before .before .get .ensures in
     let h = loop-at lt (z .part) v (c .before .if3 .taken) in
     let e = ends lt (z .part) in
-    (omega (arith, h .opens), ((omega (arith, e, c .before .before .index2 .ensures, s .pre .1 .1 .0 .0), omega (arith, e, c .before .before .index2 .ensures, s .pre .1 .1 .0 .1), s .pre .1 .1 .0 .2), body-laid (c .before .before .index2 .ensures) h))
+    (omega (arith, h .opens), ((omega (arith, e, c .before .before .index2 .ensures, s .pre .1 .1 .0 .0), omega (arith, e, c .before .before .index2 .ensures, s .pre .1 .1 .0 .1), s .pre .1 .1 .0 .2, s .pre .1 .1 .0 .3), body-part (c .before .before .index2 .ensures) h))
 
 sum-form-add-turn : (t : ℕ) → sum-form-lts.Need-add-turn (sum-form-calls t) (sum-form-at t) sum-form.Post
 sum-form-add-turn t c =
     let s = c .before .before .before .before .before .before .before .before .before in
     let lt = s .pre .1 .0 in
     let z = s .pre .1 .1 .1 in
-    let l = s .args .load in
+    let l = s .args .column in
     let v = c .before .before .before .before .before .before .before .get .ensures in
     let h = loop-at lt (z .part) v (c .before .before .if3 .taken) in
-    omega (arith, price-le l (block-at (s .args .row .now) (s .args .i)) (h .costs), c .before .before .before .before .before .before .cost .ensures, c .sum-block .ensures .0)
+    omega (arith, cost-le l (block-at (s .args .row .now) (s .args .i)) (h .costs), c .before .before .before .before .before .before .cost .ensures, c .sum-block .ensures .0)
 
 sum-form-mul-turn-3 : (t : ℕ) → sum-form-lts.Need-mul-turn-3 (sum-form-calls t) (sum-form-at t) sum-form.Post
 sum-form-mul-turn-3 t c = search needs
@@ -255,25 +256,25 @@ sum-form-looped-requires t c κs =
     let s = c .before .before .before .before .before .before .before .before .before .before in
     let lt = s .pre .1 .0 in
     let z = s .pre .1 .1 .1 in
-    let l = s .args .load in
+    let l = s .args .column in
     let v = c .before .before .before .before .before .before .before .before .get .ensures in
     let h = loop-at lt (z .part) v (c .before .before .before .if3 .taken) in
-    (omega (arith, price-le l (block-at (s .args .row .now) (s .args .i)) (h .costs), c .before .before .before .before .before .before .before .cost .ensures), omega (arith, h .bound, c .get2 .ensures), c .before .sum-block .ensures .0)
+    (omega (arith, cost-le l (block-at (s .args .row .now) (s .args .i)) (h .costs), c .before .before .before .before .before .before .before .cost .ensures), omega (arith, h .bound, c .get2 .ensures), c .before .sum-block .ensures .0)
 
 sum-form-returns-3 : (t : ℕ) → sum-form-lts.Need-returns-3 (sum-form-calls t) (sum-form-at t) sum-form.Post
 sum-form-returns-3 t c =
     let s = c .before .before .before .before .before .before .before .before .before .before .before in
     let lt = s .pre .1 .0 in
-    let l = s .args .load in
+    let l = s .args .column in
     let ts = s .args .sums .now in
     let o = s .args .turn .now in
     let v = c .before .before .before .before .before .before .before .before .before .get .ensures in (
       omega (arith, c .looped .ensures),
       (
         (λ p. let h = loop-at lt (p .part) v (c .before .before .before .before .if3 .taken) in
-            loop-sum l ts h (c .before .before .before .before .before .before .before .before .cost .ensures) (c .before .get2 .ensures) (c .before .before .before .before .before .index2 .ensures) (c .before .before .sum-block .ensures .1 .0) (c .looped .ensures)),
+            loop-sum (cost-in l) ts h (c .before .before .before .before .before .before .before .before .cost .ensures) (c .before .get2 .ensures) (c .before .before .before .before .before .index2 .ensures) (c .before .before .sum-block .ensures .1 .0) (c .looped .ensures)),
         λ p. let h = loop-at lt (p .part) v (c .before .before .before .before .if3 .taken) in
-            loop-front (turn-rule (price l) ts) o 0 h (loop-note l ts h (c .before .before .before .before .before .before .before .before .cost .ensures) (c .before .before .before .before .before .index2 .ensures) (c .before .before .sum-block .ensures .1 .0)) refl (c .before .before .sum-block .ensures .1 .1 (body-laid (c .before .before .before .before .before .index2 .ensures) h)),
+            loop-front (turn-rule (cost-in l) ts) o 0 h (loop-note (cost-in l) ts h (c .before .before .before .before .before .before .before .before .cost .ensures) (c .before .before .before .before .before .index2 .ensures) (c .before .before .sum-block .ensures .1 .0)) refl (c .before .before .sum-block .ensures .1 .1 (body-part (c .before .before .before .before .before .index2 .ensures) h)),
       ),
     )
 
@@ -301,7 +302,7 @@ sum-form-sum-block-requires-2 t c κs =
     let h = if-at lt (z .part) v (c .before .before .before .before .before .if1 .left) (c .before .before .before .before .if2 .left) (c .before .before .if3 .left) in
     let e = ends lt (z .part) in
     let d = parts (c .before .index3 .ensures) (c .before .before .before .index2 .ensures) h in
-    (omega (arith, h .opens), ((omega (arith, e, d, c .before .before .before .index2 .ensures, s .pre .1 .1 .0 .0), omega (arith, e, d, c .before .before .before .index2 .ensures, s .pre .1 .1 .0 .1), s .pre .1 .1 .0 .2), then-laid (c .before .index3 .ensures) h))
+    (omega (arith, h .opens), ((omega (arith, e, d, c .before .before .before .index2 .ensures, s .pre .1 .1 .0 .0), omega (arith, e, d, c .before .before .before .index2 .ensures, s .pre .1 .1 .0 .1), s .pre .1 .1 .0 .2, s .pre .1 .1 .0 .3), then-part (c .before .index3 .ensures) h))
 
 sum-form-sub-sum-block-3 : (t : ℕ) → sum-form-lts.Need-sub-sum-block-3 (sum-form-calls t) (sum-form-at t) sum-form.Post
 sum-form-sub-sum-block-3 t c =
@@ -320,7 +321,7 @@ sum-form-sum-block-requires-3 t c κs =
     let v = c .before .before .before .before .before .before .before .before .before .get .ensures in
     let h = if-at lt (z .part) v (c .before .before .before .before .before .before .before .if1 .left) (c .before .before .before .before .before .before .if2 .left) (c .before .before .before .before .if3 .left) in
     let e = ends lt (z .part) in
-    (omega (arith, h .opens), ((omega (arith, e, c .before .before .before .before .before .index2 .ensures, s .pre .1 .1 .0 .0), omega (arith, e, c .before .before .before .before .before .index2 .ensures, s .pre .1 .1 .0 .1), s .pre .1 .1 .0 .2), else-laid (c .before .before .before .index3 .ensures) (c .before .before .before .before .before .index2 .ensures) h))
+    (omega (arith, h .opens), ((omega (arith, e, c .before .before .before .before .before .index2 .ensures, s .pre .1 .1 .0 .0), omega (arith, e, c .before .before .before .before .before .index2 .ensures, s .pre .1 .1 .0 .1), s .pre .1 .1 .0 .2, s .pre .1 .1 .0 .3), else-part (c .before .before .before .index3 .ensures) (c .before .before .before .before .before .index2 .ensures) h))
 
 sum-form-mul-turn-4 : (t : ℕ) → sum-form-lts.Need-mul-turn-4 (sum-form-calls t) (sum-form-at t) sum-form.Post
 sum-form-mul-turn-4 t c = search needs
@@ -336,10 +337,10 @@ sum-form-add-clip-2 t c =
     let s = c .before .before .before .before .before .before .before .before .before .before .before .before .before in
     let lt = s .pre .1 .0 in
     let z = s .pre .1 .1 .1 in
-    let l = s .args .load in
+    let l = s .args .column in
     let v = c .before .before .before .before .before .before .before .before .before .before .before .get .ensures in
     let h = if-at lt (z .part) v (c .before .before .before .before .before .before .before .before .before .if1 .left) (c .before .before .before .before .before .before .before .before .if2 .left) (c .before .before .before .before .before .before .if3 .left) in
-    omega (arith, price-le l (block-at (s .args .row .now) (s .args .i)) (h .costs), c .before .before .before .before .before .before .before .before .before .before .cost .ensures, c .larger .ensures, c .before .before .before .sum-block2 .ensures .0, c .before .sum-block3 .ensures .0)
+    omega (arith, cost-le l (block-at (s .args .row .now) (s .args .i)) (h .costs), c .before .before .before .before .before .before .before .before .before .before .cost .ensures, c .larger .ensures, c .before .before .before .sum-block2 .ensures .0, c .before .sum-block3 .ensures .0)
 
 sum-form-clip-requires-2 : (t : ℕ) → sum-form-lts.Need-clip-requires-2 (sum-form-calls t) (sum-form-at t) sum-form.Post
 sum-form-clip-requires-2 t c κs = search needs
@@ -348,16 +349,16 @@ sum-form-returns-4 : (t : ℕ) → sum-form-lts.Need-returns-4 (sum-form-calls t
 sum-form-returns-4 t c =
     let s = c .before .before .before .before .before .before .before .before .before .before .before .before .before .before in
     let lt = s .pre .1 .0 in
-    let l = s .args .load in
+    let l = s .args .column in
     let ts = s .args .sums .now in
     let o = s .args .turn .now in
     let v = c .before .before .before .before .before .before .before .before .before .before .before .before .get .ensures in (
       omega (arith, c .clip2 .ensures),
       (
         (λ p. let h = if-at lt (p .part) v (c .before .before .before .before .before .before .before .before .before .before .if1 .left) (c .before .before .before .before .before .before .before .before .before .if2 .left) (c .before .before .before .before .before .before .before .if3 .left) in
-            if-sum l ts h (c .before .before .before .before .before .before .before .before .before .before .before .cost .ensures) (c .before .before .before .before .before .before .index3 .ensures) (c .before .before .before .before .before .before .before .before .index2 .ensures) (c .before .before .before .before .sum-block2 .ensures .1 .0) (c .before .before .sum-block3 .ensures .1 .0) (c .before .larger .ensures) (c .clip2 .ensures)),
+            if-sum (cost-in l) ts h (c .before .before .before .before .before .before .before .before .before .before .before .cost .ensures) (c .before .before .before .before .before .before .index3 .ensures) (c .before .before .before .before .before .before .before .before .index2 .ensures) (c .before .before .before .before .sum-block2 .ensures .1 .0) (c .before .before .sum-block3 .ensures .1 .0) (c .before .larger .ensures) (c .clip2 .ensures)),
         λ p. let h = if-at lt (p .part) v (c .before .before .before .before .before .before .before .before .before .before .if1 .left) (c .before .before .before .before .before .before .before .before .before .if2 .left) (c .before .before .before .before .before .before .before .if3 .left) in
-            if-front (turn-rule (price l) ts) o 0 h (c .before .before .before .before .before .before .index3 .ensures) (if-turn (price l) ts h) (c .before .before .before .before .sum-block2 .ensures .1 .1 (then-laid (c .before .before .before .before .before .before .index3 .ensures) h)) (c .before .before .sum-block3 .ensures .1 .1 (else-laid (c .before .before .before .before .before .before .index3 .ensures) (c .before .before .before .before .before .before .before .before .index2 .ensures) h)),
+            if-front (turn-rule (cost-in l) ts) o 0 h (c .before .before .before .before .before .before .index3 .ensures) (if-turn (cost-in l) ts h) (c .before .before .before .before .sum-block2 .ensures .1 .1 (then-part (c .before .before .before .before .before .before .index3 .ensures) h)) (c .before .before .sum-block3 .ensures .1 .1 (else-part (c .before .before .before .before .before .before .index3 .ensures) (c .before .before .before .before .before .before .before .before .index2 .ensures) h)),
       ),
     )
 

@@ -1,12 +1,11 @@
 -- `columns::tail_block` and `columns::tail_form`, which call each other, meet their contracts. Assumes nothing.
-use mathlib.Core.Bool.{false}
 use Rattle.columns.proofs.Tailing.{loop-behind, if-tail, tail-on, tail-le, tail-close}
 use Rattle.columns.proofs.Backing.{kept-all, kept-both, Back, back-start, back-on, back-end, listed-at}
 use Rattle.columns.proofs.Readiness.{body-sized, then-sized, else-sized, ready-zero, later-ready}
 use Rattle.columns.proofs.Fronts.{plain-front, loop-front, if-front}
 use Rattle.columns.proofs.Sizes.{kind-low, if-three}
-use Rattle.columns.specs.Order.{sibling, Kept}
-use Rattle.columns.specs.Columns.{tail-rule, Sized}
+use Rattle.columns.specs.Private.{sibling, Kept, Sized}
+use Rattle.columns.specs.Columns.{tail-rule}
 use Rattle.columns.specs.Sums.{lead}
 use Rattle.rows.proofs.Shape.{loop-at, ends, parts}
 use Rattle.model.specs.Plan.{C}
@@ -57,13 +56,13 @@ abbrev tail-block-calls : ℕ → tail-block-lts.Claims
 tail-block-calls t = (list-reads.Asked, list-reads.Learnt, tail-form-below t, tail-form.Post)
 
 abbrev tail-block-Inv-loop : tail-block-lts.InvT-loop
-tail-block-Inv-loop row from to left sums turn e seq₀ out₀ n₀ t₀ seq out n t = (n ≤ n₀) × Kept (from + n) seq₀ seq × ((p : Sized false row sums turn left from to e) → Back (tail-rule sums) row from (p .laid .part .lines) e n t out out₀)
+tail-block-Inv-loop row from to left sums turn e seq₀ out₀ n₀ t₀ seq out n t = (n ≤ n₀) × Kept (from + n) seq₀ seq × ((p : Sized C row sums turn left from to e) → Back (tail-rule sums) row from (p .forms .part .lines) e n t out out₀)
 
 abbrev tail-block-μ-loop : tail-block-lts.MeasureT-loop
 tail-block-μ-loop row from to left sums turn e seq₀ out₀ n₀ t₀ seq out n t = n
 
 tail-block-list-requires : (t : ℕ) → tail-block-lts.Need-list-requires (tail-block-calls t) (tail-block-at t) tail-block.Post tail-block-Inv-loop tail-block-μ-loop
-tail-block-list-requires t c κs = let s = c .before .before in let z = s .pre .1 .1 in (s .pre .1 .0, (s .args .left, z .laid))
+tail-block-list-requires t c κs = let s = c .before .before in let z = s .pre .1 .1 in (s .pre .1 .0, (s .args .left, z .forms))
 
 tail-block-loop-holds : (t : ℕ) → tail-block-lts.Need-loop-holds (tail-block-calls t) (tail-block-at t) tail-block.Post tail-block-Inv-loop tail-block-μ-loop
 tail-block-loop-holds t c =
@@ -72,7 +71,7 @@ tail-block-loop-holds t c =
     let q = c .list .ensures .0 in (
       omega arith,
       kept-all _,
-      λ p. back-start (tail-rule ts) (s .args .out .now) (tail-close ts (s .args .e)) q (p .laid),
+      λ p. back-start (tail-rule ts) (s .args .out .now) (tail-close ts (s .args .e)) q (p .forms),
     )
 
 tail-block-sub-n : (t : ℕ) → tail-block-lts.Need-sub-n (tail-block-calls t) (tail-block-at t) tail-block.Post tail-block-Inv-loop tail-block-μ-loop
@@ -122,7 +121,7 @@ tail-block-tail-form-requires t c κs =
     let mn : m < c .before .before .before .before .before .list .result = omega (arith, lt, a .inv .0) in
     let hx : getD (a .seq) (s .args .from + m) 0 ≡ sibling w (s .args .from) m = listed-at q hn mn (a .inv .1) refl in
     let below : (j : ℕ) → j < m → sibling w (s .args .from) j < s .args .to = λ j h. q .inside j (omega arith) in
-    (omega (arith, s .pre .0), (rw hx (q .inside m mn), ((s .pre .1 .0 .0, s .pre .1 .0 .1, a .inv .1 .long ∙ c .before .before .before .before .before .list .ensures .1 .long ∙ s .pre .1 .0 .2), later-ready z below hx (tail-le ts m (a .n) (z .laid .part .lines) (s .args .e) hn (a .inv .2 z .stands)))))
+    (omega (arith, s .pre .0), (rw hx (q .inside m mn), ((s .pre .1 .0 .0, s .pre .1 .0 .1, a .inv .1 .long ∙ c .before .before .before .before .before .list .ensures .1 .long ∙ s .pre .1 .0 .2), later-ready z below hx (tail-le ts m (a .n) (z .forms .part .lines) (s .args .e) hn (a .inv .2 z .stands)))))
 
 tail-block-loop-less : (t : ℕ) → tail-block-lts.Need-loop-less (tail-block-calls t) (tail-block-at t) tail-block.Post tail-block-Inv-loop tail-block-μ-loop
 tail-block-loop-less t c = search needs
@@ -142,8 +141,8 @@ tail-block-loop-again t c =
     let below : (j : ℕ) → j < m → sibling w (s .args .from) j < s .args .to = λ j h. q .inside j (omega arith) in (
       omega (arith, a .inv .0),
       kept-both (a .inv .1) (c .tail-form .ensures .1 .1) (omega arith) (omega (arith, hx, q .room m mn)),
-      λ p. let r = later-ready p below hx (tail-le ts m (a .n) (p .laid .part .lines) (s .args .e) hn (a .inv .2 p .stands)) in
-          back-on hn (p .laid) (λ j h. q .inside j (omega (arith, a .inv .0))) hx (a .inv .2 p) (tail-on ts m (a .n) (p .laid .part .lines) (s .args .e) hn (a .inv .2 p .stands) (c .tail-form .ensures .0 r)) (c .tail-form .ensures .1 .0 r),
+      λ p. let r = later-ready p below hx (tail-le ts m (a .n) (p .forms .part .lines) (s .args .e) hn (a .inv .2 p .stands)) in
+          back-on hn (p .forms) (λ j h. q .inside j (omega (arith, a .inv .0))) hx (a .inv .2 p) (tail-on ts m (a .n) (p .forms .part .lines) (s .args .e) hn (a .inv .2 p .stands) (c .tail-form .ensures .0 r)) (c .tail-form .ensures .1 .0 r),
     )
 
 tail-block-returns : (t : ℕ) → tail-block-lts.Need-returns (tail-block-calls t) (tail-block-at t) tail-block.Post tail-block-Inv-loop tail-block-μ-loop
@@ -175,7 +174,7 @@ tail-form-sub-tail-block t c =
     let lt = s .pre .1 .0 in
     let z = s .pre .1 .1 .1 in
     let v = c .before .before .before .get .ensures in
-    let h = if-three lt (z .laid) v (c .before .before .if1 .taken) in
+    let h = if-three lt (z .forms) v (c .before .before .if1 .taken) in
     h .opens
 
 tail-form-tail-block-requires : (t : ℕ) → tail-form-lts.Need-tail-block-requires (tail-form-calls t) (tail-form-at t) tail-form.Post
@@ -184,8 +183,8 @@ tail-form-tail-block-requires t c κs =
     let lt = s .pre .1 .0 in
     let z = s .pre .1 .1 .1 in
     let v = c .before .before .before .before .before .get .ensures in
-    let h = if-three lt (z .laid) v (c .before .before .before .before .if1 .taken) in
-    let e = ends lt (z .laid .part) in
+    let h = if-three lt (z .forms) v (c .before .before .before .before .if1 .taken) in
+    let e = ends lt (z .forms .part) in
     let d = parts (c .before .before .index2 .ensures) (c .before .before .before .index .ensures) h in
     (omega (arith, h .opens), ((omega (arith, e, d, c .before .before .before .index .ensures, s .pre .1 .1 .0 .0), omega (arith, e, d, c .before .before .before .index .ensures, s .pre .1 .1 .0 .1), s .pre .1 .1 .0 .2), then-sized lt z (c .before .before .index2 .ensures) h))
 
@@ -195,7 +194,7 @@ tail-form-sub-tail-block-2 t c =
     let lt = s .pre .1 .0 in
     let z = s .pre .1 .1 .1 in
     let v = c .before .before .before .before .before .before .get .ensures in
-    let h = if-three lt (z .laid) v (c .before .before .before .before .before .if1 .taken) in
+    let h = if-three lt (z .forms) v (c .before .before .before .before .before .if1 .taken) in
     h .opens
 
 tail-form-tail-block-requires-2 : (t : ℕ) → tail-form-lts.Need-tail-block-requires-2 (tail-form-calls t) (tail-form-at t) tail-form.Post
@@ -204,8 +203,8 @@ tail-form-tail-block-requires-2 t c κs =
     let lt = s .pre .1 .0 in
     let z = s .pre .1 .1 .1 in
     let v = c .before .before .before .before .before .before .before .before .get .ensures in
-    let h = if-three lt (z .laid) v (c .before .before .before .before .before .before .before .if1 .taken) in
-    let e = ends lt (z .laid .part) in
+    let h = if-three lt (z .forms) v (c .before .before .before .before .before .before .before .if1 .taken) in
+    let e = ends lt (z .forms .part) in
     (omega (arith, h .opens), ((omega (arith, e, c .before .before .before .before .before .before .index .ensures, s .pre .1 .1 .0 .0), omega (arith, e, c .before .before .before .before .before .before .index .ensures, s .pre .1 .1 .0 .1), c .before .before .tail-block .ensures .1 .1 .long ∙ s .pre .1 .1 .0 .2), else-sized lt z (c .before .before .before .before .before .index2 .ensures) (c .before .before .before .before .before .before .index .ensures) h))
 
 tail-form-get-requires-2 : (t : ℕ) → tail-form-lts.Need-get-requires-2 (tail-form-calls t) (tail-form-at t) tail-form.Post
@@ -222,7 +221,7 @@ tail-form-add-t t c =
     let ts = s .args .sums .now in
     let x = s .args .e in
     let v = c .before .before .before .before .before .before .before .before .before .before .before .get .ensures in
-    let h = if-three lt (z .laid) v (c .before .before .before .before .before .before .before .before .before .before .if1 .taken) in
+    let h = if-three lt (z .forms) v (c .before .before .before .before .before .before .before .before .before .before .if1 .taken) in
     omega (arith, if-tail ts x h (c .before .get2 .ensures) (c .before .before .before .before .before .tail-block .ensures .0 (then-sized lt z (c .before .before .before .before .before .before .before .before .index2 .ensures) h)) (c .before .before .tail-block2 .ensures .0 (else-sized lt z (c .before .before .before .before .before .before .before .before .index2 .ensures) (c .before .before .before .before .before .before .before .before .before .index .ensures) h)) (c .larger .ensures), z .small)
 
 tail-form-mul-out : (t : ℕ) → tail-form-lts.Need-mul-out (tail-form-calls t) (tail-form-at t) tail-form.Post
@@ -246,12 +245,12 @@ tail-form-returns t c =
     let o = s .args .out .now in
     let x = s .args .e in
     let v = c .before .before .before .before .before .before .before .before .before .before .before .get .ensures in (
-      (λ p. let h = if-three lt (p .laid) v (c .before .before .before .before .before .before .before .before .before .before .if1 .taken) in
+      (λ p. let h = if-three lt (p .forms) v (c .before .before .before .before .before .before .before .before .before .before .if1 .taken) in
           if-tail ts x h (c .before .get2 .ensures) (c .before .before .before .before .before .tail-block .ensures .0 (then-sized lt p (c .before .before .before .before .before .before .before .before .index2 .ensures) h)) (c .before .before .tail-block2 .ensures .0 (else-sized lt p (c .before .before .before .before .before .before .before .before .index2 .ensures) (c .before .before .before .before .before .before .before .before .before .index .ensures) h)) (c .larger .ensures)),
       (
-        (λ p. let h = if-three lt (p .laid) v (c .before .before .before .before .before .before .before .before .before .before .if1 .taken) in
+        (λ p. let h = if-three lt (p .forms) v (c .before .before .before .before .before .before .before .before .before .before .if1 .taken) in
             if-front (tail-rule ts) o x h (c .before .before .before .before .before .before .before .before .index2 .ensures) (if-tail ts x h (c .before .get2 .ensures) (c .before .before .before .before .before .tail-block .ensures .0 (then-sized lt p (c .before .before .before .before .before .before .before .before .index2 .ensures) h)) (c .before .before .tail-block2 .ensures .0 (else-sized lt p (c .before .before .before .before .before .before .before .before .index2 .ensures) (c .before .before .before .before .before .before .before .before .before .index .ensures) h)) (c .larger .ensures)) (c .before .before .before .before .before .tail-block .ensures .1 .0 (then-sized lt p (c .before .before .before .before .before .before .before .before .index2 .ensures) h)) (c .before .before .tail-block2 .ensures .1 .0 (else-sized lt p (c .before .before .before .before .before .before .before .before .index2 .ensures) (c .before .before .before .before .before .before .before .before .before .index .ensures) h))),
-        let h = if-three lt (z .laid) v (c .before .before .before .before .before .before .before .before .before .before .if1 .taken) in
+        let h = if-three lt (z .forms) v (c .before .before .before .before .before .before .before .before .before .before .if1 .taken) in
             let d = parts (c .before .before .before .before .before .before .before .before .index2 .ensures) (c .before .before .before .before .before .before .before .before .before .index .ensures) h in
             kept-both (c .before .before .before .before .before .tail-block .ensures .1 .1) (c .before .before .tail-block2 .ensures .1 .1) (omega arith) (omega (arith, d)),
       ),
@@ -263,7 +262,7 @@ tail-form-weight-requires t c κs =
     let lt = s .pre .1 .0 in
     let z = s .pre .1 .1 .1 in
     let v = c .before .get .ensures in
-    ((lt, s .pre .1 .1 .0 .0, s .pre .1 .1 .0 .1, kind-low lt (z .laid) v (c .if1 .left)), ready-zero lt z)
+    ((lt, s .pre .1 .1 .0 .0, s .pre .1 .1 .0 .1, kind-low lt (z .forms) v (c .if1 .left), (omega arith, omega arith)), ready-zero lt z)
 
 tail-form-add-t-2 : (t : ℕ) → tail-form-lts.Need-add-t-2 (tail-form-calls t) (tail-form-at t) tail-form.Post
 tail-form-add-t-2 t c =
@@ -284,7 +283,7 @@ tail-form-sub-tail-block-3 t c =
     let lt = s .pre .1 .0 in
     let z = s .pre .1 .1 .1 in
     let v = c .before .before .before .before .get .ensures in
-    let h = loop-at lt (z .laid .part) v (c .before .if2 .taken) in
+    let h = loop-at lt (z .forms .part) v (c .before .if2 .taken) in
     h .opens
 
 tail-form-mul-tail-block : (t : ℕ) → tail-form-lts.Need-mul-tail-block (tail-form-calls t) (tail-form-at t) tail-form.Post
@@ -301,8 +300,8 @@ tail-form-sub-tail-block-4 t c =
     let ts = s .args .sums .now in
     let x = s .args .e in
     let v = c .before .before .before .before .before .get .ensures in
-    let h = loop-at lt (z .laid .part) v (c .before .before .if2 .taken) in
-    let ht : c .before .before .before .weight .result + x ≡ lead C ts (z .laid .part .lines) + x = ap (λ (y : ℕ). y + x) (c .before .before .before .weight .ensures (ready-zero lt z)) in
+    let h = loop-at lt (z .forms .part) v (c .before .before .if2 .taken) in
+    let ht : c .before .before .before .weight .result + x ≡ lead C ts (z .forms .part .lines) + x = ap (λ (y : ℕ). y + x) (c .before .before .before .weight .ensures (ready-zero lt z)) in
     loop-behind lt z h ht .2
 
 tail-form-tail-block-requires-3 : (t : ℕ) → tail-form-lts.Need-tail-block-requires-3 (tail-form-calls t) (tail-form-at t) tail-form.Post
@@ -313,9 +312,9 @@ tail-form-tail-block-requires-3 t c κs =
     let ts = s .args .sums .now in
     let x = s .args .e in
     let v = c .before .before .before .before .before .before .before .get .ensures in
-    let h = loop-at lt (z .laid .part) v (c .before .before .before .before .if2 .taken) in
-    let ht : c .before .before .before .before .before .weight .result + x ≡ lead C ts (z .laid .part .lines) + x = ap (λ (y : ℕ). y + x) (c .before .before .before .before .before .weight .ensures (ready-zero lt z)) in
-    let e = ends lt (z .laid .part) in
+    let h = loop-at lt (z .forms .part) v (c .before .before .before .before .if2 .taken) in
+    let ht : c .before .before .before .before .before .weight .result + x ≡ lead C ts (z .forms .part .lines) + x = ap (λ (y : ℕ). y + x) (c .before .before .before .before .before .weight .ensures (ready-zero lt z)) in
+    let e = ends lt (z .forms .part) in
     (omega (arith, h .opens), ((omega (arith, e, c .before .before .before .index3 .ensures, s .pre .1 .1 .0 .0), omega (arith, e, c .before .before .before .index3 .ensures, s .pre .1 .1 .0 .1), s .pre .1 .1 .0 .2), body-sized lt z (c .before .before .before .index3 .ensures) h (loop-behind lt z h ht .1)))
 
 tail-form-mul-out-2 : (t : ℕ) → tail-form-lts.Need-mul-out-2 (tail-form-calls t) (tail-form-at t) tail-form.Post
@@ -338,11 +337,11 @@ tail-form-returns-2 t c =
     let o = s .args .out .now in
     let x = s .args .e in
     let v = c .before .before .before .before .before .before .before .before .get .ensures in (
-      (λ p. let ht : c .before .before .before .before .before .before .weight .result + x ≡ lead C ts (p .laid .part .lines) + x = ap (λ (y : ℕ). y + x) (c .before .before .before .before .before .before .weight .ensures (ready-zero lt p)) in
+      (λ p. let ht : c .before .before .before .before .before .before .weight .result + x ≡ lead C ts (p .forms .part .lines) + x = ap (λ (y : ℕ). y + x) (c .before .before .before .before .before .before .weight .ensures (ready-zero lt p)) in
           ht),
       (
-        (λ p. let h = loop-at lt (p .laid .part) v (c .before .before .before .before .before .if2 .taken) in
-            let ht : c .before .before .before .before .before .before .weight .result + x ≡ lead C ts (p .laid .part .lines) + x = ap (λ (y : ℕ). y + x) (c .before .before .before .before .before .before .weight .ensures (ready-zero lt p)) in
+        (λ p. let h = loop-at lt (p .forms .part) v (c .before .before .before .before .before .if2 .taken) in
+            let ht : c .before .before .before .before .before .before .weight .result + x ≡ lead C ts (p .forms .part .lines) + x = ap (λ (y : ℕ). y + x) (c .before .before .before .before .before .before .weight .ensures (ready-zero lt p)) in
             loop-front (tail-rule ts) o x h ht (loop-behind lt p h ht .0) (c .tail-block3 .ensures .1 .0 (body-sized lt p (c .before .before .before .before .index3 .ensures) h (loop-behind lt p h ht .1)))),
         c .tail-block3 .ensures .1 .1,
       ),
@@ -368,11 +367,11 @@ tail-form-returns-3 t c =
     let o = s .args .out .now in
     let x = s .args .e in
     let v = c .before .before .before .get .ensures in (
-      (λ p. let ht : c .before .weight .result + x ≡ lead C ts (p .laid .part .lines) + x = ap (λ (y : ℕ). y + x) (c .before .weight .ensures (ready-zero lt p)) in
+      (λ p. let ht : c .before .weight .result + x ≡ lead C ts (p .forms .part .lines) + x = ap (λ (y : ℕ). y + x) (c .before .weight .ensures (ready-zero lt p)) in
           ht),
       (
-        (λ p. let ht : c .before .weight .result + x ≡ lead C ts (p .laid .part .lines) + x = ap (λ (y : ℕ). y + x) (c .before .weight .ensures (ready-zero lt p)) in
-            plain-front (tail-rule ts) o x lt (p .laid) v (c .if2 .left) (c .before .before .if1 .left) ht),
+        (λ p. let ht : c .before .weight .result + x ≡ lead C ts (p .forms .part .lines) + x = ap (λ (y : ℕ). y + x) (c .before .weight .ensures (ready-zero lt p)) in
+            plain-front (tail-rule ts) o x lt (p .forms) v (c .if2 .left) (c .before .before .if1 .left) ht),
         kept-all (s .args .seq .now),
       ),
     )

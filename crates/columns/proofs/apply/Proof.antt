@@ -1,5 +1,5 @@
 -- `columns::apply` meets its contract. Assumes nothing.
-use Rattle.columns.proofs.Hushing.{open-heard}
+use Rattle.columns.proofs.Silences.{open-silence}
 use Rattle.model.specs.Plan.{M}
 use Prim.Native.Nat.{_-_}
 use mathlib.Core.Path.{sym, _∙_}
@@ -16,7 +16,7 @@ larger-requires c κs = search needs
 returns : tie.Need-returns
 returns c =
     let s = c .before .before .before in
-    c .larger .ensures ∙ sym (open-heard (s .args .q) (s .args .s) (c .before .before .if1 .taken))
+    c .larger .ensures ∙ sym (open-silence (s .args .q) (s .args .s) (c .before .before .if1 .taken))
 
 returns-2 : tie.Need-returns-2
 returns-2 c = search needs

@@ -1,5 +1,5 @@
 -- `columns::either` meets its contract. Assumes nothing.
-use Rattle.columns.proofs.Hushing.{either-both, either-left, either-right}
+use Rattle.columns.proofs.Silences.{either-both, either-left, either-right}
 use Rattle.model.specs.Plan.{M}
 use Prim.Native.Nat.{_-_}
 use borrow.Author.Needs.{needs}

@@ -1,5 +1,5 @@
 -- `columns::list` meets its contract. Assumes nothing.
-use Rattle.columns.proofs.Listing.{Listing, list-start, list-next, listed, later-laid}
+use Rattle.columns.proofs.Listing.{Listing, list-start, list-next, listed, later-part}
 use Rattle.rows.proofs.Shape.{rep-le, flat-end}
 use Prim.Native.Nat.{_-_}
 use native.Mathlib.Omega.{arith}
@@ -44,7 +44,7 @@ after-requires : tie.Need-after-requires Inv-loop μ-loop
 after-requires c κs =
     let s = c .before .before .before in
     let q = c .before .loop .inv in
-    (omega (arith, s .pre .0 .0), λ k. flat-end (c .loop-test .taken) (later-laid _ (q .inside) (q .at) (s .pre .1 .1) .part) k)
+    (omega (arith, s .pre .0 .0), λ k. flat-end (c .loop-test .taken) (later-part _ (q .inside) (q .at) (s .pre .1 .1) .part) k)
 
 loop-less : tie.Need-loop-less Inv-loop μ-loop
 loop-less c =

@@ -1,5 +1,7 @@
 -- `columns::measure` meets its contract. Assumes nothing.
-use Rattle.columns.proofs.Functions.{fun-laid, Measuring, measure-start, measure-next, measured}
+use Rattle.rows.proofs.Plans.{plan-inside}
+use Rattle.columns.proofs.Functions.{fun-part, Measuring, measure-start, measure-next, measured}
+use Rattle.columns.specs.Sums.{cost-in}
 use Prim.Native.Nat.{_-_, _≤_}
 use borrow.Author.Needs.{needs}
 use native.Mathlib.Omega.{arith}
@@ -7,10 +9,10 @@ use Rattle.columns.proofs.measure.Statement.{statement}
 use Rattle.columns.proofs.measure.Tie as tie
 
 abbrev Inv-loop : tie.InvT-loop
-Inv-loop row starts n load turn₀ totals₀ f₀ turn totals f = (f ≤ n) × Measuring load row starts n f totals turn
+Inv-loop row starts n column turn₀ totals₀ f₀ turn totals f = (f ≤ n) × Measuring (cost-in column) row starts n f totals turn
 
 abbrev μ-loop : tie.MeasureT-loop
-μ-loop row starts n load turn₀ totals₀ f₀ turn totals f = n - f
+μ-loop row starts n column turn₀ totals₀ f₀ turn totals f = n - f
 
 loop-holds : tie.Need-loop-holds Inv-loop μ-loop
 loop-holds c = let s = c .before .before in (omega arith, measure-start (s .args .turn .now) (s .pre .0 .2))
@@ -37,7 +39,7 @@ sum-block-requires c κs =
     let lt = c .before .before .before .before .loop-test .taken in
     let v = s .pre .1 in
     let f = a .f in
-    ((v .inside f lt .0, v .inside f lt .1, a .inv .1 .under), fun-laid v f lt)
+    ((plan-inside v f lt .0, plan-inside v f lt .1, a .inv .1 .under, s .pre .0 .3), fun-part v f lt)
 
 mul-totals : tie.Need-mul-totals Inv-loop μ-loop
 mul-totals c = search needs

@@ -1,5 +1,5 @@
 -- `columns::onto` meets its contract. Assumes nothing.
-use Rattle.columns.proofs.Hushing.{onto-free, onto-shut}
+use Rattle.columns.proofs.Silences.{onto-free, onto-shut}
 use Rattle.model.specs.Plan.{M}
 use Prim.Native.Nat.{_-_}
 use borrow.Author.Needs.{needs}

@@ -1,21 +1,22 @@
 -- `columns::stretch_all` meets its contract. Assumes nothing.
+use Rattle.rows.proofs.Plans.{plan-inside}
 use Rattle.columns.proofs.Driving.{fun-sized, Driving, drive-start, drive-fits, drive-on, driven}
-use Rattle.columns.specs.Whole.{Costed}
-use Rattle.columns.specs.Quiet.{heard, head-at}
+use Rattle.columns.specs.Whole.{Summed}
+use Rattle.columns.specs.Private.{silence-of, head-at}
 use lib.ListN.{length, getD, length-replicate}
 use Prim.Native.Nat.{ℕ, _-_, _≤_, _<_}
 use mathlib.Core.Path.{_≡_, refl, _∙_}
-use mathlib.Core.Bool.{true}
+use Rattle.columns.specs.Sums.{cost-in}
 use borrow.Author.Needs.{needs}
 use native.Mathlib.Omega.{arith}
 use Rattle.columns.proofs.stretch_all.Statement.{statement}
 use Rattle.columns.proofs.stretch_all.Tie as tie
 
 abbrev Inv-loop : tie.InvT-loop
-Inv-loop row starts n sums turn heads out₀ seq₀ after₀ f₀ out seq after f = (f ≤ n) × (length seq ≡ 512) × ((v : Costed true row starts n sums turn) → Driving row starts sums turn n (λ g x. heard (head-at heads g) x) v f after out out₀)
+Inv-loop row starts n column sums turn heads out₀ seq₀ after₀ f₀ out seq after f = (f ≤ n) × (length seq ≡ 512) × ((v : Summed (cost-in column) row starts n sums turn) → Driving (cost-in column) row starts sums turn n (λ g x. silence-of (head-at heads g) x) v f after out out₀)
 
 abbrev μ-loop : tie.MeasureT-loop
-μ-loop row starts n sums turn heads out₀ seq₀ after₀ f₀ out seq after f = f
+μ-loop row starts n column sums turn heads out₀ seq₀ after₀ f₀ out seq after f = f
 
 loop-holds : tie.Need-loop-holds Inv-loop μ-loop
 loop-holds c = let s = c .before .before in (omega arith, length-replicate {A = ℕ} 512 0, λ v. drive-start v (s .args .out .now))
@@ -64,7 +65,7 @@ stretch-block-requires c κs =
     let v = s .pre .1 in
     let f = a .f - 1 in
     let l : f < s .args .n = omega (arith, a .inv .0, lt) in
-    ((v .funs .inside f l .0, v .funs .inside f l .1, a .inv .1, s .pre .0 .2), fun-sized v f (getD (a .after) f 0) l (drive-fits (a .inv .2 v) f l))
+    ((plan-inside (v .plan) f l .0, plan-inside (v .plan) f l .1, a .inv .1, s .pre .0 .2, s .pre .0 .3), fun-sized v f (getD (a .after) f 0) l (drive-fits (a .inv .2 v) f l))
 
 loop-less : tie.Need-loop-less Inv-loop μ-loop
 loop-less c = search needs

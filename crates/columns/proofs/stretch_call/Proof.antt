@@ -1,11 +1,10 @@
 -- `columns::stretch_call` meets its contract. Assumes nothing.
 use Rattle.columns.proofs.Widening as wide
-use Rattle.columns.specs.declared.Quiet.{Quiet}
-use Rattle.columns.specs.Stretches.{marked, raise}
-use Rattle.columns.specs.Quiet.{heard, head-at}
-use Rattle.columns.specs.Sums.{limit}
+use Rattle.columns.specs.declared.SilentSum.{SilentSum}
+use Rattle.columns.specs.Stretches.{leaf-stretch, follow}
+use Rattle.columns.specs.Private.{silence-of, head-at}
+use Rattle.columns.specs.Sums.{limit, cost-in}
 use Rattle.rows.specs.Rows.{block-at}
-use Rattle.model.specs.Plan.{M}
 use lib.ListN.{set}
 use Prim.Native.Nat.{ℕ, _-_}
 use mathlib.Core.Path.{ap, _∙_}
@@ -40,11 +39,11 @@ apply-requires c κs =
     let s = c .before .before .before .before .before in
     (wide.head-low (s .args .heads .now) (c .before .before .before .index .result) (s .pre .1 .0) (c .before .before .head .ensures), s .pre .1 .1)
 
-mark-requires : tie.Need-mark-requires
-mark-requires c κs =
+point-stretch-requires : tie.Need-point-stretch-requires
+point-stretch-requires c κs =
     let s = c .before .before .before .before .before .before in
     let l = wide.head-low (s .args .heads .now) (c .before .before .before .before .index .result) (s .pre .1 .0) (c .before .before .before .head .ensures) in
-    (s .pre .0 .0, s .pre .0 .1, omega (arith, c .apply .ensures, wide.heard-le (c .before .before .before .head .result) limit (s .args .s) (l .hit) (l .pass), s .pre .1 .1))
+    (s .pre .0 .0, s .pre .0 .1, omega (arith, c .apply .ensures, wide.silence-of-le (c .before .before .before .head .result) limit (s .args .s) (l .hit) (l .pass), s .pre .1 .1), s .pre .0 .3)
 
 returns : tie.Need-returns
 returns c =
@@ -52,7 +51,7 @@ returns c =
     let x = s .args .s in
     let h = s .args .heads .now in
     let a = s .args .after .now in
-    (c .mark .ensures ∙ ap (λ (y : ℕ). marked (block-at (s .args .row .now) (s .args .i)) y) (c .before .apply .ensures ∙ ap (λ (y : Quiet). heard y x) (c .before .before .before .before .head .ensures) ∙ ap (λ (f : ℕ). heard (head-at h f) x) (c .before .before .before .before .before .index .ensures)), ap (λ (y : ℕ). set a (c .before .before .before .before .before .index .result) y) (c .before .before .larger .ensures) ∙ ap (λ (f : ℕ). raise a f x) (c .before .before .before .before .before .index .ensures))
+    (c .point-stretch .ensures ∙ ap (λ (y : ℕ). leaf-stretch (cost-in (s .args .column)) (block-at (s .args .row .now) (s .args .i)) y) (c .before .apply .ensures ∙ ap (λ (y : SilentSum). silence-of y x) (c .before .before .before .before .head .ensures) ∙ ap (λ (f : ℕ). silence-of (head-at h f) x) (c .before .before .before .before .before .index .ensures)), ap (λ (y : ℕ). set a (c .before .before .before .before .before .index .result) y) (c .before .before .larger .ensures) ∙ ap (λ (f : ℕ). follow a f x) (c .before .before .before .before .before .index .ensures))
 
 pub stretch-call-spec : {M : Type 1} → statement M
 stretch-call-spec =
@@ -66,5 +65,5 @@ stretch-call-spec =
     mul-after
     element-write-after
     apply-requires
-    mark-requires
+    point-stretch-requires
     returns)

@@ -5,14 +5,15 @@ use native.Mathlib.Omega.{arith}
 use mathlib.Core.Path.{refl}
 use Prim.Native.Nat.{ℕ, _-_, _≤_, _<_}
 use Rattle.rows.proofs.Answers.{said-true, said-false}
-use Rattle.columns.specs.Whole.{Funs}
-use Rattle.columns.proofs.Functions.{fun-laid, fun-order}
-use Rattle.columns.proofs.Fitting.{begins, Right, right-on, lent-right, right-lent}
+use Rattle.rows.specs.Plans.{Plan-of, lines-of}
+use Rattle.rows.proofs.Plans.{plan-inside}
+use Rattle.columns.proofs.Functions.{fun-part, fun-order}
+use Rattle.columns.proofs.Fitting.{begins, Right, right-on, derived-right, right-derived}
 use Rattle.columns.proofs.tails_agree.Statement.{statement}
 use Rattle.columns.proofs.tails_agree.Tie as tie
 
 abbrev Inv-loop : tie.InvT-loop
-Inv-loop row starts n sums turn tail f₀ f = (f ≤ n) × ((v : Funs row starts n) (g : ℕ) → g < f → Right sums turn tail starts (v .lines) g)
+Inv-loop row starts n sums turn tail f₀ f = (f ≤ n) × ((v : Plan-of row starts n) (g : ℕ) → g < f → Right sums turn tail starts (lines-of v) g)
 
 abbrev μ-loop : tie.MeasureT-loop
 μ-loop row starts n sums turn tail f₀ f = n - f
@@ -70,7 +71,7 @@ block-fits-requires c κs =
     let lt = c .before .before .loop-test .taken in
     let v = s .pre .1 in
     let e = fun-order v f (s .args .n) lt (omega arith) in
-    ((v .inside f lt .0, omega (arith, e, c .before .before .before .before .before .before .before .before .if1 .left), omega (arith, e, c .before .before .before .before .before .before .if2 .left), omega arith), fun-laid v f lt)
+    ((plan-inside v f lt .0, omega (arith, e, c .before .before .before .before .before .before .before .before .if1 .left), omega (arith, e, c .before .before .before .before .before .before .if2 .left), omega arith), fun-part v f lt)
 
 returns-4 : tie.Need-returns-4 Inv-loop μ-loop
 returns-4 c =
@@ -81,7 +82,7 @@ returns-4 c =
     let starts = s .args .starts .now in
     let f = c .before .before .before .before .before .loop .f in
     let lt = c .before .before .before .before .loop-test .taken in
-    λ v l. said-false (c .before .block-fits .result) (not-true _ (c .if4 .taken)) (c .before .block-fits .ensures (fun-laid v f lt)) (lent-right ts o u starts (v .lines) l f lt .0)
+    λ v l. said-false (c .before .block-fits .result) (not-true _ (c .if4 .taken)) (c .before .block-fits .ensures (fun-part v f lt)) (derived-right ts o u starts (lines-of v) l f lt .0)
 
 mul-if5 : tie.Need-mul-if5 Inv-loop μ-loop
 mul-if5 c = search needs
@@ -111,9 +112,9 @@ returns-5 c =
     let starts = s .args .starts .now in
     let f = c .before .before .before .before .before .before .before .before .loop .f in
     let lt = c .before .before .before .before .before .before .before .loop-test .taken in
-    λ v l. let fit = said-true (c .before .before .before .before .block-fits .result) (not-false _ (c .before .before .before .if4 .left)) (c .before .before .before .before .block-fits .ensures (fun-laid v f lt)) in
-    let y = begins ts o u (c .before .start .ensures) (fun-laid v f lt) fit in
-    c .if5 .taken (omega (arith, y, lent-right ts o u starts (v .lines) l f lt .1))
+    λ v l. let fit = said-true (c .before .before .before .before .block-fits .result) (not-false _ (c .before .before .before .if4 .left)) (c .before .before .before .before .block-fits .ensures (fun-part v f lt)) in
+    let y = begins ts o u (c .before .start .ensures) (fun-part v f lt) fit in
+    c .if5 .taken (omega (arith, y, derived-right ts o u starts (lines-of v) l f lt .1))
 
 add-f : tie.Need-add-f Inv-loop μ-loop
 add-f c = search needs
@@ -131,9 +132,9 @@ loop-again c =
     let f = c .before .before .before .before .before .before .before .before .loop .f in
     let lt = c .before .before .before .before .before .before .before .loop-test .taken in (
       omega arith,
-      λ v. let fit = said-true (c .before .before .before .before .block-fits .result) (not-false _ (c .before .before .before .if4 .left)) (c .before .before .before .before .block-fits .ensures (fun-laid v f lt)) in
-          let y = begins ts o u (c .before .start .ensures) (fun-laid v f lt) fit in
-          right-on ts o u starts (v .lines) (c .before .before .before .before .before .before .before .before .loop .inv .1 v) (fit, omega (arith, y, c .if5 .left)) refl,
+      λ v. let fit = said-true (c .before .before .before .before .block-fits .result) (not-false _ (c .before .before .before .if4 .left)) (c .before .before .before .before .block-fits .ensures (fun-part v f lt)) in
+          let y = begins ts o u (c .before .start .ensures) (fun-part v f lt) fit in
+          right-on ts o u starts (lines-of v) (c .before .before .before .before .before .before .before .before .loop .inv .1 v) (fit, omega (arith, y, c .if5 .left)) refl,
     )
 
 returns-6 : tie.Need-returns-6 Inv-loop μ-loop
@@ -143,7 +144,7 @@ returns-6 c =
     let o = s .args .turn .now in
     let u = s .args .tail .now in
     let starts = s .args .starts .now in
-    λ v. right-lent ts o u starts (v .lines) (λ g l. c .before .loop .inv .1 v g (omega (arith, l, c .loop-test .left)))
+    λ v. right-derived ts o u starts (lines-of v) (λ g l. c .before .loop .inv .1 v g (omega (arith, l, c .loop-test .left)))
     (said-true (c .before .before .before .settled .result) (not-false _ (c .before .before .if3 .left)) (c .before .before .before .settled .ensures)) (omega (arith, c .before .before .before .before .before .before .if1 .left)) (omega (arith, c .before .before .before .before .if2 .left))
 
 pub tails-agree-spec : {M : Type 1} → statement M

@@ -1,20 +1,21 @@
 -- `control::margin_of` meets its contract. Assumes nothing.
 use mathlib.Core.Path.{_∙_}
-use Prim.Native.Nat.{_+_}
 use native.Mathlib.Omega.{arith}
 use mir.Syntax.{w64}
 use mir.ValLaws.{toZ-ofZ}
+use Rattle.model.specs.Decisions.{margin}
+use Rattle.control.specs.Private.{terms}
 use Rattle.control.proofs.Margins.{Weighs, weighs}
 use borrow.Author.Needs.{needs}
 use Rattle.control.proofs.margin_of.Statement.{statement}
 use Rattle.control.proofs.margin_of.Tie as tie
 
 -- What is left, as the four differences make it.
-weighing : (c : tie.After-less4) → let a = c .before .before .before .before .args in Weighs (c .less4 .result) (a .deadline) (a .remaining + a .stretch + a .switch + a .reading)
+weighing : (c : tie.After-less4) → let a = c .before .before .before .before .args in Weighs (c .less4 .result) (margin (terms (a .deadline) (a .switch)) (a .outlook) (a .reading))
 weighing c =
     let s = c .before .before .before .before in
     let a = s .args in
-    weighs (a .deadline) (a .switch) (a .remaining) (a .stretch) (a .reading) (s .pre) (c .less4 .result)
+    weighs (a .deadline) (a .switch) (a .outlook) (a .reading) (s .pre) (c .less4 .result)
     (omega (arith, c .before .before .before .less .ensures, c .before .before .less2 .ensures, c .before .less3 .ensures, c .less4 .ensures))
 
 add-less : tie.Need-add-less

@@ -21,8 +21,8 @@ returns c = λ q ls k.
     let s = c .before .before .before .before .before .before .before .before in
     first-found q (s .args .state) (s .args .x) (c .first-place .result) (c .before .before .before .before .if1 .taken) (c .first-place .ensures) ls k
 
-place-of-requires : tie.Need-place-of-requires
-place-of-requires c κs = search needs
+spot-of-requires : tie.Need-spot-of-requires
+spot-of-requires c κs = search needs
 
 slice-aggregate-next-place : tie.Need-slice-aggregate-next-place
 slice-aggregate-next-place c = search needs
@@ -32,7 +32,7 @@ next-place-requires c κs =
     let s = c .before .before .before .before .before .before in
     let o = s .pre .1 in
     let p = o .rowed .head .plan in
-    let z = c .before .place-of .ensures in
+    let z = c .before .spot-of .ensures in
     let one : 1 ≤ s .args .state .level = omega (arith, c .before .before .if1 .left) in
     let few = stands-few p (o .rowed .head .accepted) (s .args .state) (o .stands .0) (o .stands .1) in
     let e = ap (λ (x : Place). x .level) z in
@@ -41,7 +41,7 @@ next-place-requires c κs =
 returns-2 : tie.Need-returns-2
 returns-2 c = λ q ls k.
     let s = c .before .before .before .before .before .before .before in
-    later-found q (s .args .state) (s .args .x) (c .next-place .result) (omega (arith, c .before .before .before .if1 .left)) (c .before .before .place-of .ensures) (c .next-place .ensures) ls k
+    later-found q (s .args .state) (s .args .x) (c .next-place .result) (omega (arith, c .before .before .before .if1 .left)) (c .before .before .spot-of .ensures) (c .next-place .ensures) ls k
 
 pub next-spec : {M : Type 1} → statement M
 next-spec =
@@ -50,7 +50,7 @@ next-spec =
     slice-aggregate-first-place
     first-place-requires
     returns
-    place-of-requires
+    spot-of-requires
     slice-aggregate-next-place
     next-place-requires
     returns-2)

@@ -10,8 +10,8 @@ use Rattle.model.specs.Stack.{Levels}
 use Rattle.model.specs.Controller.{is-point}
 use Rattle.rows.proofs.Answers.{said-true}
 use Rattle.control.specs.State.{standing}
-use Rattle.control.specs.Lent.{WholeTable, Arriving}
-use Rattle.control.proofs.Reporting.{point-right, point-wrong, stretch-there, stranger, backward, onwards, none-next, arriving}
+use Rattle.control.specs.Private.{WholeTable, Arriving}
+use Rattle.control.proofs.Reporting.{point-right, point-wrong, stretch-there, stranger, backward, astray, onwards, none-next, arriving}
 use borrow.Author.Needs.{needs}
 use Rattle.control.proofs.reported_at.Statement.{statement}
 use Rattle.control.proofs.reported_at.Tie as tie
@@ -64,7 +64,7 @@ returns-3 c = λ q ls k.
     let s = c .before .before .before .before .before .before .before .before .before .before .before .before in
     let x = c .before .before .before .next in
     let z = none-next q (s .args .state) (s .args .point) ls (x .result) (x .ensures (q .lent .rowed) ls k) (c .before .if3 .taken) in
-    onwards q (s .args .state) (s .args .point) (s .args .reading) ls (is-a-point (c .before .before .before .before .before .before) q) (c .before .before .before .before .if2 .left) (rw z (c .refusal3 .ensures))
+    astray q (s .args .state) (s .args .point) (s .args .reading) ls (is-a-point (c .before .before .before .before .before .before) q) (c .before .before .before .before .if2 .left) z (c .refusal3 .ensures)
 
 mul-arrive : tie.Need-mul-arrive
 mul-arrive c =
@@ -88,7 +88,7 @@ returns-4 : tie.Need-returns-4
 returns-4 c = λ q ls k.
     let s = c .before .before .before .before .before .before .before .before .before .before .before .before .before in
     let a = arriving-at (c .before) q ls k in
-    onwards q (s .args .state) (s .args .point) (s .args .reading) ls (is-a-point (c .before .before .before .before .before .before .before) q) (c .before .before .before .before .before .if2 .left) (rw (a .new .found) (c .arrive .ensures a))
+    onwards q (s .args .state) (s .args .point) (s .args .reading) ls (is-a-point (c .before .before .before .before .before .before .before) q) (c .before .before .before .before .before .if2 .left) (a .new .levels) (a .new .found) (c .arrive .ensures a)
 
 pub reported-at-spec : {M : Type 1} → statement M
 reported-at-spec =

@@ -3,7 +3,7 @@ use mathlib.Core.Path.{_≡_, sym}
 use lib.ListN.{length}
 use native.Mathlib.Omega.{arith}
 use borrow.Author.Tests.{not-true, not-false}
-use Rattle.control.specs.Lent.{Lent}
+use Rattle.control.specs.Private.{Lent}
 use Rattle.control.proofs.Judging.{Located}
 use Rattle.control.proofs.Lending.{bounds-17, table-here, total-wrong, release-judged, spot-right, spot-wrong, spot-above, spot-levels, spot-costed, spot-times}
 use borrow.Author.Needs.{needs}
@@ -28,8 +28,8 @@ returns-2 c = λ q.
     let s = c .before .before .before .before .before .before .before .before .before in
     release-judged (q .rowed) (s .args .state) (c .before .before .before .if1 .taken) (times-33 s) (c .before .if2 .left) (c .zero-above .result) (c .zero-above .ensures)
 
-place-of-requires : tie.Need-place-of-requires
-place-of-requires c κs = search needs
+spot-of-requires : tie.Need-spot-of-requires
+spot-of-requires c κs = search needs
 
 slice-aggregate-place-ok : tie.Need-slice-aggregate-place-ok
 slice-aggregate-place-ok c = sym (bounds-17 (c .before .before .before .before .before .before .before .before .before .before .pre .rowed))
@@ -40,31 +40,31 @@ place-ok-requires c κs = table-here (c .before .before .before .before .before 
 returns-3 : tie.Need-returns-3
 returns-3 c = λ q.
     let s = c .before .before .before .before .before .before .before .before .before .before .before .before in
-    spot-wrong (q .rowed) (s .args .state) (c .before .before .before .before .before .place-of .ensures) (omega (arith, c .before .before .before .before .before .before .if1 .left)) (c .before .place-ok .result) (not-true _ (c .if3 .taken)) (c .before .place-ok .ensures)
+    spot-wrong (q .rowed) (s .args .state) (c .before .before .before .before .before .spot-of .ensures) (omega (arith, c .before .before .before .before .before .before .if1 .left)) (c .before .place-ok .result) (not-true _ (c .if3 .taken)) (c .before .place-ok .ensures)
 
 -- Behind the first test the state's place is one of the plan.
 located : (c : tie.Else3) → let a = c .before .before .before .before .before .before .before .before .before .before .before .before .args in (q : Lent (a .row .now) (a .turns .now) (a .tails .now) (a .head)) → Located (q .rowed .head .plan) (a .state)
-located c q = spot-right (q .rowed) (c .before .before .before .before .before .before .before .before .before .before .before .before .args .state) (c .before .before .before .before .before .place-of .ensures) (c .before .place-ok .result) (not-false _ (c .if3 .left)) (c .before .place-ok .ensures)
+located c q = spot-right (q .rowed) (c .before .before .before .before .before .before .before .before .before .before .before .before .args .state) (c .before .before .before .before .before .spot-of .ensures) (c .before .place-ok .result) (not-false _ (c .if3 .left)) (c .before .place-ok .ensures)
 
 zero-above-requires-2 : tie.Need-zero-above-requires-2
 zero-above-requires-2 c κs =
     let s = c .before .before .before .before .before .before .before .before .before .before .before .before in
-    spot-levels (s .pre .rowed) (s .args .state) (c .before .before .before .before .before .place-of .ensures) (located c (s .pre)) .1
+    spot-levels (s .pre .rowed) (s .args .state) (c .before .before .before .before .before .spot-of .ensures) (located c (s .pre)) .1
 
 returns-4 : tie.Need-returns-4
-returns-4 c = λ q. spot-above (q .rowed) (c .before .before .before .before .before .before .before .before .before .before .before .before .before .before .args .state) (c .before .before .before .before .before .before .before .place-of .ensures) (c .before .zero-above2 .result) (not-true _ (c .if4 .taken)) (c .before .zero-above2 .ensures)
+returns-4 c = λ q. spot-above (q .rowed) (c .before .before .before .before .before .before .before .before .before .before .before .before .before .before .args .state) (c .before .before .before .before .before .before .before .spot-of .ensures) (c .before .zero-above2 .result) (not-true _ (c .if4 .taken)) (c .before .zero-above2 .ensures)
 
 times-ok-requires : tie.Need-times-ok-requires
 times-ok-requires c κs =
     let s = c .before .before .before .before .before .before .before .before .before .before .before .before .before .before .before in
     let k = located (c .before .before .before) (s .pre) in
-    let z = c .before .before .before .before .before .before .before .before .place-of .ensures in
+    let z = c .before .before .before .before .before .before .before .before .spot-of .ensures in
     (spot-levels (s .pre .rowed) (s .args .state) z k, spot-costed (s .pre) (s .args .state) z k)
 
 returns-5 : tie.Need-returns-5
 returns-5 c = λ q.
     let s = c .before .before .before .before .before .before .before .before .before .before .before .before .before .before .before .before in
-    spot-times q (s .args .state) (c .before .before .before .before .before .before .before .before .before .place-of .ensures) (located (c .before .before .before .before) q) (times-33 s) (c .before .before .before .zero-above2 .result) (not-false _ (c .before .before .if4 .left)) (c .before .before .before .zero-above2 .ensures)
+    spot-times q (s .args .state) (c .before .before .before .before .before .before .before .before .before .spot-of .ensures) (located (c .before .before .before .before) q) (times-33 s) (c .before .before .before .zero-above2 .result) (not-false _ (c .before .before .if4 .left)) (c .before .before .before .zero-above2 .ensures)
     (c .times-ok .result) (c .times-ok .ensures)
 
 pub stands-spec : {M : Type 1} → statement M
@@ -75,7 +75,7 @@ stands-spec =
     returns
     zero-above-requires
     returns-2
-    place-of-requires
+    spot-of-requires
     slice-aggregate-place-ok
     place-ok-requires
     returns-3

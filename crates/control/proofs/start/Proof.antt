@@ -1,6 +1,6 @@
 -- `control::start` meets its contract. Assumes nothing.
-use native.Mathlib.Omega.{arith}
 use Rattle.control.proofs.Deciding.{total-small, release-unfit, release-fit}
+use native.Mathlib.Omega.{arith}
 use borrow.Author.Needs.{needs}
 use Rattle.control.proofs.start.Statement.{statement}
 use Rattle.control.proofs.start.Tie as tie
@@ -21,8 +21,7 @@ open-at-requires : tie.Need-open-at-requires
 open-at-requires c κs = search needs
 
 returns-2 : tie.Need-returns-2
-returns-2 c = λ q.
-    release-fit q (c .before .before .before .before .before .args .state) (c .before .before .if1 .left) (c .before .weigh .ensures q) (c .open-at .ensures)
+returns-2 c = λ q. release-fit q (c .before .before .before .before .before .args .state) (c .before .before .if1 .left) (c .before .weigh .ensures q) (c .open-at .ensures)
 
 pub start-spec : {M : Type 1} → statement M
 start-spec =

@@ -33,49 +33,52 @@ mul-i c = omega arith
 add-if1 : tie.Need-add-if1 Inv-loop μ-loop
 add-if1 c = omega arith
 
+mul-call-from : tie.Need-mul-call-from Inv-loop μ-loop
+mul-call-from c = omega arith
+
+shared-slice-read-call-from : tie.Need-shared-slice-read-call-from Inv-loop μ-loop
+shared-slice-read-call-from c = omega arith
+
+add-call-from : tie.Need-add-call-from Inv-loop μ-loop
+add-call-from c = omega arith
+
+mul-call-from-2 : tie.Need-mul-call-from-2 Inv-loop μ-loop
+mul-call-from-2 c = omega arith
+
+shared-slice-read-call-from-2 : tie.Need-shared-slice-read-call-from-2 Inv-loop μ-loop
+shared-slice-read-call-from-2 c = omega arith
+
+add-call-from-2 : tie.Need-add-call-from-2 Inv-loop μ-loop
+add-call-from-2 c = omega arith
+
+mul-call-from-3 : tie.Need-mul-call-from-3 Inv-loop μ-loop
+mul-call-from-3 c = omega arith
+
+shared-slice-read-call-from-3 : tie.Need-shared-slice-read-call-from-3 Inv-loop μ-loop
+shared-slice-read-call-from-3 c = omega arith
+
+call-from-requires : tie.Need-call-from-requires Inv-loop μ-loop
+call-from-requires c κs = search needs
+
 slice-aggregate-call : tie.Need-slice-aggregate-call Inv-loop μ-loop
 slice-aggregate-call c =
-    let a = c .before .before .before .before .before .before .before .before .before .before .before .before .before .before .args in
-    sym (ap length (c .before .before .before .before .before .before .read .ensures .1 .0) ∙ (stored-long (verdict 512 (a .text .now)) (λ t. t .row) (replicate 4096 0) ∙ length-replicate {A = ℕ} 4096 0))
+    let a = c .before .before .before .before .before .before .before .before .before .before .before .before .before .before .before .before .before .before .args in
+    sym (ap length (c .before .before .before .before .before .before .before .before .before .before .read .ensures .1 .0) ∙ (stored-long (verdict 512 (a .text .now)) (λ t. t .row) (replicate 4096 0) ∙ length-replicate {A = ℕ} 4096 0))
 
 slice-aggregate-call-2 : tie.Need-slice-aggregate-call-2 Inv-loop μ-loop
 slice-aggregate-call-2 c =
-    let a = c .before .before .before .before .before .before .before .before .before .before .before .before .before .before .before .args in
-    sym (ap length (c .before .before .before .before .before .before .before .read .ensures .1 .1 .0) ∙ (stored-long (verdict 512 (a .text .now)) (λ t. t .turns) (replicate 512 0) ∙ length-replicate {A = ℕ} 512 0))
+    let a = c .before .before .before .before .before .before .before .before .before .before .before .before .before .before .before .before .before .before .before .args in
+    sym (ap length (c .before .before .before .before .before .before .before .before .before .before .before .read .ensures .1 .1 .0) ∙ (stored-long (verdict 512 (a .text .now)) (λ t. t .turns) (replicate 512 0) ∙ length-replicate {A = ℕ} 512 0))
 
 slice-aggregate-call-3 : tie.Need-slice-aggregate-call-3 Inv-loop μ-loop
 slice-aggregate-call-3 c =
-    let a = c .before .before .before .before .before .before .before .before .before .before .before .before .before .before .before .before .args in
-    sym (ap length (c .before .before .before .before .before .before .before .before .read .ensures .1 .1 .1 .0) ∙ (stored-long (verdict 512 (a .text .now)) (λ t. t .tails) (replicate 512 0) ∙ length-replicate {A = ℕ} 512 0))
+    let a = c .before .before .before .before .before .before .before .before .before .before .before .before .before .before .before .before .before .before .before .before .args in
+    sym (ap length (c .before .before .before .before .before .before .before .before .before .before .before .before .read .ensures .1 .1 .1 .0) ∙ (stored-long (verdict 512 (a .text .now)) (λ t. t .tails) (replicate 512 0) ∙ length-replicate {A = ℕ} 512 0))
 
 slice-aggregate-call-4 : tie.Need-slice-aggregate-call-4 Inv-loop μ-loop
 slice-aggregate-call-4 c =
-    let a = c .before .before .before .before .before .before .before .before .before .before .before .before .before .before .before .before .before .args in
-    sym (ap length (c .before .before .before .before .before .before .before .before .before .read .ensures .1 .1 .1 .1) ∙ (stored-long (verdict 512 (a .text .now)) (λ t. t .stretches) (replicate 512 0) ∙ length-replicate {A = ℕ} 512 0))
-
-mul-call : tie.Need-mul-call Inv-loop μ-loop
-mul-call c = omega arith
-
-shared-slice-read-call : tie.Need-shared-slice-read-call Inv-loop μ-loop
-shared-slice-read-call c = omega arith
-
-add-call : tie.Need-add-call Inv-loop μ-loop
-add-call c = omega arith
-
-mul-call-2 : tie.Need-mul-call-2 Inv-loop μ-loop
-mul-call-2 c = omega arith
-
-shared-slice-read-call-2 : tie.Need-shared-slice-read-call-2 Inv-loop μ-loop
-shared-slice-read-call-2 c = omega arith
-
-add-call-2 : tie.Need-add-call-2 Inv-loop μ-loop
-add-call-2 c = omega arith
-
-mul-call-3 : tie.Need-mul-call-3 Inv-loop μ-loop
-mul-call-3 c = omega arith
-
-shared-slice-read-call-3 : tie.Need-shared-slice-read-call-3 Inv-loop μ-loop
-shared-slice-read-call-3 c = omega arith
+    let a = c .before .before .before .before .before .before .before .before .before .before .before .before .before .before .before .before .before .before .before .before .before .args in
+    sym (ap length (c .before .before .before .before .before .before .before .before .before .before .before .before .before .read .ensures .1 .1 .1 .1) ∙ (stored-long (verdict 512 (a .text .now)) (λ t. t .stretches) (replicate 512 0) ∙ length-replicate {A = ℕ} 512 0))
 
 call-requires : tie.Need-call-requires Inv-loop μ-loop
 call-requires c κs = search needs
@@ -107,18 +110,19 @@ play-spec =
     loop-holds
     mul-i
     add-if1
+    mul-call-from
+    shared-slice-read-call-from
+    add-call-from
+    mul-call-from-2
+    shared-slice-read-call-from-2
+    add-call-from-2
+    mul-call-from-3
+    shared-slice-read-call-from-3
+    call-from-requires
     slice-aggregate-call
     slice-aggregate-call-2
     slice-aggregate-call-3
     slice-aggregate-call-4
-    mul-call
-    shared-slice-read-call
-    add-call
-    mul-call-2
-    shared-slice-read-call-2
-    add-call-2
-    mul-call-3
-    shared-slice-read-call-3
     call-requires
     show-requires
     add-k

@@ -2,7 +2,6 @@
 use native.Mathlib.Omega.{arith}
 use Rattle.print.specs.Lines.{answer-line}
 use Rattle.print.proofs.Room.{long, taken}
-use Rattle.answers.specs.Said.{said}
 use borrow.Author.Needs.{needs}
 use Rattle.control_cases.proofs.show.Statement.{statement}
 use Rattle.control_cases.proofs.show.Tie as tie
@@ -12,13 +11,13 @@ answer-line-requires c κs = search needs
 
 array-share-prefix-out : tie.Need-array-share-prefix-out
 array-share-prefix-out c =
-    let all = long (answer-line (said (c .before .before .args .answer))) (c .answer-line .ensures .0) in
+    let all = long (answer-line (c .before .before .args .answer)) (c .answer-line .ensures .0) in
     omega (arith, all, c .answer-line .ensures .1 .1)
 
 slice-aggregate-write-all : tie.Need-slice-aggregate-write-all
 slice-aggregate-write-all c =
     let b = c .before in
-    let all = long (answer-line (said (b .before .before .args .answer))) (b .answer-line .ensures .0) in
+    let all = long (answer-line (b .before .before .args .answer)) (b .answer-line .ensures .0) in
     taken (b .answer-line .last .0) (b .answer-line .result) all (b .answer-line .ensures .1 .1)
 
 write-all-requires : tie.Need-write-all-requires

@@ -1,8 +1,8 @@
 use Rattle.place.proofs.Trailing.{Ahead, within-here, within-flat, within-then, within-else, nowhere, not-there, on, stays, leaves}
 use Rattle.rows.proofs.Shape.{ends, flat-end}
 use Rattle.place.proofs.Shape.{then-plan, else-plan, piece-after}
-use Rattle.place.specs.Scan.{trail}
-use Rattle.place.specs.Pieces.{Piece}
+use Rattle.place.specs.Private.{trail}
+use Rattle.rows.specs.Rows.{Piece}
 use Rattle.model.specs.Forms.{forms, Forms}
 use Prim.Native.Nat.{_+_, _-_, _≤_, ℕ, _<_}
 use mathlib.Core.List.{List}

@@ -1,8 +1,8 @@
 use Rattle.place.proofs.Looking.{Passed, inside-flat, inside-if, stopped, inward, pass, passed-all}
 use Rattle.rows.proofs.Shape.{ends}
 use Rattle.place.proofs.Shape.{cond-plans, piece-after}
-use Rattle.place.specs.Scan.{look}
-use Rattle.place.specs.Pieces.{Piece}
+use Rattle.place.specs.Private.{look}
+use Rattle.rows.specs.Rows.{Piece}
 use Rattle.model.specs.Forms.{forms, Forms}
 use Prim.Native.Nat.{_+_, _-_, ℕ, _<_}
 use mathlib.Core.List.{List}

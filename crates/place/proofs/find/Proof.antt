@@ -2,7 +2,7 @@
 use mathlib.Core.Path.{ap, sym, _∙_}
 use Prim.Native.Nat.{ℕ}
 use native.Mathlib.Omega.{arith}
-use Rattle.rows.specs.Rows.{field}
+use Rattle.rows.specs.Rows.{kind-at}
 use Rattle.place.proofs.Finding.{leaf-room, none-found, call-here, loop-here, find-flat, call-enter, call-pass, call-stop, loop-left}
 use borrow.Author.Needs.{needs}
 use Rattle.place.proofs.find.Statement.{statement}
@@ -70,7 +70,7 @@ round-again-requires : tie.Need-round-again-requires
 round-again-requires c κs =
     let s = c .before .before .before .before .before .before .before .before .before in
     let e = c .before .before .before .before .before .before .leaf-at .ensures in
-    let kind = ap (λ (p : ℕ). field (s .args .row .now) p 0) (sym e) ∙ (sym (c .before .before .before .before .before .get .ensures) ∙ c .before .before .if4 .left) in
+    let kind = ap (λ (p : ℕ). kind-at (s .args .row .now) p) (sym e) ∙ (sym (c .before .before .before .before .before .get .ensures) ∙ c .before .before .if4 .left) in
     ((s .pre .0 .0, s .pre .0 .1, kind), (s .pre .1, λ q. none-found q (s .pre .0 .0) (s .args .x) (c .if5 .left) (c .before .before .before .before .below .ensures q)))
 
 returns-6 : tie.Need-returns-6

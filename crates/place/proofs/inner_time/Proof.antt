@@ -1,4 +1,4 @@
-use Rattle.rows.specs.Rows.{field}
+use Rattle.rows.specs.Rows.{kind-at, detail-at}
 use borrow.Author.Tests.{eq-eqb, ne-eqb}
 use lib.ListN.{getD}
 use lib.Dec.{eqb}
@@ -24,13 +24,13 @@ shared-slice-read-all : tie.Need-shared-slice-read-all
 shared-slice-read-all c = search needs
 
 sub-result : tie.Need-sub-result
-sub-result c = let s = c .before .before .before .before .before in let w = s .args .row .now in let a = s .args .head in let k : field w a 0 ≡ 2 = sym (c .before .before .get .ensures) ∙ c .before .if1 .taken in s .pre .loop-fits k .0
+sub-result c = let s = c .before .before .before .before .before in let w = s .args .row .now in let a = s .args .head in let k : kind-at w a ≡ 2 = sym (c .before .before .get .ensures) ∙ c .before .if1 .taken in s .pre .loop-fits k .0
 
 sub-result-2 : tie.Need-sub-result-2
-sub-result-2 c = let s = c .before .before .before .before .before in let w = s .args .row .now in let a = s .args .head in let k : field w a 0 ≡ 2 = sym (c .before .before .get .ensures) ∙ c .before .if1 .taken in s .pre .loop-fits k .1
+sub-result-2 c = let s = c .before .before .before .before .before in let w = s .args .row .now in let a = s .args .head in let k : kind-at w a ≡ 2 = sym (c .before .before .get .ensures) ∙ c .before .if1 .taken in s .pre .loop-fits k .1
 
 returns : tie.Need-returns
-returns c = let s = c .before .before .before .before .before in let w = s .args .row .now in let a = s .args .head in let k : field w a 0 ≡ 2 = sym (c .before .before .get .ensures) ∙ c .before .if1 .taken in let z : eqb (field w a 0) 2 ≡ true = eq-eqb (field w a 0) 2 k in rw z
+returns c = let s = c .before .before .before .before .before in let w = s .args .row .now in let a = s .args .head in let k : kind-at w a ≡ 2 = sym (c .before .before .get .ensures) ∙ c .before .if1 .taken in let z : eqb (kind-at w a) 2 ≡ true = eq-eqb (kind-at w a) 2 k in rw z
 
 index-requires : tie.Need-index-requires
 index-requires c κs = search needs
@@ -45,16 +45,16 @@ element-copy-out-total : tie.Need-element-copy-out-total
 element-copy-out-total c = let s = c .before .before .before .before .before .before in let w = s .args .row .now in let a = s .args .head in let k = s .pre .call-fits (λ y. c .before .before .if1 .left (c .before .before .before .get .ensures ∙ y)) in let i = c .before .index .ensures in omega (arith, k .0, i)
 
 sub-result-3 : tie.Need-sub-result-3
-sub-result-3 c = let s = c .before .before .before .before .before .before .before in let w = s .args .row .now in let a = s .args .head in let k = s .pre .call-fits (λ y. c .before .before .before .if1 .left (c .before .before .before .before .get .ensures ∙ y)) in let i = c .before .before .index .ensures in let g = c .before .get2 .ensures in let t : getD (s .args .totals .now) (c .before .before .index .result) 0 ≡ getD (s .args .totals .now) (field w a 4) 0 = ap (λ (j : ℕ). getD (s .args .totals .now) j 0) i in omega (arith, k .1, g)
+sub-result-3 c = let s = c .before .before .before .before .before .before .before in let w = s .args .row .now in let a = s .args .head in let k = s .pre .call-fits (λ y. c .before .before .before .if1 .left (c .before .before .before .before .get .ensures ∙ y)) in let i = c .before .before .index .ensures in let g = c .before .get2 .ensures in let t : getD (s .args .totals .now) (c .before .before .index .result) 0 ≡ getD (s .args .totals .now) (detail-at w a) 0 = ap (λ (j : ℕ). getD (s .args .totals .now) j 0) i in omega (arith, k .1, g)
 
 sub-result-4 : tie.Need-sub-result-4
-sub-result-4 c = let s = c .before .before .before .before .before .before .before in let w = s .args .row .now in let a = s .args .head in let k = s .pre .call-fits (λ y. c .before .before .before .if1 .left (c .before .before .before .before .get .ensures ∙ y)) in let i = c .before .before .index .ensures in let g = c .before .get2 .ensures in let t : getD (s .args .totals .now) (c .before .before .index .result) 0 ≡ getD (s .args .totals .now) (field w a 4) 0 = ap (λ (j : ℕ). getD (s .args .totals .now) j 0) i in omega (arith, k .1, g, t)
+sub-result-4 c = let s = c .before .before .before .before .before .before .before in let w = s .args .row .now in let a = s .args .head in let k = s .pre .call-fits (λ y. c .before .before .before .if1 .left (c .before .before .before .before .get .ensures ∙ y)) in let i = c .before .before .index .ensures in let g = c .before .get2 .ensures in let t : getD (s .args .totals .now) (c .before .before .index .result) 0 ≡ getD (s .args .totals .now) (detail-at w a) 0 = ap (λ (j : ℕ). getD (s .args .totals .now) j 0) i in omega (arith, k .1, g, t)
 
 add-result : tie.Need-add-result
-add-result c = let s = c .before .before .before .before .before .before .before in let w = s .args .row .now in let a = s .args .head in let k = s .pre .call-fits (λ y. c .before .before .before .if1 .left (c .before .before .before .before .get .ensures ∙ y)) in let i = c .before .before .index .ensures in let g = c .before .get2 .ensures in let t : getD (s .args .totals .now) (c .before .before .index .result) 0 ≡ getD (s .args .totals .now) (field w a 4) 0 = ap (λ (j : ℕ). getD (s .args .totals .now) j 0) i in omega (arith, k .2, g, t)
+add-result c = let s = c .before .before .before .before .before .before .before in let w = s .args .row .now in let a = s .args .head in let k = s .pre .call-fits (λ y. c .before .before .before .if1 .left (c .before .before .before .before .get .ensures ∙ y)) in let i = c .before .before .index .ensures in let g = c .before .get2 .ensures in let t : getD (s .args .totals .now) (c .before .before .index .result) 0 ≡ getD (s .args .totals .now) (detail-at w a) 0 = ap (λ (j : ℕ). getD (s .args .totals .now) j 0) i in omega (arith, k .2, g, t)
 
 returns-2 : tie.Need-returns-2
-returns-2 c = let s = c .before .before .before .before .before .before .before in let w = s .args .row .now in let a = s .args .head in let k = s .pre .call-fits (λ y. c .before .before .before .if1 .left (c .before .before .before .before .get .ensures ∙ y)) in let i = c .before .before .index .ensures in let g = c .before .get2 .ensures in let t : getD (s .args .totals .now) (c .before .before .index .result) 0 ≡ getD (s .args .totals .now) (field w a 4) 0 = ap (λ (j : ℕ). getD (s .args .totals .now) j 0) i in let z : eqb (field w a 0) 2 ≡ false = ne-eqb (field w a 0) 2 (λ y. c .before .before .before .if1 .left (c .before .before .before .before .get .ensures ∙ y)) in rw (z, g, i)
+returns-2 c = let s = c .before .before .before .before .before .before .before in let w = s .args .row .now in let a = s .args .head in let k = s .pre .call-fits (λ y. c .before .before .before .if1 .left (c .before .before .before .before .get .ensures ∙ y)) in let i = c .before .before .index .ensures in let g = c .before .get2 .ensures in let t : getD (s .args .totals .now) (c .before .before .index .result) 0 ≡ getD (s .args .totals .now) (detail-at w a) 0 = ap (λ (j : ℕ). getD (s .args .totals .now) j 0) i in let z : eqb (kind-at w a) 2 ≡ false = ne-eqb (kind-at w a) 2 (λ y. c .before .before .before .if1 .left (c .before .before .before .before .get .ensures ∙ y)) in rw (z, g, i)
 
 pub inner-time-spec : {M : Type 1} → statement M
 inner-time-spec =

@@ -1,4 +1,4 @@
-use Rattle.rows.specs.Rows.{field}
+use Rattle.rows.specs.Rows.{kind-at}
 use Prim.Native.Nat.{ℕ, _+_}
 use borrow.Author.Tests.{eq-eqb, ne-eqb}
 use lib.ListN.{getD}
@@ -25,7 +25,7 @@ add-t10 : tie.Need-add-t10
 add-t10 c = search needs
 
 returns : tie.Need-returns
-returns c = let s = c .before .before .before .before .before in let w = s .args .row .now in let h = s .args .head in let z : eqb (field w h 0) 2 ≡ true = eq-eqb (field w h 0) 2 (sym (c .before .before .get .ensures) ∙ c .before .if1 .taken) in (rw z, rw z (c .index .ensures))
+returns c = let s = c .before .before .before .before .before in let w = s .args .row .now in let h = s .args .head in let z : eqb (kind-at w h) 2 ≡ true = eq-eqb (kind-at w h) 2 (sym (c .before .before .get .ensures) ∙ c .before .if1 .taken) in (rw z, rw z (c .index .ensures))
 
 index-requires-2 : tie.Need-index-requires-2
 index-requires-2 c κs = search needs
@@ -40,7 +40,7 @@ entry-requires-2 : tie.Need-entry-requires-2
 entry-requires-2 c κs = let s = c .before .before .before .before .before .before in let w = s .args .row .now in let h = s .args .head in omega (arith, s .pre .target (λ z. c .before .before .if1 .left (c .before .before .before .get .ensures ∙ z)))
 
 returns-2 : tie.Need-returns-2
-returns-2 c = let s = c .before .before .before .before .before .before .before in let w = s .args .row .now in let h = s .args .head in let z : eqb (field w h 0) 2 ≡ false = ne-eqb (field w h 0) 2 (λ z. c .before .before .before .if1 .left (c .before .before .before .before .get .ensures ∙ z)) in let u = s .args .starts .now in (rw z (c .before .entry .ensures ∙ ap (λ (f : ℕ). getD u f 0) (c .before .before .index2 .ensures)), rw z (c .entry2 .ensures ∙ ap (λ (f : ℕ). getD u (f + 1) 0) (c .before .before .index2 .ensures)))
+returns-2 c = let s = c .before .before .before .before .before .before .before in let w = s .args .row .now in let h = s .args .head in let z : eqb (kind-at w h) 2 ≡ false = ne-eqb (kind-at w h) 2 (λ z. c .before .before .before .if1 .left (c .before .before .before .before .get .ensures ∙ z)) in let u = s .args .starts .now in (rw z (c .before .entry .ensures ∙ ap (λ (f : ℕ). getD u f 0) (c .before .before .index2 .ensures)), rw z (c .entry2 .ensures ∙ ap (λ (f : ℕ). getD u (f + 1) 0) (c .before .before .index2 .ensures)))
 
 pub opening-spec : {M : Type 1} → statement M
 opening-spec =

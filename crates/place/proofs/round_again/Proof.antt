@@ -4,8 +4,8 @@ use mathlib.Core.Path.{refl, ap, _∙_}
 use Prim.Native.Nat.{ℕ}
 use native.Mathlib.Omega.{arith}
 use lib.ListN.{getD}
-use Rattle.rows.specs.Rows.{field}
-use Rattle.place.specs.Stack.{Placed}
+use Rattle.rows.specs.Rows.{kind-at}
+use Rattle.place.specs.Private.{Placed}
 use Rattle.place.proofs.Finding.{LoopTop, front, leaf-room, loop-here, loop-spent, loop-enter, loop-stop, loop-other, loop-again}
 use borrow.Author.Needs.{needs}
 use Rattle.place.proofs.round_again.Statement.{statement}
@@ -17,7 +17,7 @@ looped : (c : tie.After-leaf-at) → let a = c .before .before .before .args in 
 looped c q =
     let s = c .before .before .before in
     let e = c .leaf-at .ensures in
-    loop-here q (s .pre .0 .0) e refl (ap (λ (p : ℕ). field (s .args .row .now) p 0) e ∙ s .pre .0 .2)
+    loop-here q (s .pre .0 .0) e refl (ap (λ (p : ℕ). kind-at (s .args .row .now) p) e ∙ s .pre .0 .2)
 
 leaf-at-requires : tie.Need-leaf-at-requires
 leaf-at-requires c κs = search needs

@@ -1,9 +1,10 @@
 -- `print::put_number` meets its contract: its steps are those of `decimal`. The measure is the number, and its tenth is less. Assumes nothing.
 use Prim.Native.Nat.{ℕ, _≤_, _<_}
 use native.Mathlib.Omega.{arith}
+use borrow.Author.Needs.{needs}
 use borrow.Fn.Kinds.{In}
 use borrow.Fn.PlainCycle.{Measures, is, falls, and}
-use Rattle.print.proofs.Laws.{one-digit, last-digit, tenth-length, digit-length}
+use Rattle.print.proofs.Laws.{one-digit, last-digit}
 use Rattle.print.proofs.put_number.Reads as put-number
 use Rattle.print.proofs.put_number.Kinds as put-number-kinds
 use Rattle.print.proofs.+put_number.Lts-put_number as put-number-lts
@@ -30,34 +31,32 @@ put-number-digit-requires : (t : ℕ) → put-number-lts.Need-digit-requires (pu
 put-number-digit-requires t c κs = omega arith
 
 put-number-put-byte-requires : (t : ℕ) → put-number-lts.Need-put-byte-requires (put-number-calls t) (put-number-at t) put-number.Post
-put-number-put-byte-requires t c κs =
-    let s = c .before .before .before in
-    omega (arith, digit-length (s .args .n) (omega arith), s .pre)
+put-number-put-byte-requires t c κs = search needs
+
+put-number-same-length : (t : ℕ) → put-number-lts.Need-same-length (put-number-calls t) (put-number-at t) put-number.Post
+put-number-same-length t c = search needs
 
 put-number-returns : (t : ℕ) → put-number-lts.Need-returns (put-number-calls t) (put-number-at t) put-number.Post
 put-number-returns t c =
-    let s = c .before .before .before .before in
-    let small : s .args .n < 10 = omega arith in
-    one-digit small (c .before .digit .ensures) (c .put-byte .ensures)
+    let small : c .before .before .before .before .before .before .before .args .n < 10 = omega arith in
+    one-digit small (c .before .before .before .digit .ensures) (c .before .before .put-byte .ensures)
 
 put-number-put-number-requires : (t : ℕ) → put-number-lts.Need-put-number-requires (put-number-calls t) (put-number-at t) put-number.Post
-put-number-put-number-requires t c κs =
-    let s = c .before .before in
-    omega (arith, tenth-length (s .args .n) (omega arith), s .pre)
+put-number-put-number-requires t c κs = omega arith
 
 put-number-digit-requires-2 : (t : ℕ) → put-number-lts.Need-digit-requires-2 (put-number-calls t) (put-number-at t) put-number.Post
 put-number-digit-requires-2 t c κs = omega arith
 
 put-number-put-byte-requires-2 : (t : ℕ) → put-number-lts.Need-put-byte-requires-2 (put-number-calls t) (put-number-at t) put-number.Post
-put-number-put-byte-requires-2 t c κs =
-    let s = c .before .before .before .before .before in
-    omega (arith, tenth-length (s .args .n) (omega arith), s .pre, c .before .before .put-number .ensures .after)
+put-number-put-byte-requires-2 t c κs = search needs
+
+put-number-same-length-2 : (t : ℕ) → put-number-lts.Need-same-length-2 (put-number-calls t) (put-number-at t) put-number.Post
+put-number-same-length-2 t c = search needs
 
 put-number-returns-2 : (t : ℕ) → put-number-lts.Need-returns-2 (put-number-calls t) (put-number-at t) put-number.Post
 put-number-returns-2 t c =
-    let s = c .before .before .before .before .before .before in
-    let large : 10 ≤ s .args .n = omega arith in
-    last-digit large (c .before .digit2 .ensures) (c .before .before .before .put-number .ensures) (c .put-byte2 .ensures)
+    let large : 10 ≤ c .before .before .before .before .before .before .before .before .before .before .before .args .n = omega arith in
+    last-digit large (c .before .before .before .digit2 .ensures) (c .before .before .before .before .before .before .before .put-number .ensures) (c .before .before .put-byte2 .ensures)
 
 pub +put-number-spec : {M : Type 1} → statement M
 +put-number-spec = close μ-put-number λ t. put-number-lts.spec (put-number-calls t)
@@ -65,8 +64,10 @@ pub +put-number-spec : {M : Type 1} → statement M
     put-number.Post
     (put-number-digit-requires t)
     (put-number-put-byte-requires t)
+    (put-number-same-length t)
     (put-number-returns t)
     (put-number-put-number-requires t)
     (put-number-digit-requires-2 t)
     (put-number-put-byte-requires-2 t)
+    (put-number-same-length-2 t)
     (put-number-returns-2 t)

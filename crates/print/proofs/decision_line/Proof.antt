@@ -3,7 +3,7 @@ use native.Mathlib.Omega.{arith}
 use borrow.Author.Needs.{needs}
 use Rattle.print.specs.Lines.{answer-line}
 use Rattle.print.proofs.Signed.{field-read}
-use Rattle.print.proofs.Laws.{held, line}
+use Rattle.print.proofs.Laws.{joined, all-of}
 use Rattle.print.proofs.decision_line.Statement.{statement}
 use Rattle.print.proofs.decision_line.Tie as tie
 
@@ -26,7 +26,7 @@ returns c =
     let e = d .before .before in
     let f = e .before .before in
     let margin = field-read _ (f .before .before .fits .margin) (d .put-signed .ensures) in
-    line (omega arith) (held (f .put-word .ensures) (held (e .put-field .ensures) (held margin (c .put-mark .ensures))))
+    all-of (omega arith) (search needs) (joined (f .put-word .ensures) (joined (e .put-field .ensures) (joined margin (c .put-mark .ensures))))
 
 pub decision-line-spec : {M : Type 1} → statement M
 decision-line-spec =

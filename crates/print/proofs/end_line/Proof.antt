@@ -2,7 +2,7 @@
 use native.Mathlib.Omega.{arith}
 use borrow.Author.Needs.{needs}
 use Rattle.print.specs.Lines.{answer-line}
-use Rattle.print.proofs.Laws.{held, line}
+use Rattle.print.proofs.Laws.{joined, all-of}
 use Rattle.print.proofs.end_line.Statement.{statement}
 use Rattle.print.proofs.end_line.Tie as tie
 
@@ -14,7 +14,7 @@ put-mark-requires c κs = search needs
 
 returns : tie.Need-returns
 unfolding answer-line
-returns c = line (omega arith) (held (c .before .before .put-ending .ensures) (c .put-mark .ensures))
+returns c = all-of (omega arith) (search needs) (joined (c .before .before .put-ending .ensures) (c .put-mark .ensures))
 
 pub end-line-spec : {M : Type 1} → statement M
 end-line-spec = tie.close (tie.spec put-ending-requires put-mark-requires returns)

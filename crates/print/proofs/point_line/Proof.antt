@@ -2,7 +2,7 @@
 use native.Mathlib.Omega.{arith}
 use borrow.Author.Needs.{needs}
 use Rattle.print.specs.Lines.{point-line}
-use Rattle.print.proofs.Laws.{held, whole, line}
+use Rattle.print.proofs.Laws.{joined, whole, wider}
 use Rattle.print.proofs.point_line.Statement.{statement}
 use Rattle.print.proofs.point_line.Tie as tie
 
@@ -15,10 +15,14 @@ put-bytes-requires c κs = search needs
 put-four-requires : tie.Need-put-four-requires
 put-four-requires c κs = search needs
 
+same-length : tie.Need-same-length
+same-length c = search needs
+
 returns : tie.Need-returns
 unfolding point-line
-returns c = line (omega arith) (held (whole (c .before .before .put-bytes .ensures)) (c .put-four .ensures))
+returns c = wider (omega arith) (joined (whole (c .before .before .before .before .before .before .put-bytes .ensures)) (c .before .before .put-four .ensures))
 
 pub point-line-spec : {M : Type 1} → statement M
 point-line-spec =
-    tie.close (tie.spec slice-aggregate-put-bytes put-bytes-requires put-four-requires returns)
+    tie.close
+    (tie.spec slice-aggregate-put-bytes put-bytes-requires put-four-requires same-length returns)

@@ -23,13 +23,23 @@ slice-aggregate-put-bytes-2 c = search needs
 put-bytes-requires-2 : tie.Need-put-bytes-requires-2
 put-bytes-requires-2 c κs = search needs
 
+same-length : tie.Need-same-length
+same-length c = search needs
+
 returns : tie.Need-returns
 unfolding ending-text
-returns c = rw (c .before .before .before .enum-told .given .1) (record { written = c .put-bytes .ensures; short = omega arith })
+returns c =
+    rw (c .before .before .before .before .before .enum-told .given .1)
+    (record { printed = c .before .before .put-bytes .ensures; short = omega arith })
+
+same-length-2 : tie.Need-same-length-2
+same-length-2 c = search needs
 
 returns-2 : tie.Need-returns-2
 unfolding ending-text
-returns-2 c = rw (c .before .before .before .enum-told2 .given .1) (record { written = c .put-bytes2 .ensures; short = omega arith })
+returns-2 c =
+    rw (c .before .before .before .before .before .enum-told2 .given .1)
+    (record { printed = c .before .before .put-bytes2 .ensures; short = omega arith })
 
 pub put-ending-spec : {M : Type 1} → statement M
 put-ending-spec =
@@ -41,5 +51,7 @@ put-ending-spec =
     enum-told-2
     slice-aggregate-put-bytes-2
     put-bytes-requires-2
+    same-length
     returns
+    same-length-2
     returns-2)

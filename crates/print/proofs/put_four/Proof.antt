@@ -1,7 +1,7 @@
 -- `print::put_four` meets its contract: four fields and a line feed, one behind the other. Assumes nothing.
 use borrow.Author.Needs.{needs}
 use Rattle.print.specs.Lines.{four}
-use Rattle.print.proofs.Laws.{held, whole}
+use Rattle.print.proofs.Laws.{joined, whole}
 use Rattle.print.proofs.put_four.Statement.{statement}
 use Rattle.print.proofs.put_four.Tie as tie
 
@@ -20,14 +20,19 @@ put-field-requires-4 c κs = search needs
 put-byte-requires : tie.Need-put-byte-requires
 put-byte-requires c κs = search needs
 
+same-length : tie.Need-same-length
+same-length c = search needs
+
 returns : tie.Need-returns
 unfolding four
 returns c =
-    let d = c .before .before in
-    let e = d .before .before in
-    let f = e .before .before in
-    let g = f .before .before in
-    held (g .put-field .ensures) (held (f .put-field2 .ensures) (held (e .put-field3 .ensures) (held (d .put-field4 .ensures) (whole (c .put-byte .ensures)))))
+    let e = c .before .before in
+    let d = e .before .before .before .before in
+    let f = d .before .before .before .before in
+    let g = f .before .before .before .before in
+    let h = g .before .before .before .before in
+    joined (h .put-field .ensures) (joined (g .put-field2 .ensures)
+    (joined (f .put-field3 .ensures) (joined (d .put-field4 .ensures) (whole (e .put-byte .ensures)))))
 
 pub put-four-spec : {M : Type 1} → statement M
 put-four-spec =
@@ -38,4 +43,5 @@ put-four-spec =
     put-field-requires-3
     put-field-requires-4
     put-byte-requires
+    same-length
     returns)

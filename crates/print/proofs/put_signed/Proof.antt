@@ -1,7 +1,5 @@
 -- `print::put_signed` meets its contract, once for negative numbers and once for the others. Assumes nothing.
-use native.Mathlib.Omega.{arith}
 use borrow.Author.Needs.{needs}
-use Rattle.print.proofs.Laws.{digits-most}
 use Rattle.print.proofs.Signed.{below, above, size-read, put-below, put-above}
 use Rattle.print.proofs.put_signed.Statement.{statement}
 use Rattle.print.proofs.put_signed.Tie as tie
@@ -16,14 +14,18 @@ size-requires : tie.Need-size-requires
 size-requires c κs = search needs
 
 put-number-requires : tie.Need-put-number-requires
-put-number-requires c κs =
-    omega (arith, c .before .before .put-bytes .ensures .after, c .before .before .before .before .before .before .pre, digits-most (c .size .result) (c .size .ok))
+put-number-requires c κs = search needs
+
+same-length : tie.Need-same-length
+same-length c = search needs
 
 returns : tie.Need-returns
 returns c =
-    let s = c .before .before .before .before .before .before .before in
-    let b = below (s .args .z) (s .fits .z) (c .before .before .before .before .before .before .if1 .taken) in
-    put-below b (size-read _ (s .fits .z) (c .before .size .ensures)) (c .before .size .ok) (c .before .before .before .put-bytes .ensures) (c .put-number .ensures)
+    let s = c .before .before .before .before .before .before .before .before .before .before .before .before in
+    let b = below (s .args .z) (s .fits .z) (c .before .before .before .before .before .before .before .before .before .before .if1 .taken) in
+    let n = c .before .before .before .size in
+    put-below b (size-read _ (s .fits .z) (n .ensures)) (n .ok) (c .before .before .before .before .before .before .before .put-bytes .ensures)
+    (c .before .before .put-number .ensures)
 
 put-byte-requires : tie.Need-put-byte-requires
 put-byte-requires c κs = search needs
@@ -32,14 +34,18 @@ size-requires-2 : tie.Need-size-requires-2
 size-requires-2 c κs = search needs
 
 put-number-requires-2 : tie.Need-put-number-requires-2
-put-number-requires-2 c κs =
-    omega (arith, c .before .before .put-byte .ensures .after, c .before .before .before .before .before .pre, digits-most (c .size2 .result) (c .size2 .ok))
+put-number-requires-2 c κs = search needs
+
+same-length-2 : tie.Need-same-length-2
+same-length-2 c = search needs
 
 returns-2 : tie.Need-returns-2
 returns-2 c =
-    let s = c .before .before .before .before .before .before in
-    let a = above (s .args .z) (s .fits .z) (c .before .before .before .before .before .if1 .left) in
-    put-above a (size-read _ (s .fits .z) (c .before .size2 .ensures)) (c .before .size2 .ok) (c .before .before .before .put-byte .ensures) (c .put-number2 .ensures)
+    let s = c .before .before .before .before .before .before .before .before .before .before .before in
+    let a = above (s .args .z) (s .fits .z) (c .before .before .before .before .before .before .before .before .before .if1 .left) in
+    let n = c .before .before .before .size2 in
+    put-above a (size-read _ (s .fits .z) (n .ensures)) (n .ok) (c .before .before .before .before .before .before .before .put-byte .ensures)
+    (c .before .before .put-number2 .ensures)
 
 pub put-signed-spec : {M : Type 1} → statement M
 put-signed-spec =
@@ -49,8 +55,10 @@ put-signed-spec =
     put-bytes-requires
     size-requires
     put-number-requires
+    same-length
     returns
     put-byte-requires
     size-requires-2
     put-number-requires-2
+    same-length-2
     returns-2)

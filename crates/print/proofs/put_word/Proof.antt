@@ -32,17 +32,32 @@ slice-aggregate-put-bytes-3 c = search needs
 put-bytes-requires-3 : tie.Need-put-bytes-requires-3
 put-bytes-requires-3 c κs = search needs
 
+same-length : tie.Need-same-length
+same-length c = search needs
+
 returns : tie.Need-returns
 unfolding word-text
-returns c = rw (c .before .before .before .enum-told .given .1) (record { written = c .put-bytes .ensures; short = omega arith })
+returns c =
+    rw (c .before .before .before .before .before .enum-told .given .1)
+    (record { printed = c .before .before .put-bytes .ensures; short = omega arith })
+
+same-length-2 : tie.Need-same-length-2
+same-length-2 c = search needs
 
 returns-2 : tie.Need-returns-2
 unfolding word-text
-returns-2 c = rw (c .before .before .before .enum-told2 .given .1) (record { written = c .put-bytes2 .ensures; short = omega arith })
+returns-2 c =
+    rw (c .before .before .before .before .before .enum-told2 .given .1)
+    (record { printed = c .before .before .put-bytes2 .ensures; short = omega arith })
+
+same-length-3 : tie.Need-same-length-3
+same-length-3 c = search needs
 
 returns-3 : tie.Need-returns-3
 unfolding word-text
-returns-3 c = rw (c .before .before .before .enum-told3 .given .1) (record { written = c .put-bytes3 .ensures; short = omega arith })
+returns-3 c =
+    rw (c .before .before .before .before .before .enum-told3 .given .1)
+    (record { printed = c .before .before .put-bytes3 .ensures; short = omega arith })
 
 pub put-word-spec : {M : Type 1} → statement M
 put-word-spec =
@@ -57,6 +72,9 @@ put-word-spec =
     enum-told-3
     slice-aggregate-put-bytes-3
     put-bytes-requires-3
+    same-length
     returns
+    same-length-2
     returns-2
+    same-length-3
     returns-3)

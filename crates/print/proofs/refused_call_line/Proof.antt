@@ -2,7 +2,7 @@
 use native.Mathlib.Omega.{arith}
 use borrow.Author.Needs.{needs}
 use Rattle.print.specs.Lines.{answer-line}
-use Rattle.print.proofs.Laws.{held, whole, line}
+use Rattle.print.proofs.Laws.{joined, whole, all-of}
 use Rattle.print.proofs.refused_call_line.Statement.{statement}
 use Rattle.print.proofs.refused_call_line.Tie as tie
 
@@ -23,7 +23,7 @@ unfolding answer-line
 returns c =
     let d = c .before .before in
     let e = d .before .before in
-    line (omega arith) (held (whole (e .put-bytes .ensures)) (held (d .put-field .ensures) (whole (c .put-byte .ensures))))
+    all-of (omega arith) (search needs) (joined (whole (e .put-bytes .ensures)) (joined (d .put-field .ensures) (whole (c .put-byte .ensures))))
 
 pub refused-call-line-spec : {M : Type 1} → statement M
 refused-call-line-spec =

@@ -3,10 +3,10 @@ use Rattle.reader.proofs.Bodies.{StepAt, step-means, sign-means, then-f
 use Rattle.reader.proofs.Faults.{length-first, getD-first}
 use Rattle.reader.proofs.Halts.{Amiss}
 use Rattle.reader.proofs.Allowed.{Allowed, allowed}
-use Rattle.reader.specs.Helpers.{form-of, FormsAt, FormAt}
+use Rattle.reader.specs.Private.{form-of, FormsAt, FormAt}
 use Rattle.reader.specs.Machine.{fault}
 use Rattle.text.specs.declared.Form.the-variants.{Then, Else, Close, Leaf, Call, Loop, If}
-use Rattle.text.specs.Positions.{Found}
+use Rattle.text.specs.Grammar.{Found}
 use Rattle.text.specs.Text.{lines}
 use Rattle.reader.specs.declared.Inside.the-variants.{Stopped, Closed}
 use Rattle.reader.specs.declared.Step.the-variants.{Stop, Leave, Take}
@@ -27,7 +27,7 @@ use Rattle.reader.proofs.one_form.Reads as one-form
 use Rattle.reader.proofs.one_form.Kinds as one-form-kinds
 use Rattle.reader.proofs.+forms+if_form+one_form.Lts-one_form as one-form-lts
 use Rattle.reader.proofs.awaited.Reads as awaited-reads
-use Rattle.reader.proofs.larger.Reads as larger-reads
+use Rattle.rows.proofs.larger.Reads as larger-reads
 use Rattle.reader.proofs.one_line.Reads as one-line-reads
 use Rattle.reader.proofs.put.Reads as put-reads
 use Rattle.reader.proofs.+forms+if_form+one_form.{statement}
@@ -173,16 +173,16 @@ else-stopped : (t : ℕ) (c : if-form-lts.After-enum-told4 (if-form-calls t) (if
 else-stopped t c = subst (FormsAt (c .before .before .before .before .before .before .before .before .before .before .before .before .before .before .before .before .before .before .before .args .text .now) (c .before .before .before .before .before .before .before .before .before .before .before .before .before .before .before .before .before .before .before .args .room) (take (c .before .before .before .before .before .before .before .before .before .before .before .before .before .before .before .before .before .before .before .args .own) (c .before .before .before .before .before .before .before .before .before .before .before .before .before .before .before .before .before .before .before .args .tall .now)) (c .before .before .before .before .before .before .before .before .before .before .before .before .before .before .before .before .before .before .before .args .d + 2) (c .before .before .before .before .before .before .before .before .before .before .before .before .before .before .before .before .before .before .before .args .level) (c .before .before .before .before .before .e .given .0 .0) (c .before .before .before .before .before .before .before .before .before .then .given .0 .1 .0 + 1) (c .before .before .before .before .before .before .before .before .before .then .given .0 .1 .1 .0) (c .before .before .before .before .before .before .before .before .before .before .before .forms .last .1 .1 .1 .1 .1 .1 .1 .1 .1 .0) (c .before .before .forms2 .last .1 .1 .1 .1 .1 .1 .1 .1 .1 .0)) (c .enum-told4 .given .1) (c .before .before .forms2 .ensures)
 
 else-closed : (t : ℕ) (c : if-form-lts.After-known-told4 (if-form-calls t) (if-form-at t) if-form.Post) →
-    FormsAt (c .before .before .before .before .before .before .before .before .before .before .before .before .before .before .before .before .before .before .before .before .args .text .now) (c .before .before .before .before .before .before .before .before .before .before .before .before .before .before .before .before .before .before .before .before .args .room) (take (c .before .before .before .before .before .before .before .before .before .before .before .before .before .before .before .before .before .before .before .before .args .own) (c .before .before .before .before .before .before .before .before .before .before .before .before .before .before .before .before .before .before .before .before .args .tall .now)) (c .before .before .before .before .before .before .before .before .before .before .before .before .before .before .before .before .before .before .before .before .args .d + 2) (c .before .before .before .before .before .before .before .before .before .before .before .before .before .before .before .before .before .before .before .before .args .level) (c .before .before .before .before .before .before .e .given .0 .0) (c .before .before .before .before .before .before .before .before .before .before .then .given .0 .1 .0 + 1) (c .before .before .before .before .before .before .before .before .before .before .then .given .0 .1 .1 .0) (c .before .before .before .before .before .before .before .before .before .before .before .before .forms .last .1 .1 .1 .1 .1 .1 .1 .1 .1 .0) (c .before .before .before .forms2 .last .1 .1 .1 .1 .1 .1 .1 .1 .1 .0) (Closed (c .before .other .given .0 .0) (c .before .other .given .0 .1 .0) (c .before .other .given .0 .1 .1 .0) (c .before .other .given .0 .1 .1 .1 .0))
-else-closed t c = subst (FormsAt (c .before .before .before .before .before .before .before .before .before .before .before .before .before .before .before .before .before .before .before .before .args .text .now) (c .before .before .before .before .before .before .before .before .before .before .before .before .before .before .before .before .before .before .before .before .args .room) (take (c .before .before .before .before .before .before .before .before .before .before .before .before .before .before .before .before .before .before .before .before .args .own) (c .before .before .before .before .before .before .before .before .before .before .before .before .before .before .before .before .before .before .before .before .args .tall .now)) (c .before .before .before .before .before .before .before .before .before .before .before .before .before .before .before .before .before .before .before .before .args .d + 2) (c .before .before .before .before .before .before .before .before .before .before .before .before .before .before .before .before .before .before .before .before .args .level) (c .before .before .before .before .before .before .e .given .0 .0) (c .before .before .before .before .before .before .before .before .before .before .then .given .0 .1 .0 + 1) (c .before .before .before .before .before .before .before .before .before .before .then .given .0 .1 .1 .0) (c .before .before .before .before .before .before .before .before .before .before .before .before .forms .last .1 .1 .1 .1 .1 .1 .1 .1 .1 .0) (c .before .before .before .forms2 .last .1 .1 .1 .1 .1 .1 .1 .1 .1 .0)) (c .before .other .given .1) (c .before .before .before .forms2 .ensures)
+    FormsAt (c .before .before .before .before .before .before .before .before .before .before .before .before .before .before .before .before .before .before .before .before .args .text .now) (c .before .before .before .before .before .before .before .before .before .before .before .before .before .before .before .before .before .before .before .before .args .room) (take (c .before .before .before .before .before .before .before .before .before .before .before .before .before .before .before .before .before .before .before .before .args .own) (c .before .before .before .before .before .before .before .before .before .before .before .before .before .before .before .before .before .before .before .before .args .tall .now)) (c .before .before .before .before .before .before .before .before .before .before .before .before .before .before .before .before .before .before .before .before .args .d + 2) (c .before .before .before .before .before .before .before .before .before .before .before .before .before .before .before .before .before .before .before .before .args .level) (c .before .before .before .before .before .before .e .given .0 .0) (c .before .before .before .before .before .before .before .before .before .before .then .given .0 .1 .0 + 1) (c .before .before .before .before .before .before .before .before .before .before .then .given .0 .1 .1 .0) (c .before .before .before .before .before .before .before .before .before .before .before .before .forms .last .1 .1 .1 .1 .1 .1 .1 .1 .1 .0) (c .before .before .before .forms2 .last .1 .1 .1 .1 .1 .1 .1 .1 .1 .0) (Closed (c .before .last .given .0 .0) (c .before .last .given .0 .1 .0) (c .before .last .given .0 .1 .1 .0) (c .before .last .given .0 .1 .1 .1 .0))
+else-closed t c = subst (FormsAt (c .before .before .before .before .before .before .before .before .before .before .before .before .before .before .before .before .before .before .before .before .args .text .now) (c .before .before .before .before .before .before .before .before .before .before .before .before .before .before .before .before .before .before .before .before .args .room) (take (c .before .before .before .before .before .before .before .before .before .before .before .before .before .before .before .before .before .before .before .before .args .own) (c .before .before .before .before .before .before .before .before .before .before .before .before .before .before .before .before .before .before .before .before .args .tall .now)) (c .before .before .before .before .before .before .before .before .before .before .before .before .before .before .before .before .before .before .before .before .args .d + 2) (c .before .before .before .before .before .before .before .before .before .before .before .before .before .before .before .before .before .before .before .before .args .level) (c .before .before .before .before .before .before .e .given .0 .0) (c .before .before .before .before .before .before .before .before .before .before .then .given .0 .1 .0 + 1) (c .before .before .before .before .before .before .before .before .before .before .then .given .0 .1 .1 .0) (c .before .before .before .before .before .before .before .before .before .before .before .before .forms .last .1 .1 .1 .1 .1 .1 .1 .1 .1 .0) (c .before .before .before .forms2 .last .1 .1 .1 .1 .1 .1 .1 .1 .1 .0)) (c .before .last .given .1) (c .before .before .before .forms2 .ensures)
 
 no-close : (t : ℕ) (c : if-form-lts.After-enum-told5 (if-form-calls t) (if-form-at t) if-form.Post) →
-    Amiss 4 (lines (drop (c .before .before .before .before .other .given .0 .0) (c .before .before .before .before .before .before .before .before .before .before .before .before .before .before .before .before .before .before .before .before .before .before .before .args .text .now)))
-no-close t c = sign-means (c .before .before .before .before .before .before .before .before .before .before .before .before .before .before .before .before .before .before .before .before .before .before .before .args .text .now) (c .before .before .before .before .other .given .0 .0) 4 (sym (c .enum-told5 .given .1) ∙ c .before .before .awaited3 .ensures)
+    Amiss 4 (lines (drop (c .before .before .before .before .last .given .0 .0) (c .before .before .before .before .before .before .before .before .before .before .before .before .before .before .before .before .before .before .before .before .before .before .before .args .text .now)))
+no-close t c = sign-means (c .before .before .before .before .before .before .before .before .before .before .before .before .before .before .before .before .before .before .before .before .before .before .before .args .text .now) (c .before .before .before .before .last .given .0 .0) 4 (sym (c .enum-told5 .given .1) ∙ c .before .before .awaited3 .ensures)
 
 close-at : (t : ℕ) (c : if-form-lts.After-known-told5 (if-form-calls t) (if-form-at t) if-form.Post) →
-    Found (c .before .before .before .before .before .before .before .before .before .before .before .before .before .before .before .before .before .before .before .before .before .before .before .before .args .text .now) (c .before .before .before .before .before .other .given .0 .0) Close (c .before .g .given .0 .0)
-close-at t c = close-found (sign-means (c .before .before .before .before .before .before .before .before .before .before .before .before .before .before .before .before .before .before .before .before .before .before .before .before .args .text .now) (c .before .before .before .before .before .other .given .0 .0) 4 (sym (c .before .g .given .1) ∙ c .before .before .before .awaited3 .ensures))
+    Found (c .before .before .before .before .before .before .before .before .before .before .before .before .before .before .before .before .before .before .before .before .before .before .before .before .args .text .now) (c .before .before .before .before .before .last .given .0 .0) Close (c .before .g .given .0 .0)
+close-at t c = close-found (sign-means (c .before .before .before .before .before .before .before .before .before .before .before .before .before .before .before .before .before .before .before .before .before .before .before .before .args .text .now) (c .before .before .before .before .before .last .given .0 .0) 4 (sym (c .before .g .given .1) ∙ c .before .before .before .awaited3 .ensures))
 
 if-form-add-next : (t : ℕ) → if-form-lts.Need-add-next (if-form-calls t) (if-form-at t) if-form.Post
 if-form-add-next t c = omega (arith, c .before .pre .1, c .before .good .0)
@@ -247,8 +247,8 @@ if-form-add-forms-5 t c = omega (arith, then-closed t (c .before .before .before
 if-form-forms-requires-2 : (t : ℕ) → if-form-lts.Need-forms-requires-2 (if-form-calls t) (if-form-at t) if-form.Post
 if-form-forms-requires-2 t c κs = omega (arith, c .before .before .before .before .before .before .before .before .before .before .before .before .before .before .before .before .pre .0, c .before .before .before .before .before .before .before .before .before .before .before .before .before .before .before .before .pre .1, then-closed t (c .before .before .before .before .before) .came .numbered, then-closed t (c .before .before .before .before .before) .came .fits, else-at t (c .before) .past, else-at t (c .before) .within, choice-ok t (c .before .before .before .before .before .before .before .before .before .before .before .before .before .before .before))
 
-if-form-enum-known-other : (t : ℕ) → if-form-lts.Need-enum-known-other (if-form-calls t) (if-form-at t) if-form.Post
-if-form-enum-known-other t c = search needs
+if-form-enum-known-last : (t : ℕ) → if-form-lts.Need-enum-known-last (if-form-calls t) (if-form-at t) if-form.Post
+if-form-enum-known-last t c = search needs
 
 if-form-enum-told-4 : (t : ℕ) → if-form-lts.Need-enum-told-4 (if-form-calls t) (if-form-at t) if-form.Post
 if-form-enum-told-4 t c = search needs
@@ -465,7 +465,7 @@ pub +forms+if-form+one-form-spec : {M : Type 1} → statement M
     (if-form-add-forms-4 t)
     (if-form-add-forms-5 t)
     (if-form-forms-requires-2 t)
-    (if-form-enum-known-other t)
+    (if-form-enum-known-last t)
     (if-form-enum-told-4 t)
     (if-form-returns-5 t)
     (if-form-awaited-requires-3 t)

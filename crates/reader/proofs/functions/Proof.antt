@@ -1,9 +1,9 @@
 -- `reader::functions` meets its contract: the loop holds the plan so far, and each way out is one law. Assumes nothing.
 use Rattle.reader.proofs.Tasks.{Strays, member-means, Holding, holding-start, holding-neither, holding-ended, holding-full, holding-stopped, holding-fun, held-length}
-use Rattle.reader.specs.Helpers.{FormsAt}
+use Rattle.reader.specs.Private.{FormsAt}
 use Rattle.reader.specs.declared.Inside.the-variants.{Stopped, Closed}
 use Rattle.text.specs.declared.Form.the-variants.{Fun, Close}
-use Rattle.text.specs.Positions.{Found}
+use Rattle.text.specs.Grammar.{Found}
 use Rattle.text.specs.Text.{lines}
 use lib.ListN.{length, take, drop}
 use mathlib.Core.Path.{sym, subst, _∙_}

@@ -46,17 +46,18 @@ use denote.Triple.Table.{entered, cited}
 use denote.Triple.Walked.{says, Stays, stay-none, stay-ref, stay-none-ref, stay-none-slice, walkOf, AllGo, goes-none, goes-none-slice, goes-none-ref, goes-ref, Walks, ends-at, walked, walk-meets}
 use denote.Triple.Clauses.{ensured, lasts}
 use denote.Exit.{yes}
-use Rattle.model.specs.Calls.{Call}
+use Rattle.model.specs.declared.Call.{Call}
 use Rattle.table.specs.declared.Head.{Head}
 use Rattle.table.proofs.Head as T
 use Rattle.table.proofs.Head.Laws as T′
-use Rattle.control.specs.declared.Answer.{Answer}
-use Rattle.control.proofs.Answer as N
-use Rattle.control.proofs.Answer.Laws as N′
+use Rattle.model.specs.declared.Answer.{Answer}
+use Rattle.model.proofs.Answer as N
+use Rattle.model.proofs.Answer.Laws as N′
 use Rattle.rolsipay.specs.declared.Leaf.{Leaf}
 use Rattle.rolsipay.specs.declared.State.{State}
 use Rattle.rolsipay.specs.declared.Moved.{Moved}
-use Rattle.rolsipay.specs.Calling.{call-of, called}
+use Rattle.rolsipay.specs.Calling.{called}
+use Rattle.control.specs.Calls.{call-of}
 use Rattle.rolsipay.proofs.Gathering.{called-is}
 use Rattle.rolsipay.proofs.Sized.{Arg as Passed, at as passed, Gives, mT, mS}
 use Rattle.rolsipay.proofs.Leaf as F

@@ -3,11 +3,11 @@ use mathlib.Core.Path.{_≡_, ap, sym, _∙_}
 use Prim.Native.Nat.{_*_}
 use native.Mathlib.Omega.{arith}
 use lib.Seq.{length-take-le}
-use Rattle.model.specs.Calls.{Call}
+use Rattle.model.specs.declared.Call.{Call}
 use Rattle.control.specs.declared.Step.{Step}
-use Rattle.control.specs.Answers.{reply-of}
-use Rattle.control.specs.Calls.{call-on}
-use Rattle.rolsipay.specs.Calling.{state-of, moved, call-of, table-on}
+use Rattle.control.specs.Calls.{call-on, as-step, call-of}
+use Rattle.rolsipay.specs.Calling.{state-of, moved}
+use Rattle.rolsipay.specs.Private.{table-on}
 use Rattle.rolsipay.proofs.Gathering.{same-call}
 use borrow.Author.Needs.{needs}
 use Rattle.rolsipay.proofs.call_on.Statement.{statement}
@@ -76,18 +76,22 @@ part-stretches-end c = search needs
 state-in-requires : tie.Need-state-in-requires
 state-in-requires c κs = search needs
 
-step-on-requires : tie.Need-step-on-requires
-step-on-requires c κs = search needs
+call-from-requires : tie.Need-call-from-requires
+call-from-requires c κs = search needs
+
+call-requires : tie.Need-call-requires
+call-requires c κs = search needs
 
 move-on-requires : tie.Need-move-on-requires
 move-on-requires c κs = search needs
 
 returns : tie.Need-returns
 returns c =
-    let a = c .before .before .before .before .before .before .before .before .args in
+    let a = c .before .before .before .before .before .before .before .before .before .args in
     let k : Call = call-of (a .kind) (a .point) (a .reading) in
-    let e : c .before .step-on .result ≡ reply-of (call-on (table-on (a .room) (a .xs .now) (a .n) (a .head)) (state-of (a .state)) k) =
-    c .before .step-on .ensures ∙ same-call (a .room) (a .xs .now) (a .n) (a .head) (state-of (a .state)) (c .before .before .state-in .result) k (c .before .before .state-in .ensures) in
+    let e : c .before .call .result ≡ as-step (call-on (table-on (a .room) (a .xs .now) (a .n) (a .head)) (state-of (a .state)) k) =
+    c .before .call .ensures ∙ same-call (a .room) (a .xs .now) (a .n) (a .head) (state-of (a .state)) (c .before .before .before .state-in .result) k (c .before .before .call-from .result)
+    (c .before .before .before .state-in .ensures) (c .before .before .call-from .ensures) in
     c .move-on .ensures ∙ ap (λ (s : Step). moved (a .state) s) e
 
 pub call-on-spec : {M : Type 1} → statement M
@@ -115,6 +119,7 @@ call-on-spec =
     part-stretches-start
     part-stretches-end
     state-in-requires
-    step-on-requires
+    call-from-requires
+    call-requires
     move-on-requires
     returns)

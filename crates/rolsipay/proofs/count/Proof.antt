@@ -2,7 +2,7 @@
 use borrow.Author.Needs.{needs}
 use mathlib.Core.Path.{ap, sym}
 use Rattle.reader.specs.declared.Answer.{Answer}
-use Rattle.rolsipay.specs.Reading.{count-of}
+use Rattle.rolsipay.specs.Private.{count-of}
 use Rattle.rolsipay.proofs.count.Statement.{statement}
 use Rattle.rolsipay.proofs.count.Tie as tie
 

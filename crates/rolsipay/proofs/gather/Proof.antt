@@ -55,8 +55,7 @@ use denote.Triple.Walked.{says, needs, Stays, stay-none, stay-none-slice, stay-s
 use denote.Triple.Clauses.{ensured, lasts}
 use denote.Exit.{yes}
 use Rattle.rolsipay.specs.declared.Leaf.{Leaf}
-use Rattle.rolsipay.specs.Lent.{no-leaf}
-use Rattle.rolsipay.specs.Flat.{gathered}
+use Rattle.rolsipay.specs.Private.{no-leaf, gathered}
 use Rattle.rolsipay.proofs.Steps.{holds, fails, length-gathered}
 use Rattle.rolsipay.proofs.Leaf as T
 use Rattle.rolsipay.proofs.Leaf.Laws as T′

@@ -56,8 +56,7 @@ use Rattle.table.proofs.Head as T
 use Rattle.table.proofs.Head.Laws as T′
 use Rattle.rolsipay.specs.declared.Leaf.{Leaf}
 use Rattle.rolsipay.specs.declared.Filled.{Filled}
-use Rattle.rolsipay.specs.Flat.{spread-over}
-use Rattle.rolsipay.specs.Reading.{filled, Holds}
+use Rattle.rolsipay.specs.Private.{spread-over, filled, Holds}
 use Rattle.rolsipay.proofs.Lending.{size, Numbers, numbers-ty, zeros, zeros-val, lies, rises}
 use Rattle.rolsipay.proofs.Spreading.{delivered, told-room}
 use Rattle.rolsipay.proofs.Leaf as F

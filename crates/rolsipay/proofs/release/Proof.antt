@@ -36,12 +36,12 @@ use denote.Triple.Table.{entered, cited}
 use denote.Triple.Walked.{says, Stays, stay-none-slice, stay-none-ref, gave-ref, walkOf, AllGo, goes-none-slice, goes-none-ref, goes-gave-ref, Walks, ends-at, walked, walk-meets}
 use denote.Triple.Clauses.{ensured, lasts}
 use denote.Exit.{yes}
-use Rattle.model.specs.Calls.{release}
+use Rattle.model.specs.declared.Call.the-variants.{Release}
 use Rattle.table.specs.declared.Head.{Head}
 use Rattle.table.proofs.Head as T
-use Rattle.control.specs.declared.Answer.{Answer}
-use Rattle.control.proofs.Answer as N
-use Rattle.control.proofs.Answer.Laws as N′
+use Rattle.model.specs.declared.Answer.{Answer}
+use Rattle.model.proofs.Answer as N
+use Rattle.model.proofs.Answer.Laws as N′
 use Rattle.rolsipay.specs.declared.Leaf.{Leaf}
 use Rattle.rolsipay.specs.declared.State.{State}
 use Rattle.rolsipay.specs.Calling.{called}
@@ -96,7 +96,7 @@ module _ {M : Type 1} (𝓤 : URA M) (H : Heap 𝓤) (A : Atoms 𝓤) (W : Given
 
   -- what `call` ensures of its answer and of the last state
   abbrev Said : Answer → State → Type 0
-  Said n t = (n ≡ called ys h s release .answer) × (t ≡ called ys h s release .state)
+  Said n t = (n ≡ called ys h s Release .answer) × (t ≡ called ys h s Release .state)
 
   exits : (n : Answer) (t : State) (w : Val) → Said n t → ent 𝓤 (⋆ 𝓤 H A ((‵ (flft κ q) ⊛ ‵ (flft κ′ q′) ⊛ ‵ (flft κ″ q″) ⊛ ‵ ftrue) ∷ ‵ (fres γ″ (S.the-row .coded .code t)) ∷ ‵ Row ∷ ‵ Beside ∷ ‵ (N.the-row .own n (w ∷ [])) ∷ [])) (Post w)
   exits n t w e =

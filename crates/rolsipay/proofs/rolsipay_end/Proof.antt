@@ -37,12 +37,12 @@ use denote.Triple.Spec.{Meets, tripleOf}
 use denote.Triple.Table.{entered, cited}
 use denote.Triple.Clauses.{ensured, lasts}
 use denote.Exit.{yes}
-use Rattle.model.specs.Calls.{end}
+use Rattle.model.specs.declared.Call.the-variants.{End}
 use Rattle.table.specs.declared.Head.{Head}
 use Rattle.table.proofs.Head as T
-use Rattle.control.specs.declared.Answer.{Answer}
-use Rattle.control.proofs.Answer as N
-use Rattle.control.proofs.Answer.Laws as N′
+use Rattle.model.specs.declared.Answer.{Answer}
+use Rattle.model.proofs.Answer as N
+use Rattle.model.proofs.Answer.Laws as N′
 use Rattle.rolsipay.specs.declared.Leaf.{Leaf}
 use Rattle.rolsipay.specs.declared.State.{State}
 use Rattle.rolsipay.specs.declared.Reply.{Reply}
@@ -111,7 +111,7 @@ module _ {M : Type 1} (𝓤 : URA M) (H : Heap 𝓤) (A : Atoms 𝓤) (W : Given
 
   -- what `end` ensures of its answer and of the last state
   abbrev Said : Answer → State → Type 0
-  Said n t = (n ≡ called ys h s (end reading) .answer) × (t ≡ called ys h s (end reading) .state)
+  Said n t = (n ≡ called ys h s (End reading) .answer) × (t ≡ called ys h s (End reading) .state)
 
   exits : (n : Answer) (t : State) (d : Reply) (w : Val) → Said n t → d ≡ reply-from n
       → ent 𝓤 (⋆ 𝓤 H A ((‵ (flft κ q) ⊛ ‵ (flft κ′ q′) ⊛ ‵ (flft κ″ q″) ⊛ ‵ ftrue) ∷ ‵ (fres γ″ (S.the-row .coded .code t)) ∷ ‵ Row ∷ ‵ Beside ∷ ‵ (B.the-row .own d (w ∷ [])) ∷ [])) (Post w)

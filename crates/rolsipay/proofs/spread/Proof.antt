@@ -52,8 +52,7 @@ use denote.Triple.Walked.{says, needs, Stays, stay-none, stay-none-ref, stay-sli
 use denote.Triple.Clauses.{ensured, lasts}
 use denote.Exit.{yes}
 use Rattle.rolsipay.specs.declared.Leaf.{Leaf}
-use Rattle.rolsipay.specs.Lent.{no-leaf}
-use Rattle.rolsipay.specs.Flat.{leaf-in, spread-over}
+use Rattle.rolsipay.specs.Private.{no-leaf, leaf-in, spread-over}
 use Rattle.rolsipay.proofs.Steps.{holds, fails, length-spread}
 use Rattle.rolsipay.proofs.Lending.{Numbers, numbers-ty}
 use Rattle.rolsipay.proofs.Leaf as T

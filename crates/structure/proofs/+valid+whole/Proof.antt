@@ -1,12 +1,11 @@
 use Rattle.structure.proofs.Deciding.{head-of, head-sound, head-flat, head-loop, head-if, head-body, head-then, head-else, join, nothing}
 use Rattle.rows.proofs.Shape.{rep-le, after, flat-end}
 use Rattle.rows.specs.Rows.{Part}
-use Prim.Native.Nat.{_+_, _-_}
+use Prim.Native.Nat.{_+_, _-_, ℕ, _<_}
 use mathlib.Core.Path.{_∙_, sym}
 use native.Mathlib.Omega.{arith}
 use borrow.Author.Tests.{not-true, not-false}
 use borrow.Author.Needs.{needs}
-use Prim.Native.Nat.{ℕ, _<_}
 use borrow.Fn.Kinds.{In}
 use borrow.Fn.PlainCycle.{Measures, is, falls, and}
 use Rattle.structure.proofs.valid.Reads as valid

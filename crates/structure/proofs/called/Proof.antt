@@ -2,7 +2,6 @@ use Rattle.structure.proofs.Callers.{Caller, Marked, marked-none, marke
 use lib.ListN.{getD}
 use mathlib.Core.Logic.{⊎-elim}
 use borrow.Author.Count.{below-more}
-use Rattle.structure.proofs.Callers.{Caller, Marked, marked-none, marked-call, marked-other, call-few, called-callers, callers-called}
 use Prim.Native.Nat.{ℕ, _-_, _≤_, _<_}
 use mathlib.Core.Path.{_≡_, sym, _∙_}
 use borrow.Author.Tests.{not-true, not-false}

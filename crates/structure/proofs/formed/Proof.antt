@@ -1,6 +1,7 @@
 use Rattle.rows.proofs.Answers.{said-true, said-false}
-use Rattle.structure.proofs.Functions.{Read, Held, read-none, held-none, read-more, held-more, read-all, held-all, bound-le, plan-part}
-use Rattle.structure.specs.Plans.{Plan-of}
+use Rattle.rows.proofs.Plans.{bound-le}
+use Rattle.structure.proofs.Functions.{Read, Held, read-none, held-none, read-more, held-more, read-all, held-all, plan-part}
+use Rattle.rows.specs.Plans.{Plan-of}
 use lib.Seq.{length-take-le}
 use lib.ListN.{length, length-set}
 use Prim.Native.Nat.{_-_, _≤_, _<_}

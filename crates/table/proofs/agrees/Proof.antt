@@ -1,7 +1,7 @@
 -- `table::agrees` meets its contract: each test fails only where the lent numbers do not agree. Assumes nothing.
 use Rattle.table.proofs.Agreeing as agreeing
-use Rattle.table.proofs.InPlace.{Fitting, as-measured, painted-wide, fitting-costed, table-fits, fitting-derives}
-use Rattle.table.proofs.Deriving.{derived, row-funs, row-long-loaded}
+use Rattle.table.proofs.InPlace.{Fitting, as-measured, written-wide, fitting-costed, table-fits, fitting-derives}
+use Rattle.table.proofs.Deriving.{derived, row-plan, row-long-loaded}
 use Rattle.table.proofs.Tests.{no-truth}
 use Rattle.rows.proofs.Answers.{same-answer, said-true, said-false}
 use lib.ListN.{length, replicate, length-replicate}
@@ -33,7 +33,7 @@ tails-agree-requires c κs =
     let q = s .pre .0 in
     let e = c .before .before .indexes .ensures in
     let long : length (c .before .before .indexes .result) ≡ 17 = search (needs, c .before .before .indexes .ok) in
-    ((omega (arith, q .plan .bounds .few), q .plan .bounds .few), row-funs e q)
+    ((omega (arith, q .plan .bounds .few), q .plan .bounds .few), row-plan e q)
 
 returns : tie.Need-returns
 returns c =
@@ -50,16 +50,16 @@ measure-requires c κs =
     let q = s .pre .0 in
     let e = c .before .before .before .before .before .before .indexes .ensures in
     let long : length (c .before .before .before .before .before .before .indexes .result) ≡ 17 = search (needs, c .before .before .before .before .before .before .indexes .ok) in
-    ((omega (arith, q .plan .bounds .few), q .plan .bounds .few, refl), row-funs e q)
+    ((omega (arith, q .plan .bounds .few), q .plan .bounds .few, refl, (omega arith, omega arith)), row-plan e q)
 
-sub-loaded : tie.Need-sub-loaded
-sub-loaded c = search needs
+sub-max-load-total : tie.Need-sub-max-load-total
+sub-max-load-total c = search needs
 
-mul-loaded : tie.Need-mul-loaded
-mul-loaded c = search needs
+mul-max-load-total : tie.Need-mul-max-load-total
+mul-max-load-total c = search needs
 
-array-read-loaded : tie.Need-array-read-loaded
-array-read-loaded c = search needs
+array-read-max-load-total : tie.Need-array-read-max-load-total
+array-read-max-load-total c = search needs
 
 returns-2 : tie.Need-returns-2
 returns-2 c =
@@ -80,7 +80,7 @@ stretches-requires c κs =
     let x = fits (c .before .before .before .before .before .before .before .before) in
     let y = c .before .before .before .before .before .measure .ensures .0 in
     let k = c .before .before .before .before .if2 .left in
-    ((q .plan .bounds .some, omega (arith, q .plan .bounds .few), q .plan .bounds .few), fitting-costed q e x y k)
+    ((q .plan .bounds .some, omega (arith, q .plan .bounds .few), q .plan .bounds .few, (omega arith, omega arith)), fitting-costed q e x y k)
 
 sub-if3 : tie.Need-sub-if3
 sub-if3 c =
@@ -141,7 +141,7 @@ slice-aggregate-same c =
     let x = fits (c .before .before .before .before .before .before .before .before .before .before .before .before .before .before .before .before) in
     let y = c .before .before .before .before .before .before .before .before .before .before .before .before .before .measure .ensures .0 in
     let k = c .before .before .before .before .before .before .before .before .before .before .before .before .if2 .left in
-    let wide = painted-wide (replicate 512 0) (length-replicate {A = ℕ} 512 0) (c .before .before .before .before .before .before .before .stretches .ensures .1) (fitting-costed q e x y k) in
+    let wide = written-wide (replicate 512 0) (length-replicate {A = ℕ} 512 0) (c .before .before .before .before .before .before .before .stretches .ensures .1) (fitting-costed q e x y k) in
     sym wide
 
 same-requires : tie.Need-same-requires
@@ -152,7 +152,7 @@ same-requires c κs =
     let x = fits (c .before .before .before .before .before .before .before .before .before .before .before .before .before .before .before .before) in
     let y = c .before .before .before .before .before .before .before .before .before .before .before .before .before .measure .ensures .0 in
     let k = c .before .before .before .before .before .before .before .before .before .before .before .before .if2 .left in
-    let wide = painted-wide (replicate 512 0) (length-replicate {A = ℕ} 512 0) (c .before .before .before .before .before .before .before .stretches .ensures .1) (fitting-costed q e x y k) in
+    let wide = written-wide (replicate 512 0) (length-replicate {A = ℕ} 512 0) (c .before .before .before .before .before .before .before .stretches .ensures .1) (fitting-costed q e x y k) in
     omega (arith, wide, s .pre .1)
 
 returns-6 : tie.Need-returns-6
@@ -179,9 +179,9 @@ agrees-spec =
     returns
     slice-aggregate-measure
     measure-requires
-    sub-loaded
-    mul-loaded
-    array-read-loaded
+    sub-max-load-total
+    mul-max-load-total
+    array-read-max-load-total
     returns-2
     slice-aggregate-stretches
     stretches-requires

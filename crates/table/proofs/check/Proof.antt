@@ -6,9 +6,9 @@ use borrow.Author.Tests.{not-true, not-false}
 use native.Mathlib.Omega.{arith}
 use lib.ListN.{length, getD, take, length-take}
 use Rattle.structure.specs.Plans.{Structured}
-use Rattle.structure.proofs.Theorems.{plan-leaves}
+use Rattle.rows.proofs.Plans.{plan-leaves}
 use Rattle.rows.proofs.Answers.{same-answer, said-true, said-false}
-use Rattle.table.specs.Deriving.{Ranged}
+use Rattle.table.specs.Private.{HeadRanged}
 use Rattle.table.specs.Table.{table-at}
 use Rattle.table.proofs.Checking.{good-exactly, plan-ranged, plan-structured, plan-end, stands-for, plan-agrees, agrees-plan}
 use Rattle.table.proofs.check.Statement.{statement}
@@ -27,7 +27,7 @@ returns c =
     good-exactly _ (table-at (x .row .now) (x .turns .now) (x .tails .now) (x .stretches .now) (x .head))
     (λ t. said-false (c .before .ranged .result) (not-true _ (c .if1 .taken)) (c .before .ranged .ensures) (plan-ranged (x .row .now) (x .turns .now) (x .tails .now) (x .stretches .now) (x .head) t))
 
-in-range : (c : tie.Else1) → Ranged (length (c .before .before .before .before .before .before .args .row .now)) (c .before .before .before .before .before .before .args .head)
+in-range : (c : tie.Else1) → HeadRanged (length (c .before .before .before .before .before .before .args .row .now)) (c .before .before .before .before .before .before .args .head)
 in-range c = said-true (c .before .ranged .result) (not-false _ (c .if1 .left)) (c .before .ranged .ensures)
 
 held-row : (c : tie.Else1) → c .before .before .before .before .before .before .args .head .leaves * 8 ≡ length (take (c .before .before .before .before .before .before .args .head .leaves * 8) (c .before .before .before .before .before .before .args .row .now))

@@ -8,7 +8,7 @@ use lib.ListN.{length, getD}
 use borrow.Author.Tests.{ltb-true, ltb-false}
 use Rattle.table.specs.Accepting.{short?}
 use Rattle.table.proofs.Tests.{no-truth}
-use Rattle.table.proofs.Deriving.{Room, still-wide, row-funs, row-summed, row-long-isolated, row-long-loaded, row-derives}
+use Rattle.table.proofs.Deriving.{Room, still-wide, row-plan, row-summed, row-long-isolated, row-long-loaded, row-derives}
 use borrow.Author.Needs.{needs}
 use Rattle.table.proofs.derive_all.Statement.{statement}
 use Rattle.table.proofs.derive_all.Tie as tie
@@ -25,7 +25,7 @@ measure-requires c κs =
     let q = s .pre .0 in
     let e = c .before .before .indexes .ensures in
     let long : length (c .before .before .indexes .result) ≡ 17 = search needs in
-    ((omega (arith, q .plan .bounds .few), q .plan .bounds .few, s .pre .1 .turns-wide), row-funs e q)
+    ((omega (arith, q .plan .bounds .few), q .plan .bounds .few, s .pre .1 .turns-wide, (omega arith, omega arith)), row-plan e q)
 
 slice-aggregate-measure-2 : tie.Need-slice-aggregate-measure-2
 slice-aggregate-measure-2 c = search needs
@@ -36,7 +36,7 @@ measure-requires-2 c κs =
     let q = s .pre .0 in
     let e = c .before .before .before .before .before .indexes .ensures in
     let long : length (c .before .before .before .before .before .indexes .result) ≡ 17 = search needs in
-    ((omega (arith, q .plan .bounds .few), q .plan .bounds .few, refl), row-funs e q)
+    ((omega (arith, q .plan .bounds .few), q .plan .bounds .few, refl, (omega arith, omega arith)), row-plan e q)
 
 sub-total : tie.Need-sub-total
 sub-total c = search needs
@@ -47,14 +47,14 @@ mul-total c = search needs
 array-read-total : tie.Need-array-read-total
 array-read-total c = search needs
 
-sub-loaded : tie.Need-sub-loaded
-sub-loaded c = search needs
+sub-max-load-total : tie.Need-sub-max-load-total
+sub-max-load-total c = search needs
 
-mul-loaded : tie.Need-mul-loaded
-mul-loaded c = search needs
+mul-max-load-total : tie.Need-mul-max-load-total
+mul-max-load-total c = search needs
 
-array-read-loaded : tie.Need-array-read-loaded
-array-read-loaded c = search needs
+array-read-max-load-total : tie.Need-array-read-max-load-total
+array-read-max-load-total c = search needs
 
 returns : tie.Need-returns
 returns c =
@@ -116,9 +116,9 @@ derive-all-spec =
     sub-total
     mul-total
     array-read-total
-    sub-loaded
-    mul-loaded
-    array-read-loaded
+    sub-max-load-total
+    mul-max-load-total
+    array-read-max-load-total
     returns
     slice-aggregate-derive
     derive-requires

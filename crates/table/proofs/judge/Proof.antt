@@ -1,24 +1,23 @@
 -- `table::judge` meets its contract: rules 8, 9 and 10, in this order. Assumes nothing.
-use mathlib.Core.Path.{_≡_, refl, ap, sym, _∙_}
-use Prim.Native.Nat.{ℕ, _*_}
+use mathlib.Core.Path.{_≡_, ap, sym, _∙_}
+use Prim.Native.Nat.{_*_}
 use borrow.Author.Needs.{needs}
 use borrow.Author.Tests.{not-true, not-false}
 use native.Mathlib.Omega.{arith}
-use lib.ListN.{length, take, length-take}
+use lib.ListN.{length, take}
 use Rattle.reader.proofs.Theorems.{row-length}
 use mathlib.Core.List.{[]}
 use Rattle.model.specs.Acceptance.{Seen-all, Called}
 use Rattle.reader.specs.Outcome.{Outcome, plan, refused}
 use Rattle.structure.specs.Plans.{Structured}
 use Rattle.rows.proofs.Answers.{said-true, said-false}
-use Rattle.table.specs.Reading.{judged}
-use Rattle.table.specs.Deriving.{Came}
+use Rattle.table.specs.Reading.{judged, RawOf}
 use Rattle.table.proofs.Judging as judging
 use Rattle.table.proofs.judge.Statement.{statement}
 use Rattle.table.proofs.judge.Tie as tie
 
 -- Where the lines were accepted: the plan that they gave, for any outcome that they came with.
-gives : (c : tie.After-enum-told) (o : Outcome) → Came o (c .before .before .before .args .raw) (c .before .before .before .args .row .now) → judging.Given o (c .before .before .before .args .raw) (c .before .before .before .args .row .now)
+gives : (c : tie.After-enum-told) (o : Outcome) → RawOf o (c .before .before .before .args .raw) (c .before .before .before .args .row .now) → judging.Given o (c .before .before .before .args .raw) (c .before .before .before .args .row .now)
 gives c o k = judging.given o k (c .enum-told .given .1)
 
 first : (c : tie.After-enum-told) → judging.Given (c .before .before .before .pre .0 .0) (c .before .before .before .args .raw) (c .before .before .before .args .row .now)
@@ -51,7 +50,7 @@ seen-all-requires c κs = first (c .before .before .before .before) .read
 refused-requires : tie.Need-refused-requires
 refused-requires c κs = search needs
 
-unseen : (c : tie.Then1) (o : Outcome) (k : Came o (c .before .before .before .before .before .before .before .before .before .args .raw) (c .before .before .before .before .before .before .before .before .before .args .row .now)) → judged (gives (c .before .before .before .before .before .before) o k .of) ≡ refused 8 0
+unseen : (c : tie.Then1) (o : Outcome) (k : RawOf o (c .before .before .before .before .before .before .before .before .before .args .raw) (c .before .before .before .before .before .before .before .before .before .args .row .now)) → judged (gives (c .before .before .before .before .before .before) o k .of) ≡ refused 8 0
 unseen c o k =
     let g = gives (c .before .before .before .before .before .before) o k in
     judging.judged-unseen (g .of) (λ s. said-false (c .before .seen-all .result) (not-true _ (c .if1 .taken)) (c .before .seen-all .ensures (g .read)) (judging.seen-plan g s))
@@ -63,7 +62,7 @@ returns-2 c = (
 )
 
 -- Rule 8 is kept.
-seen : (c : tie.Else1) (o : Outcome) (k : Came o (c .before .before .before .before .before .before .before .before .before .args .raw) (c .before .before .before .before .before .before .before .before .before .args .row .now)) → Seen-all [] (gives (c .before .before .before .before .before .before) o k .of .functions)
+seen : (c : tie.Else1) (o : Outcome) (k : RawOf o (c .before .before .before .before .before .before .before .before .before .args .raw) (c .before .before .before .before .before .before .before .before .before .args .row .now)) → Seen-all [] (gives (c .before .before .before .before .before .before) o k .of .functions)
 seen c o k =
     let g = gives (c .before .before .before .before .before .before) o k in
     judging.plan-seen g (said-true (c .before .seen-all .result) (not-false _ (c .if1 .left)) (c .before .seen-all .ensures (g .read)))
@@ -77,7 +76,7 @@ called-requires c κs = first (c .before .before .before .before .before .before
 refused-requires-2 : tie.Need-refused-requires-2
 refused-requires-2 c κs = search needs
 
-uncalled : (c : tie.Then2) (o : Outcome) (k : Came o (c .before .before .before .before .before .before .before .before .before .before .before .before .before .args .raw) (c .before .before .before .before .before .before .before .before .before .before .before .before .before .args .row .now)) → judged (gives (c .before .before .before .before .before .before .before .before .before .before) o k .of) ≡ refused 9 0
+uncalled : (c : tie.Then2) (o : Outcome) (k : RawOf o (c .before .before .before .before .before .before .before .before .before .before .before .before .before .args .raw) (c .before .before .before .before .before .before .before .before .before .before .before .before .before .args .row .now)) → judged (gives (c .before .before .before .before .before .before .before .before .before .before) o k .of) ≡ refused 9 0
 uncalled c o k =
     let g = gives (c .before .before .before .before .before .before .before .before .before .before) o k in
     judging.judged-uncalled (g .of) (seen (c .before .before .before .before) o k)
@@ -90,13 +89,13 @@ returns-3 c = (
 )
 
 -- Rule 9 is kept.
-called : (c : tie.Else2) (o : Outcome) (k : Came o (c .before .before .before .before .before .before .before .before .before .before .before .before .before .args .raw) (c .before .before .before .before .before .before .before .before .before .before .before .before .before .args .row .now)) → Called (gives (c .before .before .before .before .before .before .before .before .before .before) o k .of .functions)
+called : (c : tie.Else2) (o : Outcome) (k : RawOf o (c .before .before .before .before .before .before .before .before .before .before .before .before .before .args .raw) (c .before .before .before .before .before .before .before .before .before .before .before .before .before .args .row .now)) → Called (gives (c .before .before .before .before .before .before .before .before .before .before) o k .of .functions)
 called c o k =
     let g = gives (c .before .before .before .before .before .before .before .before .before .before) o k in
     judging.plan-called g (said-true (c .before .called .result) (not-false _ (c .if2 .left)) (c .before .called .ensures (g .read)))
 
 -- So the row is structured.
-structured : (c : tie.Else2) (o : Outcome) (k : Came o (c .before .before .before .before .before .before .before .before .before .before .before .before .before .args .raw) (c .before .before .before .before .before .before .before .before .before .before .before .before .before .args .row .now)) →
+structured : (c : tie.Else2) (o : Outcome) (k : RawOf o (c .before .before .before .before .before .before .before .before .before .before .before .before .before .args .raw) (c .before .before .before .before .before .before .before .before .before .before .before .before .before .args .row .now)) →
     Structured (take (c .before .before .before .before .before .before .before .before .before .before .before .before .before .args .raw .leaves * 8) (c .before .before .before .before .before .before .before .before .before .before .before .before .before .args .row .now)) (c .before .before .before .before .before .before .before .before .before .before .before .before .before .args .raw .bounds) (c .before .before .before .before .before .before .before .before .before .before .before .before .before .args .raw .functions)
 structured c o k =
     let g = gives (c .before .before .before .before .before .before .before .before .before .before) o k in
@@ -111,7 +110,7 @@ derive-all-requires c κs = (structured (c .before .before .before .before) (c .
 refused-requires-3 : tie.Need-refused-requires-3
 refused-requires-3 c κs = search needs
 
-long : (c : tie.Then3) (o : Outcome) (k : Came o (c .before .before .before .before .before .before .before .before .before .before .before .before .before .before .before .before .before .before .before .before .args .raw) (c .before .before .before .before .before .before .before .before .before .before .before .before .before .before .before .before .before .before .before .before .args .row .now)) → judged (gives (c .before .before .before .before .before .before .before .before .before .before .before .before .before .before .before .before .before) o k .of) ≡ refused 10 0
+long : (c : tie.Then3) (o : Outcome) (k : RawOf o (c .before .before .before .before .before .before .before .before .before .before .before .before .before .before .before .before .before .before .before .before .args .raw) (c .before .before .before .before .before .before .before .before .before .before .before .before .before .before .before .before .before .before .before .before .args .row .now)) → judged (gives (c .before .before .before .before .before .before .before .before .before .before .before .before .before .before .before .before .before) o k .of) ≡ refused 10 0
 unfolding structured gives
 long c o k =
     let g = gives (c .before .before .before .before .before .before .before .before .before .before .before .before .before .before .before .before .before) o k in
@@ -127,7 +126,7 @@ returns-4 c = (
 head-from-requires : tie.Need-head-from-requires
 head-from-requires c κs = search needs
 
-accepted : (c : tie.Else3) (o : Outcome) (k : Came o (c .before .before .before .before .before .before .before .before .before .before .before .before .before .before .before .before .before .before .before .before .args .raw) (c .before .before .before .before .before .before .before .before .before .before .before .before .before .before .before .before .before .before .before .before .args .row .now)) → judged (gives (c .before .before .before .before .before .before .before .before .before .before .before .before .before .before .before .before .before) o k .of) ≡ plan (gives (c .before .before .before .before .before .before .before .before .before .before .before .before .before .before .before .before .before) o k .of)
+accepted : (c : tie.Else3) (o : Outcome) (k : RawOf o (c .before .before .before .before .before .before .before .before .before .before .before .before .before .before .before .before .before .before .before .before .args .raw) (c .before .before .before .before .before .before .before .before .before .before .before .before .before .before .before .before .before .before .before .before .args .row .now)) → judged (gives (c .before .before .before .before .before .before .before .before .before .before .before .before .before .before .before .before .before) o k .of) ≡ plan (gives (c .before .before .before .before .before .before .before .before .before .before .before .before .before .before .before .before .before) o k .of)
 unfolding structured gives
 accepted c o k =
     let g = gives (c .before .before .before .before .before .before .before .before .before .before .before .before .before .before .before .before .before) o k in

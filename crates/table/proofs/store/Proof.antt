@@ -1,7 +1,7 @@
 -- `table::store` meets its contract. Assumes nothing.
 use Prim.Native.Nat.{ℕ, _-_, _≤_}
 use mathlib.Core.List.{List}
-use mathlib.Core.Path.{_≡_, refl, ap, sym, _∙_}
+use mathlib.Core.Path.{_≡_, refl, ap, _∙_}
 use lib.ListN.{length, getD, set, take}
 use lib.Seq.{sets, length-sets, take-length}
 use borrow.Author.Needs.{needs}

@@ -26,7 +26,9 @@ array-share-prefix-out : tie.Need-array-share-prefix-out
 array-share-prefix-out c = rw (c .list-text .ensures .0, length-sets, length-replicate {A = ℕ}) (c .list-text .ensures .1 .1)
 
 slice-aggregate-write-all : tie.Need-slice-aggregate-write-all
-slice-aggregate-write-all c = sym (length-take-le _ _ (rw (c .before .list-text .ensures .0, length-sets, length-replicate {A = ℕ}) (c .before .list-text .ensures .1 .1)))
+slice-aggregate-write-all c =
+    let e = c .before .list-text .ensures in
+    sym (length-take-le _ _ (rw (e .0, length-sets, length-replicate {A = ℕ}) (e .1 .1)))
 
 write-all-requires : tie.Need-write-all-requires
 write-all-requires c κs = search needs

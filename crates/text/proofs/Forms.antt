@@ -1,0 +1,72 @@
+-- The plan's table of patterns: what the code answers where one of them fits, and where none does.
+-- Assumes nothing.
+use Prim.Native.Nat.{ℕ, _^_}
+use mathlib.Core.Path.{_≡_, refl}
+use mathlib.Core.List.{List}
+use mathlib.Core.Bool.{true, false}
+use native.Mathlib.Omega.{arith}
+use lib.ListN.{length, getD}
+use Rattle.text.specs.declared.Shown.{Shown}
+use Rattle.text.specs.declared.Form.{Form}
+use Rattle.text.specs.declared.Form.the-variants.{Task, Leaf, Call, Loop, If}
+use Rattle.text.specs.declared.Read.the-variants.{Unread, Line}
+use Rattle.text.specs.Text.{bytes, line-at, line-end}
+use Rattle.text.specs.Patterns.{ShownAt}
+use Rattle.text.specs.Grammar.{nth, form, no-form, line-form, cap-form, read-at}
+use Rattle.text.proofs.Filled.{arity, kindless, once, filled}
+use Rattle.text.proofs.Laws.{number-stored}
+
+-- A line that a pattern fits shows as many numbers as the pattern has.
+count-of : {limit : ℕ} {s : List ℕ} {at : ℕ} {row row′ : List ℕ} {f : Shown} {e : ℕ} (p : List ℕ) → once p ≡ true → (w : ShownAt limit s at p row row′ f e)
+    → length (w .numbers) ≡ arity p
+count-of {s = s} {at} {f = f} p h w = filled p false (line-at s at) (f .kind) (w .numbers) h (w .fits) .number-of
+
+-- The code's numbers are those of the form, held.
+module _ {s : List ℕ} {at : ℕ} {row row′ : List ℕ} {f : Shown} {e : ℕ} (long : length row ≡ 10) where
+  pub task-held : (w : ShownAt (2 ^ 41) s at (bytes "(task D T") row row′ f e)
+      → Task (getD row′ 0 0) (getD row′ 1 0) ≡ cap-form (Task (nth (w .numbers) 0) (nth (w .numbers) 1))
+  unfolding arity once kindless
+  task-held w =
+      let n : length (w .numbers) ≡ 2 = count-of (bytes "(task D T") refl w in
+      rw (number-stored w 0 (omega arith) (omega arith), number-stored w 1 (omega arith) (omega arith))
+
+  pub leaf-held : (w : ShownAt (2 ^ 41) s at (bytes "(leaf K C M)") row row′ f e)
+      → Leaf (f .kind) (getD row′ 0 0) (getD row′ 1 0) ≡ cap-form (Leaf (f .kind) (nth (w .numbers) 0) (nth (w .numbers) 1))
+  unfolding arity once kindless
+  leaf-held w =
+      let n : length (w .numbers) ≡ 2 = count-of (bytes "(leaf K C M)") refl w in
+      rw (number-stored w 0 (omega arith) (omega arith), number-stored w 1 (omega arith) (omega arith))
+
+  pub call-held : (w : ShownAt (2 ^ 41) s at (bytes "(call K F C M)") row row′ f e)
+      → Call (f .kind) (getD row′ 0 0) (getD row′ 1 0) (getD row′ 2 0)
+      ≡ cap-form (Call (f .kind) (nth (w .numbers) 0) (nth (w .numbers) 1) (nth (w .numbers) 2))
+  unfolding arity once kindless
+  call-held w =
+      let n : length (w .numbers) ≡ 3 = count-of (bytes "(call K F C M)") refl w in
+      rw (number-stored w 0 (omega arith) (omega arith), number-stored w 1 (omega arith) (omega arith), number-stored w 2 (omega arith) (omega arith))
+
+  pub loop-held : (w : ShownAt (2 ^ 41) s at (bytes "(loop K B C M") row row′ f e)
+      → Loop (f .kind) (getD row′ 0 0) (getD row′ 1 0) (getD row′ 2 0)
+      ≡ cap-form (Loop (f .kind) (nth (w .numbers) 0) (nth (w .numbers) 1) (nth (w .numbers) 2))
+  unfolding arity once kindless
+  loop-held w =
+      let n : length (w .numbers) ≡ 3 = count-of (bytes "(loop K B C M") refl w in
+      rw (number-stored w 0 (omega arith) (omega arith), number-stored w 1 (omega arith) (omega arith), number-stored w 2 (omega arith) (omega arith))
+
+  pub if-held : (w : ShownAt (2 ^ 41) s at (bytes "(if K C M") row row′ f e)
+      → If (f .kind) (getD row′ 0 0) (getD row′ 1 0) ≡ cap-form (If (f .kind) (nth (w .numbers) 0) (nth (w .numbers) 1))
+  unfolding arity once kindless
+  if-held w =
+      let n : length (w .numbers) ≡ 2 = count-of (bytes "(if K C M") refl w in
+      rw (number-stored w 0 (omega arith) (omega arith), number-stored w 1 (omega arith) (omega arith))
+
+-- What is answered where the line is a form, and where it is none.
+module _ (s : List ℕ) (at : ℕ) where
+  pub answer-form : {f : Form} {e : ℕ} (g : Form) → f ≡ cap-form g → e ≡ line-end s at → line-form (line-at s at) ≡ form g
+      → Line f e ≡ read-at s at
+  unfolding read-at
+  answer-form g p q r = rw (p, q, r)
+
+  pub answer-none : line-form (line-at s at) ≡ no-form → Unread ≡ read-at s at
+  unfolding read-at
+  answer-none r = rw r
