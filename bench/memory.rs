@@ -1,5 +1,10 @@
 //! The memory that callers lend and the answers of calls, as in `include/rolsipay.h`, and the delivered calls themselves.
 
+#[path = "../tests/lent/answers.rs"]
+mod answers;
+
+pub use answers::{Reply, Ruling};
+
 /// The most leaves, functions, levels and bytes.
 pub const LEAVES: usize = 512;
 pub const FUNCTIONS: usize = 16;
@@ -64,23 +69,6 @@ impl State {
         earlier: [0; LEVELS + 1],
         times: [0; LEVELS + 1],
     };
-}
-
-#[repr(C)]
-#[derive(Clone, Copy, Debug, PartialEq, Eq)]
-pub struct Ruling {
-    pub number: u64,
-    pub line: u64,
-}
-
-#[repr(C)]
-#[derive(Clone, Copy, Debug, PartialEq, Eq)]
-pub struct Reply {
-    pub word: u64,
-    pub number: u64,
-    pub remaining: u64,
-    pub margin: i64,
-    pub late: u64,
 }
 
 extern "C" {

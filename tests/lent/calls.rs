@@ -3,7 +3,7 @@
 use reference::calls::{Answer, Word};
 use reference::table::Table;
 
-pub use super::delivered::Reply;
+pub use super::answers::Reply;
 use super::delivered::{rolsipay_end, rolsipay_release, rolsipay_report};
 use super::state::{Numbers, State, STATE};
 

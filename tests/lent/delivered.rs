@@ -4,24 +4,8 @@
 use reference::records::Record;
 use reference::table::Head;
 
+use super::answers::{Reply, Ruling};
 use super::state::Numbers;
-
-#[repr(C)]
-#[derive(Clone, Copy, Debug, PartialEq, Eq)]
-pub struct Ruling {
-    pub number: u64,
-    pub line: u64,
-}
-
-#[repr(C)]
-#[derive(Clone, Copy, Debug, PartialEq, Eq)]
-pub struct Reply {
-    pub word: u64,
-    pub number: u64,
-    pub remaining: u64,
-    pub margin: i64,
-    pub late: u64,
-}
 
 extern "C" {
     pub fn rolsipay_read(

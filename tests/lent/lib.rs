@@ -2,6 +2,7 @@
 //! declares them, memory to lend, what is wanted of them on any text, table and
 //! state, and comparing it. With `--cfg mock` a stand-in answers the calls.
 
+mod answers;
 pub mod calls;
 mod delivered;
 pub mod law;

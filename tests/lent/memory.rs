@@ -4,7 +4,8 @@ use reference::gen::Random;
 use reference::records::Record;
 use reference::table::{Head, Table};
 
-use super::delivered::{rolsipay_read, Ruling};
+use super::answers::Ruling;
+use super::delivered::rolsipay_read;
 
 /// The most records that are there, of a row that is longer still: no call has a
 /// use for more than 512.

@@ -8,8 +8,8 @@ use reference::numbers::Numbers;
 use reference::plan::{self, Refusal};
 use reference::table::{self, Table};
 
+use super::answers::Ruling;
 use super::calls::{made, Call, Reply};
-use super::delivered::Ruling;
 use super::law::{self, Outcome};
 use super::memory::Memory;
 use super::state::State;

@@ -21,7 +21,7 @@ use Rattle.columns.specs.declared.SilentSum.{SilentSum}
 use Rattle.columns.specs.Sums.{limit}
 use Rattle.columns.specs.Private.{Under, Sized, silence-of, head-at, IsSilence}
 use Rattle.columns.specs.Columns.{column-of, tail-rule}
-use Rattle.columns.specs.Stretches.{stretch-rule, follow, follow-calls}
+use Rattle.columns.specs.Stretches.{stretch-rule, follow-call, follow-calls}
 use Rattle.columns.specs.Whole.{Summed, follows-after, stretches-written, tails-written}
 use Rattle.columns.proofs.Sizes.{round-le}
 use Rattle.columns.proofs.Widening.{silence-le}
@@ -58,7 +58,7 @@ set-at (x ∷ a) (suc f) v (suc g) = elim (set-at a f v g) [ inl e ↦ inl e | i
 abbrev FollowsFit : List ℕ → ℕ → List ℕ → Type 0
 FollowsFit ms n a = (g : ℕ) → g < n → getD a g 0 + getD ms g 0 ≤ limit
 
-follow-fits : (ms : List ℕ) (n f s : ℕ) (a : List ℕ) → FollowsFit ms n a → s + getD ms f 0 ≤ limit → FollowsFit ms n (follow a f s)
+follow-fits : (ms : List ℕ) (n f s : ℕ) (a : List ℕ) → FollowsFit ms n a → s + getD ms f 0 ≤ limit → FollowsFit ms n (follow-call a f s)
 follow-fits ms n f s a h le g lt = elim (set-at a f (max (getD a f 0) s) g) [
   | inl e ↦ omega (arith, e, h g lt)
   | inr e ↦

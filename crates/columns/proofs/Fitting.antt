@@ -13,9 +13,9 @@ use Rattle.rows.specs.First.{rest}
 use Rattle.rows.proofs.Shape.{LoopAt, IfAt}
 use Rattle.columns.specs.Sums.{limit, lead}
 use Rattle.columns.specs.Columns.{column-of, held-turn, turn-rule, turns, rounds, tail-rule, Contains}
-use Rattle.columns.specs.Private.{front, AsDerived, AsDerived-first, Begins}
+use Rattle.columns.specs.Private.{front, AsDerived, AsDerived-first, Begins, LoopFits, IfFits, FunctionFits}
 use Rattle.columns.specs.Local.{AllDerived}
-use Rattle.columns.proofs.Sizes.{tally-split, after-part, no-part, loop-lead, round-le, round-back}
+use Rattle.columns.proofs.Sizes.{tally-split, body-part, then-part, else-part, after-part, no-part, loop-lead, round-le, round-back}
 use Rattle.columns.proofs.Stores.{contains-both}
 use Rattle.columns.proofs.Fronts.{column-split, front-fill, contains-rest, contains-loop, contains-if, loop-holds, if-holds}
 use Rattle.columns.proofs.Summing.{loop-turn, if-turn}
@@ -26,6 +26,18 @@ pub record Walking (ts o u w : List ℕ) (left from i e s : ℕ) (l : Lines) : T
   pub more : Piece w left i e
   pub back : AsDerived ts o u (more .part .lines) i s → AsDerived ts o u l from s
   pub on : AsDerived ts o u l from s → AsDerived ts o u (more .part .lines) i s
+
+-- A column has one number at the start of forms.
+pub begins-same : {u : List ℕ} {i e s x y : ℕ} → Begins u i e s x → Begins u i e s y → x ≡ y
+begins-same {u} {i} {e} a b =
+    elim (decLt i e) [ yes lt ↦ a .there lt ∙ sym (b .there lt) | no ge ↦ let le : e ≤ i = omega arith in a .none le ∙ sym (b .none le) ]
+
+pub begins-some : (u : List ℕ) (i e s : ℕ) → (x : ℕ) × Begins u i e s x
+begins-some u i e s =
+    elim (decLt i e) [
+      | yes lt ↦ (getD u i 0, record { there = λ h. refl; none = λ h. absurd (omega arith) })
+      | no ge ↦ (s, record { there = λ h. absurd (omega arith); none = λ h. refl })
+    ]
 
 module _ (ts o u : List ℕ) where
   -- THE FORMS OF A SEQUENCE
@@ -152,12 +164,14 @@ module _ (ts o u : List ℕ) where
     first-flat f = omega (arith, first-head f .1)
 
   -- A loop: its tail, the sum of one round, and the body with what follows it in a first visit.
-  module _ {w hs : List ℕ} {left v i x : ℕ} {l : Lines} (h : LoopAt w hs left v i l) where
-    pub loop-first : {y : ℕ} → (x ≤ getD u i 0) × (getD u i 0 ≤ limit) → (getD o i 0 ≤ getD u i 0) × (getD u i 0 - x ≡ field w i 2 + field w i 4 * getD o i 0)
-        → AsDerived ts o u (h .body .lines) (i + 1) (getD u i 0 - getD o i 0) → y ≡ tally C ts (h .body .lines) + (getD u i 0 - getD o i 0) → getD u i 0 ≡ field w i 2 + y
-        → AsDerived-first ts o u l i x
-    loop-first {y} a d f hy ht =
+  module _ {w hs : List ℕ} {left v i en x : ℕ} {l : Lines} (h : LoopAt w hs left v i l) (he : en ≡ after-at w i) where
+    pub loop-first : (x ≤ getD u i 0) × (getD u i 0 ≤ limit) → LoopFits w u i en (getD u i 0) (getD o i 0) x
+        → AsDerived ts o u (h .body .lines) (i + 1) (getD u i 0 - getD o i 0) → AsDerived-first ts o u l i x
+    loop-first a d f =
         let c = field w i 2 in
+        let b = begins-some u (i + 1) en (getD u i 0 - getD o i 0) in
+        let hy = begins (b .1) (body-part he h) f in
+        let ht = d .2 (b .0) (b .1) in
         let body = tally C ts (h .body .lines) in
         let n = field w i 4 in
         let er : getD o i 0 ≡ body + c = omega (arith, d .0, hy, ht) in
@@ -181,7 +195,7 @@ module _ (ts o u : List ℕ) where
           let z = contains-loop (turn-rule C ts) o 0 h (f .turns-are) .0 in
           omega (arith, z, loop-turn C ts h, f .small, loop-lead C ts h, round-le (field w i 4) (tally C ts (h .body .lines)) (field w i 2) (h .least))
 
-      pub first-rounds : (getD o i 0 ≤ getD u i 0) × (getD u i 0 - x ≡ field w i 2 + field w i 4 * getD o i 0)
+      first-rounds : (getD o i 0 ≤ getD u i 0) × (getD u i 0 - x ≡ field w i 2 + field w i 4 * getD o i 0)
       first-rounds =
           let c = field w i 2 in
           let body = tally C ts (h .body .lines) in
@@ -202,15 +216,18 @@ module _ (ts o u : List ℕ) where
             small = omega (arith, f .small, tail-is, turn-is, first-rounds .0);
           }
 
-      pub first-start : {y : ℕ} → y ≡ tally C ts (h .body .lines) + (getD u i 0 - getD o i 0) → getD u i 0 ≡ field w i 2 + y
-      first-start hy = omega (arith, hy, turn-is, first-rounds .0)
+      pub first-loop : LoopFits w u i en (getD u i 0) (getD o i 0) x
+      first-loop =
+          (first-rounds .0, first-rounds .1, λ y b. let hy = begins b (body-part he h) first-body in omega (arith, hy, turn-is, first-rounds .0))
 
   -- An if: its tail, and both parts with what follows it.
-  module _ {w hs : List ℕ} {left v i mid x : ℕ} {l : Lines} (h : IfAt w hs left v i l) (hm : mid ≡ field w i 5) where
-    pub if-first : {a b m : ℕ} → getD o i 0 ≡ 0 → getD u i 0 ≤ limit → AsDerived ts o u (h .then .lines) (i + 1) x → AsDerived ts o u (h .else .lines) mid x
-        → a ≡ tally C ts (h .then .lines) + x → b ≡ tally C ts (h .else .lines) + x → m ≡ max a b → getD u i 0 ≡ field w i 2 + m → AsDerived-first ts o u l i x
-    if-first ho low f g ha hb hm′ ht =
-        let et = ht ∙ if-tail ts x h refl ha hb hm′ in
+  module _ {w hs : List ℕ} {left v i mid en x : ℕ} {l : Lines} (h : IfAt w hs left v i l) (hm : mid ≡ field w i 5) (he : en ≡ after-at w i) where
+    pub if-first : getD o i 0 ≡ 0 → getD u i 0 ≤ limit → IfFits w u i mid en (getD u i 0) x → AsDerived ts o u (h .then .lines) (i + 1) x
+        → AsDerived ts o u (h .else .lines) mid x → AsDerived-first ts o u l i x
+    if-first ho low d f g =
+        let a = begins-some u (i + 1) mid x in
+        let b = begins-some u mid en x in
+        let et = d (a .0) (b .0) (a .1) (b .1) ∙ if-tail ts x h refl (begins (a .1) (then-part hm h) f) (begins (b .1) (else-part hm he h) g) refl in
         record {
           turns-are = if-holds (turn-rule C ts) o 0 h hm (ho ∙ if-turn C ts h) (f .turns-are) (g .turns-are);
           tails-are = if-holds (tail-rule ts) u x h hm et (f .tails-are) (g .tails-are);
@@ -244,10 +261,11 @@ module _ (ts o u : List ℕ) where
           }
 
   -- The tail of an if that fits.
-  pub first-either : {w hs : List ℕ} {left left′ v i e x : ℕ} (lt : i < e) (p : Piece w left i e) (h : IfAt w hs left′ v i (p .part .lines)) {a b m : ℕ}
-      → AsDerived-first ts o u (p .part .lines) i x → a ≡ tally C ts (h .then .lines) + x → b ≡ tally C ts (h .else .lines) + x → m ≡ max a b
-      → getD u i 0 ≡ field w i 2 + m
-  first-either {x = x} lt p h f ha hb hm = first-head lt p f .1 ∙ sym (if-tail ts x h refl ha hb hm)
+  pub first-if : {w hs : List ℕ} {left left′ v i e mid en x : ℕ} (lt : i < e) (p : Piece w left i e)
+      (h : IfAt w hs left′ v i (p .part .lines)) (hm : mid ≡ field w i 5) (he : en ≡ after-at w i) → AsDerived-first ts o u (p .part .lines) i x → IfFits w u i mid en (getD u i 0) x
+  first-if {x = x} lt p h hm he f a b ha hb =
+      first-head lt p f .1 ∙
+      sym (if-tail ts x h refl (begins ha (then-part hm h) (first-then h hm he f)) (begins hb (else-part hm he h) (first-else h hm he f)) refl)
 
 -- THE FUNCTIONS
 
@@ -257,23 +275,19 @@ pub settled-on : (ts : List ℕ) {n f h : ℕ} → ((g : ℕ) → n ≤ g → g 
 settled-on ts {n} {f} {h} a b e g l r =
     elim (decLt g f) [ yes lt ↦ a g l lt | no ge ↦ let z : g ≡ f = omega arith in rw z b ]
 
--- The columns of the function f fit, and its total is exact.
-abbrev pub Right : List ℕ → List ℕ → List ℕ → List ℕ → (ℕ → Lines) → ℕ → Type 0
-Right ts o u starts F f = AsDerived ts o u (F f) (getD starts f 0) 0 × (getD ts f 0 ≡ tally C ts (F f))
-
 module _ (ts o u starts : List ℕ) (F : ℕ → Lines) where
-  pub right-on : {f h : ℕ} → ((g : ℕ) → g < f → Right ts o u starts F g) → Right ts o u starts F f → h ≡ f + 1 → (g : ℕ) → g < h → Right ts o u starts F g
-  right-on {f} {h} a b e g l = elim (decLt g f) [ yes lt ↦ a g lt | no ge ↦ let z : g ≡ f = omega arith in rw z b ]
+  pub fits-on : {f h : ℕ} → ((g : ℕ) → g < f → FunctionFits ts o u starts F g) → FunctionFits ts o u starts F f → h ≡ f + 1 → (g : ℕ) → g < h → FunctionFits ts o u starts F g
+  fits-on {f} {h} a b e g l = elim (decLt g f) [ yes lt ↦ a g lt | no ge ↦ let z : g ≡ f = omega arith in rw z b ]
 
-  -- All functions are right exactly when the lent numbers are theirs.
-  pub derived-right : {n : ℕ} → AllDerived F starts n ts o u → (f : ℕ) → f < n → Right ts o u starts F f
-  derived-right q f lt =
+  -- All functions fit exactly when the lent numbers are theirs.
+  pub derived-fits : {n : ℕ} → AllDerived F starts n ts o u → (f : ℕ) → f < n → FunctionFits ts o u starts F f
+  derived-fits q f lt =
       let e = q .exact in
       (record { turns-are = e .rounds f lt; tails-are = q .tails f lt; small = omega (arith, e .total f lt, e .small f lt) }, e .total f lt)
 
-  pub right-derived : {n : ℕ} → ((f : ℕ) → f < n → Right ts o u starts F f) → ((f : ℕ) → n ≤ f → f < 16 → getD ts f 0 ≡ 0)
+  pub fits-derived : {n : ℕ} → ((f : ℕ) → f < n → FunctionFits ts o u starts F f) → ((f : ℕ) → n ≤ f → f < 16 → getD ts f 0 ≡ 0)
       → getD starts n 0 ≤ length o → getD starts n 0 ≤ length u → AllDerived F starts n ts o u
-  right-derived a b lo lu =
+  fits-derived a b lo lu =
       record {
         exact =
             record {

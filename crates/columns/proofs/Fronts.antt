@@ -107,25 +107,52 @@ module _ (u : Rule) where
   plain-front o x {w} {left} {i} {e} {v} {y} lt p hv v2 v3 hy =
       rep-plain o x y w (p .level) i e (p .part .lines) (p .part .rep) lt (λ a. v2 (hv ∙ a)) (λ a. v3 (hv ∙ a)) hy
 
-  pub loop-front : (o : List ℕ) (x : ℕ) {w hs : List ℕ} {left v i : ℕ} {l : Lines} {o′ : List ℕ} {y z : ℕ} → (h : LoopAt w hs left v i l)
-      → y ≡ u .value l x → z ≡ u .inner l x → o′ ≡ sets o (i + 1) (column-of u (h .body .lines) z) → set o′ i y ≡ sets o i (front u l x)
-  loop-front o x {w} {hs} {left} {v} {i} {l} {o′} {y} {z} h hy hz ho =
+  whole-loop : (o : List ℕ) (x : ℕ) {w hs : List ℕ} {left v i : ℕ} {l : Lines} {y z : ℕ} → (h : LoopAt w hs left v i l) → y ≡ u .value l x → z ≡ u .inner l x
+      → sets o i (y ∷ column-of u (h .body .lines) z) ≡ sets o i (front u l x)
+  whole-loop o x {w} {hs} {left} {v} {i} {l} {y} {z} h hy hz =
       let b = h .body .lines in
-      set-before y (column-of u b z) o i (i + 1) ho refl ∙
       ap (λ (a : ℕ). sets o i (a ∷ column-of u b z)) hy ∙
       ap (λ (a : ℕ). sets o i (u .value l x ∷ column-of u b a)) hz ∙
       ap (λ (a : List ℕ). sets o i a) (as-loop l b (rest l) (block-at w i) (field w i 4) x (h .shape))
 
+  pub loop-front : (o : List ℕ) (x : ℕ) {w hs : List ℕ} {left v i : ℕ} {l : Lines} {o′ : List ℕ} {y z : ℕ} → (h : LoopAt w hs left v i l)
+      → y ≡ u .value l x → z ≡ u .inner l x → o′ ≡ sets o (i + 1) (column-of u (h .body .lines) z) → set o′ i y ≡ sets o i (front u l x)
+  loop-front o x {i = i} {y = y} {z = z} h hy hz ho = set-before y (column-of u (h .body .lines) z) o i (i + 1) ho refl ∙ whole-loop o x h hy hz
+
+  -- The same, the loop's own number first.
+  pub front-loop : (o : List ℕ) (x : ℕ) {w hs : List ℕ} {left v i : ℕ} {l : Lines} {o′ : List ℕ} {y z : ℕ} → (h : LoopAt w hs left v i l)
+      → y ≡ u .value l x → z ≡ u .inner l x → o′ ≡ sets (set o i y) (i + 1) (column-of u (h .body .lines) z) → o′ ≡ sets o i (front u l x)
+  front-loop o x {i = i} {o′ = o′} {y = y} {z = z} h hy hz ho =
+      let j : i + 1 ≡ suc i = omega arith in
+      let a : o′ ≡ sets o i (y ∷ column-of u (h .body .lines) z) = rw j at ho in
+      a ∙ whole-loop o x h hy hz
+
+  whole-if : (o : List ℕ) (x : ℕ) {w hs : List ℕ} {left v i : ℕ} {l : Lines} {y : ℕ} → (h : IfAt w hs left v i l) → y ≡ u .value l x
+      → sets o i (y ∷ (column-of u (h .then .lines) x ++ column-of u (h .else .lines) x)) ≡ sets o i (front u l x)
+  whole-if o x {w} {hs} {left} {v} {i} {l} h hy =
+      let t = h .then .lines in
+      let e = h .else .lines in
+      ap (λ (z : ℕ). sets o i (z ∷ (column-of u t x ++ column-of u e x))) hy ∙
+      ap (λ (z : List ℕ). sets o i z) (as-if l t e (rest l) (block-at w i) x (h .shape))
+
   pub if-front : (o : List ℕ) (x : ℕ) {w hs : List ℕ} {left v i mid : ℕ} {l : Lines} {o₁ o₂ : List ℕ} {y : ℕ} → (h : IfAt w hs left v i l) → mid ≡ field w i 5
       → y ≡ u .value l x → o₁ ≡ sets o (i + 1) (column-of u (h .then .lines) x) → o₂ ≡ sets o₁ mid (column-of u (h .else .lines) x)
       → set o₂ i y ≡ sets o i (front u l x)
-  if-front o x {w} {hs} {left} {v} {i} {mid} {l} {o₁} {o₂} {y} h hm hy h₁ h₂ =
-      let t = h .then .lines in
-      let e = h .else .lines in
-      let a = sets-then (column-of u t x) (column-of u e x) o (i + 1) mid h₁ h₂ (part-fill (then-part hm h) x) in
-      set-before y (column-of u t x ++ column-of u e x) o i (i + 1) a refl ∙
-      ap (λ (z : ℕ). sets o i (z ∷ (column-of u t x ++ column-of u e x))) hy ∙
-      ap (λ (z : List ℕ). sets o i z) (as-if l t e (rest l) (block-at w i) x (h .shape))
+  if-front o x {i = i} {mid = mid} {y = y} h hm hy h₁ h₂ =
+      let ts = column-of u (h .then .lines) x in
+      let es = column-of u (h .else .lines) x in
+      set-before y (ts ++ es) o i (i + 1) (sets-then ts es o (i + 1) mid h₁ h₂ (part-fill (then-part hm h) x)) refl ∙ whole-if o x h hy
+
+  -- The same, the if's own number first.
+  pub front-if : (o : List ℕ) (x : ℕ) {w hs : List ℕ} {left v i mid : ℕ} {l : Lines} {o₁ o₂ : List ℕ} {y : ℕ} → (h : IfAt w hs left v i l) → mid ≡ field w i 5
+      → y ≡ u .value l x → o₁ ≡ sets (set o i y) (i + 1) (column-of u (h .then .lines) x) → o₂ ≡ sets o₁ mid (column-of u (h .else .lines) x)
+      → o₂ ≡ sets o i (front u l x)
+  front-if o x {i = i} {mid = mid} {o₂ = o₂} {y = y} h hm hy h₁ h₂ =
+      let ts = column-of u (h .then .lines) x in
+      let es = column-of u (h .else .lines) x in
+      let j : i + 1 ≡ suc i = omega arith in
+      let a : o₂ ≡ sets o i (y ∷ (ts ++ es)) = rw j at (sets-then ts es (set o i y) (i + 1) mid h₁ h₂ (part-fill (then-part hm h) x)) in
+      a ∙ whole-if o x h hy
 
   -- What stands there already, by kind.
   pub contains-rest : (o : List ℕ) (s : ℕ) {w : List ℕ} {left i e en : ℕ} (lt : i < e) (p : Piece w left i e) → en ≡ after-at w i

@@ -16,7 +16,7 @@ use Rattle.rows.specs.Rows.{field, after-at, Rep}
 use Rattle.rows.specs.Plans.{Plan-of, lines-of}
 use Rattle.rows.proofs.Plans.{plan-rep, plan-inside}
 use Rattle.columns.specs.Columns.{column-of, tail-rule}
-use Rattle.columns.specs.Stretches.{stretch-rule, follow, follow-calls}
+use Rattle.columns.specs.Stretches.{stretch-rule, follow-call, follow-calls}
 use Rattle.columns.specs.Whole.{follows-after, stretches-written, tails-written}
 use Rattle.columns.proofs.Stores.{sets-below, sets-above}
 use Rattle.columns.proofs.Functions.{fun-order, zeros-at}
@@ -33,7 +33,7 @@ length-follow k ms (if-line b t e r) s a =
     let x = line-silence k ms r s in
     length-follow k ms e x (follow-calls k ms t x (follow-calls k ms r s a)) ∙ length-follow k ms t x (follow-calls k ms r s a) ∙ length-follow k ms r s a
 
-follow-at : (a : List ℕ) (f s g : ℕ) → g < length a → getD (follow a f s) g 0 ≡ max (getD a g 0) (pick (eqb f g) s 0)
+follow-at : (a : List ℕ) (f s g : ℕ) → g < length a → getD (follow-call a f s) g 0 ≡ max (getD a g 0) (pick (eqb f g) s 0)
 follow-at a f s g h =
     elim (decLt f g) [
       | yes l ↦ omega (arith, getD-set-other a f g (max (getD a f 0) s) 0 (omega arith), at-else f g s (omega arith))

@@ -4,7 +4,8 @@ use mathlib.Core.Bool.{Bool, true, false}
 use mathlib.Core.List.{List}
 use Prim.Native.Nat.{ℕ, suc, _+_, _-_, _*_, _≤_, _<_, max}
 use native.Mathlib.Omega.{arith}
-use lib.ListN.{getD}
+use lib.ListN.{getD, set}
+use lib.Seq.{sets}
 use Rattle.model.specs.Plan.{Block, Lines, close, leaf-line, call-line, loop-line, if-line}
 use Rattle.model.specs.Total.{tally}
 use Rattle.model.specs.Places.{pick}
@@ -14,8 +15,10 @@ use Rattle.rows.specs.First.{rest}
 use Rattle.rows.proofs.Shape.{LeafAt, CallAt, LoopAt, IfAt}
 use Rattle.columns.specs.declared.SilentSum.{SilentSum}
 use Rattle.columns.specs.Sums.{limit, lead}
-use Rattle.columns.specs.Private.{Under, later, silence-of, WithinLimit, first-silence, head-at, follow-first}
-use Rattle.columns.specs.Stretches.{leaf-stretch, first-stretch, follow, follow-calls}
+use Rattle.columns.specs.Private.{Under, front, later, silence-of, WithinLimit, first-silence, head-at, follow-first}
+use Rattle.columns.specs.Stretches.{leaf-stretch, first-stretch, stretch-rule, follow-call, follow-calls}
+use Rattle.columns.specs.Columns.{column-of}
+use Rattle.columns.proofs.Fronts.{leaf-front, call-front, loop-front, if-front}
 use Rattle.columns.proofs.Silences.{silence-split}
 
 pick-le : (p : Bool) (x : ℕ) → pick p 0 x ≤ x
@@ -71,25 +74,45 @@ if-silence k ms s {w} {hs} {left} {v} {i} {l} {c} {a} {b} {m} {r} h hc ha hb hm 
 
 -- The stretch of the first leaf, by kind.
 module _ (k : Block → ℕ) (ms : List ℕ) (q : ℕ → ℕ → ℕ) where
-  pub stretch-of-leaf : {w : List ℕ} {v i : ℕ} {l : Lines} (s : ℕ) {r : ℕ} → LeafAt w v i l → r ≡ leaf-stretch k (block-at w i) s → r ≡ first-stretch k ms q l s
+  stretch-of-leaf : {w : List ℕ} {v i : ℕ} {l : Lines} (s : ℕ) {r : ℕ} → LeafAt w v i l → r ≡ leaf-stretch k (block-at w i) s → r ≡ first-stretch k ms q l s
   unfolding first-stretch
   stretch-of-leaf s h hr = hr ∙ ap (λ (u : Lines). first-stretch k ms q u s) (sym (h .shape))
 
-  pub stretch-of-call : {w hs : List ℕ} {v i : ℕ} {l : Lines} (s : ℕ) {r : ℕ} → CallAt w hs v i l → r ≡ leaf-stretch k (block-at w i) (q (field w i 4) s) → r ≡ first-stretch k ms q l s
+  stretch-of-call : {w hs : List ℕ} {v i : ℕ} {l : Lines} (s : ℕ) {r : ℕ} → CallAt w hs v i l → r ≡ leaf-stretch k (block-at w i) (q (field w i 4) s) → r ≡ first-stretch k ms q l s
   unfolding first-stretch
   stretch-of-call s h hr = hr ∙ ap (λ (u : Lines). first-stretch k ms q u s) (sym (h .shape))
 
-  pub stretch-of-loop : {w hs : List ℕ} {left v i : ℕ} {l : Lines} (s : ℕ) {r x b : ℕ} (h : LoopAt w hs left v i l) → b ≡ line-silence k ms (h .body .lines) 0 → x ≡ max s b
+  stretch-of-loop : {w hs : List ℕ} {left v i : ℕ} {l : Lines} (s : ℕ) {r x b : ℕ} (h : LoopAt w hs left v i l) → b ≡ line-silence k ms (h .body .lines) 0 → x ≡ max s b
       → r ≡ leaf-stretch k (block-at w i) x → r ≡ first-stretch k ms q l s
   unfolding first-stretch
   stretch-of-loop {w} {hs} {left} {v} {i} s h hb hx hr =
       hr ∙ ap (λ (y : ℕ). leaf-stretch k (block-at w i) y) (hx ∙ ap (λ (y : ℕ). max s y) hb) ∙ ap (λ (u : Lines). first-stretch k ms q u s) (sym (h .shape))
 
-  pub stretch-of-if : {w hs : List ℕ} {left v i : ℕ} {l : Lines} (s : ℕ) {r x a b : ℕ} (h : IfAt w hs left v i l) → a ≡ line-silence k ms (h .then .lines) s
+  stretch-of-if : {w hs : List ℕ} {left v i : ℕ} {l : Lines} (s : ℕ) {r x a b : ℕ} (h : IfAt w hs left v i l) → a ≡ line-silence k ms (h .then .lines) s
       → b ≡ line-silence k ms (h .else .lines) s → x ≡ max a b → r ≡ leaf-stretch k (block-at w i) x → r ≡ first-stretch k ms q l s
   unfolding first-stretch
   stretch-of-if {w} {hs} {left} {v} {i} s h ha hb hx hr =
       hr ∙ ap (λ (y : ℕ). leaf-stretch k (block-at w i) y) (hx ∙ rw (ha, hb)) ∙ ap (λ (u : Lines). first-stretch k ms q u s) (sym (h .shape))
+
+  -- What is written for the first form, by kind.
+  pub put-leaf : {w : List ℕ} {v i : ℕ} {l : Lines} (s : ℕ) (o : List ℕ) {o′ : List ℕ} → LeafAt w v i l → o′ ≡ set o i (leaf-stretch k (block-at w i) s)
+      → o′ ≡ sets o i (front (stretch-rule k ms q) l s)
+  put-leaf s o h e = e ∙ leaf-front (stretch-rule k ms q) o s h (stretch-of-leaf s h refl)
+
+  pub put-call : {w hs : List ℕ} {v i : ℕ} {l : Lines} (s : ℕ) (o : List ℕ) {o′ : List ℕ} → CallAt w hs v i l
+      → o′ ≡ set o i (leaf-stretch k (block-at w i) (q (field w i 4) s)) → o′ ≡ sets o i (front (stretch-rule k ms q) l s)
+  put-call s o h e = e ∙ call-front (stretch-rule k ms q) o s h (stretch-of-call s h refl)
+
+  pub put-loop : {w hs : List ℕ} {left v i : ℕ} {l : Lines} (s : ℕ) (o : List ℕ) {x b : ℕ} {o₁ o′ : List ℕ} (h : LoopAt w hs left v i l)
+      → b ≡ line-silence k ms (h .body .lines) 0 → x ≡ max s b → o₁ ≡ sets o (i + 1) (column-of (stretch-rule k ms q) (h .body .lines) 0)
+      → o′ ≡ set o₁ i (leaf-stretch k (block-at w i) x) → o′ ≡ sets o i (front (stretch-rule k ms q) l s)
+  put-loop s o h hb hx h₁ e = e ∙ loop-front (stretch-rule k ms q) o s h (stretch-of-loop s h hb hx refl) refl h₁
+
+  pub put-if : {w hs : List ℕ} {left v i mid : ℕ} {l : Lines} (s : ℕ) (o : List ℕ) {x a b : ℕ} {o₁ o₂ o′ : List ℕ} (h : IfAt w hs left v i l)
+      → mid ≡ field w i 5 → a ≡ line-silence k ms (h .then .lines) s → b ≡ line-silence k ms (h .else .lines) s → x ≡ max a b
+      → o₁ ≡ sets o (i + 1) (column-of (stretch-rule k ms q) (h .then .lines) s) → o₂ ≡ sets o₁ mid (column-of (stretch-rule k ms q) (h .else .lines) s)
+      → o′ ≡ set o₂ i (leaf-stretch k (block-at w i) x) → o′ ≡ sets o i (front (stretch-rule k ms q) l s)
+  put-if s o h hm ha hb hx h₁ h₂ e = e ∙ if-front (stretch-rule k ms q) o s h hm (stretch-of-if s h ha hb hx refl) h₁ h₂
 
 -- What follows the functions that the first form calls, by kind.
 module _ (k : Block → ℕ) (ms : List ℕ) where
@@ -105,7 +128,7 @@ module _ (k : Block → ℕ) (ms : List ℕ) where
   unfolding follow-first
   leaf-follows s a h = ap (λ (u : Lines). follow-first k ms u s a) (sym (h .shape))
 
-  pub call-follows : {w hs : List ℕ} {v i : ℕ} {l : Lines} (s : ℕ) (a : List ℕ) {a′ : List ℕ} → CallAt w hs v i l → a′ ≡ follow a (field w i 4) s → a′ ≡ follow-first k ms l s a
+  pub call-follows : {w hs : List ℕ} {v i : ℕ} {l : Lines} (s : ℕ) (a : List ℕ) {a′ : List ℕ} → CallAt w hs v i l → a′ ≡ follow-call a (field w i 4) s → a′ ≡ follow-first k ms l s a
   unfolding follow-first
   call-follows s a h ha = ha ∙ ap (λ (u : Lines). follow-first k ms u s a) (sym (h .shape))
 

@@ -1,7 +1,7 @@
 -- What only the private functions promise. Nothing of this stands in the contract of a public one.
 -- Assumes nothing: these are definitions.
 use mathlib.Core.List.{List, [], _∷_, _++_}
-use Prim.Native.Nat.{ℕ, _+_, _*_, _≤_, max, suc, zero, _<_}
+use Prim.Native.Nat.{ℕ, _+_, _-_, _*_, _≤_, max, suc, zero, _<_}
 use lib.Dec.{eqb}
 use lib.ListN.{getD, length}
 use Rattle.model.specs.Plan.{Block, C, Lines, close, leaf-line, call-line, loop-line, if-line}
@@ -9,12 +9,12 @@ use Rattle.model.specs.Total.{tally}
 use Rattle.model.specs.Places.{pick}
 use Rattle.columns.specs.Sums.{limit, lead}
 use mathlib.Core.Path.{_≡_}
-use Rattle.rows.specs.Rows.{Piece, after-at}
+use Rattle.rows.specs.Rows.{Piece, field, after-at}
 use Rattle.columns.specs.Columns.{Rule, column-of, turn-rule, turns, tail-rule, Contains}
 use Rattle.rows.specs.First.{rest}
 use Rattle.model.specs.Static.{line-silence}
 use Rattle.columns.specs.declared.SilentSum.{SilentSum}
-use Rattle.columns.specs.Stretches.{follow, follow-calls}
+use Rattle.columns.specs.Stretches.{follow-call, follow-calls}
 
 -- None of the numbers is over m.
 abbrev pub Under : ℕ → List ℕ → Type 0
@@ -93,7 +93,7 @@ head-at h f = record { hit = getD h (f * 3) 0; pass = getD h (f * 3 + 1) 0; free
 unfoldable pub follow-first : (Block → ℕ) → List ℕ → Lines → ℕ → List ℕ → List ℕ
 follow-first k ms close x a = a
 follow-first k ms (leaf-line b r) x a = a
-follow-first k ms (call-line b f r) x a = follow a f x
+follow-first k ms (call-line b f r) x a = follow-call a f x
 follow-first k ms (loop-line b n body r) x a = follow-calls k ms body 0 a
 follow-first k ms (if-line b t e r) x a = follow-calls k ms e x (follow-calls k ms t x a)
 
@@ -113,3 +113,15 @@ pub record AsDerived-first (ts o u : List ℕ) (l : Lines) (i x : ℕ) : Type 0 
 pub record Begins (u : List ℕ) (i e s x : ℕ) : Type 0 where
   pub there : i < e → x ≡ getD u i 0
   pub none : e ≤ i → x ≡ s
+
+-- The tail t of the loop at i, which ends at e and which x follows, is the one that the sum o of one of its rounds gives, and fits the body's start.
+abbrev pub LoopFits : List ℕ → List ℕ → ℕ → ℕ → ℕ → ℕ → ℕ → Type 0
+LoopFits w u i e t o x = (o ≤ t) × (t - x ≡ field w i 2 + field w i 4 * o) × ((y : ℕ) → Begins u (i + 1) e (t - o) y → t ≡ field w i 2 + y)
+
+-- The tail t of the if at i, whose else part begins at m and which ends at e, fits the starts of both parts, which x follows.
+abbrev pub IfFits : List ℕ → List ℕ → ℕ → ℕ → ℕ → ℕ → ℕ → Type 0
+IfFits w u i m e t x = (a b : ℕ) → Begins u (i + 1) m x a → Begins u m e x b → t ≡ field w i 2 + max a b
+
+-- The columns of the function f, whose lines are F f, stand as they are derived, and its total is exact.
+abbrev pub FunctionFits : List ℕ → List ℕ → List ℕ → List ℕ → (ℕ → Lines) → ℕ → Type 0
+FunctionFits ts o u starts F f = AsDerived ts o u (F f) (getD starts f 0) 0 × (getD ts f 0 ≡ tally C ts (F f))

@@ -25,13 +25,13 @@ abbrev pub stretch-rule : (Block → ℕ) → List ℕ → (ℕ → ℕ → ℕ)
 stretch-rule k ms q = record { next = line-silence k ms; value = first-stretch k ms q; inner = λ l x. 0 }
 
 -- What follows each function, where s follows one call more of f: the larger of the two counts.
-abbrev pub follow : List ℕ → ℕ → ℕ → List ℕ
-follow a f s = set a f (max (getD a f 0) s)
+abbrev pub follow-call : List ℕ → ℕ → ℕ → List ℕ
+follow-call a f s = set a f (max (getD a f 0) s)
 
 -- The same after all calls among lines, which s follows.
 unfoldable pub follow-calls : (Block → ℕ) → List ℕ → Lines → ℕ → List ℕ → List ℕ
 follow-calls k ms close s a = a
 follow-calls k ms (leaf-line b r) s a = follow-calls k ms r s a
-follow-calls k ms (call-line b f r) s a = follow (follow-calls k ms r s a) f (line-silence k ms r s)
+follow-calls k ms (call-line b f r) s a = follow-call (follow-calls k ms r s a) f (line-silence k ms r s)
 follow-calls k ms (loop-line b n body r) s a = follow-calls k ms body 0 (follow-calls k ms r s a)
 follow-calls k ms (if-line b t e r) s a = follow-calls k ms e (line-silence k ms r s) (follow-calls k ms t (line-silence k ms r s) (follow-calls k ms r s a))

@@ -2,19 +2,20 @@
 // whatever the nesting: sums are noted once for each loop, and siblings are walked from the last to the first, with what follows them at hand.
 // Lent totals, turns and tails are tested where they stand, from the first leaf to the last.
 ghost use mathlib.Core.Path.{_≡_};
-ghost use mathlib.Core.List.{[], _∷_};
+ghost use mathlib.Core.List.{List, [], _∷_};
 ghost use Prim.Native.Nat.{ℕ, _+_, _-_, _*_, _≤_, _<_};
-ghost use lib.ListN.{length, getD};
+ghost use lib.ListN.{length, getD, set};
 ghost use lib.Seq.{sets};
 ghost use Rattle.model.specs.Plan.{C, M};
 ghost use Rattle.model.specs.Total.{tally};
 ghost use Rattle.rows.specs.Rows.{field, block-at, Piece};
 ghost use Rattle.columns.specs.Sums.{limit, ceiling, cap, IsCost, cost-in, lead};
-ghost use Rattle.columns.specs.Private.{Under, front, Sized, Ready, Kept, Listed, silence-of, IsSilence, WithinLimit, first-silence, head-at, follow-first, AsDerived, AsDerived-first, Begins};
+ghost use Rattle.columns.specs.Private.{Under, front, Sized, Ready, Kept, Listed, silence-of, IsSilence, WithinLimit, first-silence, head-at};
+ghost use Rattle.columns.specs.Private.{follow-first, AsDerived, AsDerived-first, Begins, LoopFits, IfFits, FunctionFits};
 ghost use Rattle.columns.specs.Columns.{column-of, turn-rule, turns, tail-rule};
 ghost use Rattle.model.specs.Places.{pick, bit};
 ghost use Rattle.model.specs.Static.{line-silence};
-ghost use Rattle.columns.specs.Stretches.{leaf-stretch, stretch-rule, follow, follow-calls};
+ghost use Rattle.columns.specs.Stretches.{leaf-stretch, stretch-rule, follow-calls};
 ghost use Rattle.columns.specs.Whole.{Measured, Summed, SummedBoth, stretches-written, tails-written};
 ghost use Rattle.rows.specs.Answers.{Says};
 ghost use Rattle.rows.specs.Plans.{Plan-of, lines-of};
@@ -31,6 +32,7 @@ use rows::LEAF;
 use rows::LIMIT;
 use rows::LOOP;
 use rows::MAX_FUNCTIONS;
+use rows::MAX_LEAVES;
 use rows::MAX_LOAD;
 use rows::OTHER;
 use rows::POINT;
@@ -69,8 +71,8 @@ fn sum_form(
     i: usize,
     to: usize,
     left: usize,
-    sums: &[u64; 16],
-    turn: &mut [u64; 512],
+    sums: &[u64; MAX_FUNCTIONS],
+    turn: &mut [u64; MAX_LEAVES],
 ) -> u64
     requires { ⌜ i < to ⌝ }
     requires { ⌜ (to * 8 ≤ length (now row)) × (to ≤ 512) × Under ceiling (now sums) × IsCost column ⌝ }
@@ -82,26 +84,26 @@ fn sum_form(
 {
     let kind = get(row, i, KIND);
     let c = cost(row, i, column);
-    if kind == LEAF {
-        turn[i] = 0;
-        return c;
-    }
-    if kind == CALL {
-        turn[i] = 0;
-        let f = index(row, i, DETAIL);
-        return clip(c + sums[f]);
-    }
-    let end = index(row, i, AFTER);
     if kind == LOOP {
-        let body = sum_block(row, column, i + 1, end, left - 1, sums, turn);
+        let after = index(row, i, AFTER);
+        let body = sum_block(row, column, i + 1, after, left - 1, sums, turn);
         turn[i] = c + body;
         return looped(c, get(row, i, DETAIL), body);
     }
-    let mid = index(row, i, OTHER);
-    let a = sum_block(row, column, i + 1, mid, left - 2, sums, turn);
-    let b = sum_block(row, column, mid, end, left - 2, sums, turn);
     turn[i] = 0;
-    clip(c + larger(a, b))
+    if kind == IF {
+        let after = index(row, i, AFTER);
+        let other = index(row, i, OTHER);
+        let rest = left - 2;
+        let a = sum_block(row, column, i + 1, other, rest, sums, turn);
+        let b = sum_block(row, column, other, after, rest, sums, turn);
+        return clip(c + larger(a, b));
+    }
+    if kind == CALL {
+        let f = index(row, i, DETAIL);
+        return clip(c + sums[f]);
+    }
+    c
 }
 
 // The total of the forms from `from` up to `to`, held at the ceiling. Writes the sums of the rounds of their loops.
@@ -111,8 +113,8 @@ fn sum_block(
     from: usize,
     to: usize,
     left: usize,
-    sums: &[u64; 16],
-    turn: &mut [u64; 512],
+    sums: &[u64; MAX_FUNCTIONS],
+    turn: &mut [u64; MAX_LEAVES],
 ) -> u64
     requires { ⌜ (to * 8 ≤ length (now row)) × (to ≤ 512) × Under ceiling (now sums) × IsCost column ⌝ }
     requires { ⌜ Piece (now row) left from to ⌝ }
@@ -132,7 +134,7 @@ fn sum_block(
 }
 
 // Lists the first leaf of each form from `from` up to `to`, in text order, from seq[from] on, and returns how many there are.
-fn list(row: &[u64], from: usize, to: usize, seq: &mut [usize; 512]) -> usize
+fn list(row: &[u64], from: usize, to: usize, seq: &mut [usize; MAX_LEAVES]) -> usize
     requires { ⌜ (to * 8 ≤ length (now row)) × (to ≤ 512) × (length (now seq) ≡ 512) ⌝ }
     requires { ⌜ ((left : ℕ) × Piece (now row) left from to) ⌝ }
     ensures { λ r. ⌜ Listed (now (row .entry)) from to r (now (seq .exit)) ⌝ }
@@ -155,8 +157,8 @@ fn weight(
     i: usize,
     to: usize,
     left: usize,
-    sums: &[u64; 16],
-    turn: &[u64; 512],
+    sums: &[u64; MAX_FUNCTIONS],
+    turn: &[u64; MAX_LEAVES],
 ) -> u64
     requires { ⌜ (i < to) × (to * 8 ≤ length (now row)) × (to ≤ 512) × (field (now row) i 0 < 3) × IsCost column ⌝ }
     requires { ⌜ Ready (cost-in column) (now row) (now sums) (now turn) left i to 0 ⌝ }
@@ -181,11 +183,11 @@ fn tail_form(
     i: usize,
     to: usize,
     left: usize,
-    sums: &[u64; 16],
-    turn: &[u64; 512],
+    sums: &[u64; MAX_FUNCTIONS],
+    turn: &[u64; MAX_LEAVES],
     e: u64,
-    seq: &mut [usize; 512],
-    out: &mut [u64; 512],
+    seq: &mut [usize; MAX_LEAVES],
+    out: &mut [u64; MAX_LEAVES],
 ) -> u64
     requires { ⌜ i < to ⌝ }
     requires { ⌜ (to * 8 ≤ length (now row)) × (to ≤ 512) × (length (now seq) ≡ 512) ⌝ }
@@ -198,22 +200,31 @@ fn tail_form(
 {
     let kind = get(row, i, KIND);
     if kind == IF {
-        let end = index(row, i, AFTER);
-        let mid = index(row, i, OTHER);
-        let a = tail_block(row, i + 1, mid, left - 2, sums, turn, e, seq, out);
-        let b = tail_block(row, mid, end, left - 2, sums, turn, e, seq, out);
+        let after = index(row, i, AFTER);
+        let other = index(row, i, OTHER);
+        let rest = left - 2;
+        let a = tail_block(row, i + 1, other, rest, sums, turn, e, seq, out);
+        let b = tail_block(row, other, after, rest, sums, turn, e, seq, out);
         let t = get(row, i, ISOLATED) + larger(a, b);
         out[i] = t;
         return t;
     }
     let t = weight(row, ISOLATED, i, to, left, sums, turn) + e;
-    if kind == LOOP {
-        let end = index(row, i, AFTER);
-        tail_block(row, i + 1, end, left - 1, sums, turn, t - turn[i], seq, out);
-        out[i] = t;
-        return t;
-    }
     out[i] = t;
+    if kind == LOOP {
+        let after = index(row, i, AFTER);
+        tail_block(
+            row,
+            i + 1,
+            after,
+            left - 1,
+            sums,
+            turn,
+            t - turn[i],
+            seq,
+            out,
+        );
+    }
     t
 }
 
@@ -223,11 +234,11 @@ fn tail_block(
     from: usize,
     to: usize,
     left: usize,
-    sums: &[u64; 16],
-    turn: &[u64; 512],
+    sums: &[u64; MAX_FUNCTIONS],
+    turn: &[u64; MAX_LEAVES],
     e: u64,
-    seq: &mut [usize; 512],
-    out: &mut [u64; 512],
+    seq: &mut [usize; MAX_LEAVES],
+    out: &mut [u64; MAX_LEAVES],
 ) -> u64
     requires { ⌜ (to * 8 ≤ length (now row)) × (to ≤ 512) × (length (now seq) ≡ 512) ⌝ }
     requires { ⌜ Sized C (now row) (now sums) (now turn) left from to e ⌝ }
@@ -316,14 +327,15 @@ fn silence_form(
     i: usize,
     to: usize,
     left: usize,
-    sums: &[u64; 16],
-    turn: &[u64; 512],
+    sums: &[u64; MAX_FUNCTIONS],
+    turn: &[u64; MAX_LEAVES],
 ) -> SilentSum
     requires { ⌜ i < to ⌝ }
     requires { ⌜ (to * 8 ≤ length (now row)) × (to ≤ 512) × IsCost column ⌝ }
     requires { ⌜ Ready (cost-in column) (now row) (now sums) (now turn) left i to 0 ⌝ }
     ensures { λ r. ⌜ ((p : Ready (cost-in column) (now (row .entry)) (now (sums .entry)) (now (turn .entry)) left i to 0)
-        → IsSilence r (λ s. first-silence (cost-in column) (now (sums .entry)) (p .forms .part .lines) s) (lead (cost-in column) (now (sums .entry)) (p .forms .part .lines))) ⌝ }
+        → IsSilence r (λ s. first-silence (cost-in column) (now (sums .entry)) (p .forms .part .lines) s) (lead (cost-in column)
+        (now (sums .entry)) (p .forms .part .lines))) ⌝ }
 {
     if get(row, i, POINT) == 1 {
         return SilentSum {
@@ -334,10 +346,10 @@ fn silence_form(
     }
     let kind = get(row, i, KIND);
     if kind == IF {
-        let end = index(row, i, AFTER);
-        let mid = index(row, i, OTHER);
-        let x = silence_block(row, column, i + 1, mid, left - 2, sums, turn);
-        let y = silence_block(row, column, mid, end, left - 2, sums, turn);
+        let after = index(row, i, AFTER);
+        let other = index(row, i, OTHER);
+        let x = silence_block(row, column, i + 1, other, left - 2, sums, turn);
+        let y = silence_block(row, column, other, after, left - 2, sums, turn);
         return either(cost(row, i, column), x, y);
     }
     let pass = weight(row, column, i, to, left, sums, turn);
@@ -355,13 +367,14 @@ fn silence_block(
     from: usize,
     to: usize,
     left: usize,
-    sums: &[u64; 16],
-    turn: &[u64; 512],
+    sums: &[u64; MAX_FUNCTIONS],
+    turn: &[u64; MAX_LEAVES],
 ) -> SilentSum
     requires { ⌜ (to * 8 ≤ length (now row)) × (to ≤ 512) × IsCost column ⌝ }
     requires { ⌜ Sized (cost-in column) (now row) (now sums) (now turn) left from to 0 ⌝ }
     ensures { λ r. ⌜ ((p : Sized (cost-in column) (now (row .entry)) (now (sums .entry)) (now (turn .entry)) left from to 0)
-        → IsSilence r (λ s. line-silence (cost-in column) (now (sums .entry)) (p .forms .part .lines) s) (tally (cost-in column) (now (sums .entry)) (p .forms .part .lines))) ⌝ }
+        → IsSilence r (λ s. line-silence (cost-in column) (now (sums .entry)) (p .forms .part .lines) s) (tally (cost-in column)
+        (now (sums .entry)) (p .forms .part .lines))) ⌝ }
 {
     let mut acc = SilentSum {
         hit: 0,
@@ -391,15 +404,15 @@ fn head(heads: &[u64; 48], f: usize) -> SilentSum
     SilentSum { hit, pass, free }
 }
 
-// The stretch of the record i, if it is a point, where s follows its visit.
-fn point_stretch(row: &[u64], column: usize, i: usize, s: u64) -> u64
-    requires { ⌜ (i * 8 + 8 ≤ length (now row)) × (cost-in column (block-at (now row) i) ≤ 1048576) × (s ≤ ceiling) × IsCost column ⌝ }
-    ensures { λ r. ⌜ r ≡ leaf-stretch (cost-in column) (block-at (now (row .entry)) i) s ⌝ }
+// Writes the stretch of the record i, where s follows its visit; 0 if it is no point.
+fn put_stretch(row: &[u64], column: usize, i: usize, s: u64, out: &mut [u64; MAX_LEAVES])
+    requires { ⌜ (i * 8 + 8 ≤ length (now row)) × (cost-in column (block-at (now row) i) ≤ 1048576) × (s ≤ ceiling) × IsCost column × (i < 512) ⌝ }
+    ensures { λ _. ⌜ now (out .exit) ≡ set (now (out .entry)) i (leaf-stretch (cost-in column) (block-at (now (row .entry)) i) s) ⌝ }
 {
     if get(row, i, POINT) == 1 {
-        cost(row, i, column) + s
+        out[i] = cost(row, i, column) + s;
     } else {
-        0
+        out[i] = 0;
     }
 }
 
@@ -411,24 +424,99 @@ fn silent_before(row: &[u64], i: usize, t: u64) -> u64
     if get(row, i, POINT) == 1 { 0 } else { t }
 }
 
-// The stretch of the call at i, where s follows it. Notes what follows the function that it calls.
-fn stretch_call(
+// Writes the stretch of the leaf or call at i, the first of the forms from i up to `to`, which s follows. Notes what follows the function that it calls.
+// Where those forms end, and how many brackets may open in them, only the contract asks.
+fn stretch_flat(
     row: &[u64],
     column: usize,
     i: usize,
+    to: usize,
+    left: usize,
     heads: &[u64; 48],
     s: u64,
-    after: &mut [u64; 16],
-) -> u64
-    requires { ⌜ (i * 8 + 8 ≤ length (now row)) × (cost-in column (block-at (now row) i) ≤ 1048576) × (field (now row) i 4 < 16) × IsCost column ⌝ }
+    out: &mut [u64; MAX_LEAVES],
+    follows: &mut [u64; MAX_FUNCTIONS],
+)
+    requires { ⌜ (i < to) × (to * 8 ≤ length (now row)) × (to ≤ 512) × (field (now row) i 0 < 2) × IsCost column ⌝ }
     requires { ⌜ Under limit (now heads) × (s ≤ limit) ⌝ }
-    ensures { λ r. ⌜ r ≡ leaf-stretch (cost-in column) (block-at (now (row .entry)) i) (silence-of (head-at (now (heads .entry)) (field (now (row .entry)) i 4)) s) ⌝ }
-    ensures { λ _. ⌜ now (after .exit) ≡ follow (now (after .entry)) (field (now (row .entry)) i 4) s ⌝ }
+    requires { ⌜ Piece (now row) left i to ⌝ }
+    ensures { λ _. ⌜ ((ms : List ℕ) (p : Piece (now (row .entry)) left i to) → now (out .exit) ≡ sets (now (out .entry)) i
+        (front (stretch-rule (cost-in column) ms (λ f x. silence-of (head-at (now (heads .entry)) f) x)) (p .part .lines) s)) ⌝ }
+    ensures { λ _. ⌜ ((ms : List ℕ) (p : Piece (now (row .entry)) left i to)
+        → now (follows .exit) ≡ follow-first (cost-in column) ms (p .part .lines) s (now (follows .entry))) ⌝ }
 {
+    if get(row, i, KIND) == LEAF {
+        put_stretch(row, column, i, s, out);
+        return;
+    }
     let f = index(row, i, DETAIL);
     let q = head(heads, f);
-    after[f] = larger(after[f], s);
-    point_stretch(row, column, i, apply(q, s))
+    follows[f] = larger(follows[f], s);
+    put_stretch(row, column, i, apply(q, s), out);
+}
+
+// Writes the stretch of each leaf of the if at i, the first form of those from i up to `to`, which s follows, and notes what follows the functions
+// that it calls; returns the silence from i on.
+fn stretch_if(
+    row: &[u64],
+    column: usize,
+    i: usize,
+    to: usize,
+    left: usize,
+    sums: &[u64; MAX_FUNCTIONS],
+    turn: &[u64; MAX_LEAVES],
+    heads: &[u64; 48],
+    s: u64,
+    seq: &mut [usize; MAX_LEAVES],
+    out: &mut [u64; MAX_LEAVES],
+    follows: &mut [u64; MAX_FUNCTIONS],
+) -> u64
+    requires { ⌜ (i < to) × (field (now row) i 0 ≡ 3) ⌝ }
+    requires { ⌜ (to * 8 ≤ length (now row)) × (to ≤ 512) × (length (now seq) ≡ 512) × Under limit (now heads) × IsCost column ⌝ }
+    requires { ⌜ Ready (cost-in column) (now row) (now sums) (now turn) left i to s ⌝ }
+    ensures { λ r. ⌜ ((p : Ready (cost-in column) (now (row .entry)) (now (sums .entry)) (now (turn .entry)) left i to s)
+        → r ≡ first-silence (cost-in column) (now (sums .entry)) (p .forms .part .lines) s) ⌝ }
+    ensures { λ _. ⌜ ((p : Ready (cost-in column) (now (row .entry)) (now (sums .entry)) (now (turn .entry)) left i to s)
+        → now (out .exit) ≡ sets (now (out .entry)) i
+        (front (stretch-rule (cost-in column) (now (sums .entry)) (λ f x. silence-of (head-at (now (heads .entry)) f) x)) (p .forms .part .lines) s)) ⌝ }
+    ensures { λ _. ⌜ ((p : Ready (cost-in column) (now (row .entry)) (now (sums .entry)) (now (turn .entry)) left i to s)
+        → now (follows .exit) ≡ follow-first (cost-in column) (now (sums .entry)) (p .forms .part .lines) s (now (follows .entry))) ⌝ }
+    ensures { λ _. ⌜ Kept (i + 1) (now (seq .entry)) (now (seq .exit)) ⌝ }
+{
+    let after = index(row, i, AFTER);
+    let other = index(row, i, OTHER);
+    let rest = left - 2;
+    let a = stretch_block(
+        row,
+        column,
+        i + 1,
+        other,
+        rest,
+        sums,
+        turn,
+        heads,
+        s,
+        seq,
+        out,
+        follows,
+    );
+    let b = stretch_block(
+        row,
+        column,
+        other,
+        after,
+        rest,
+        sums,
+        turn,
+        heads,
+        s,
+        seq,
+        out,
+        follows,
+    );
+    let x = larger(a, b);
+    put_stretch(row, column, i, x, out);
+    silent_before(row, i, cost(row, i, column) + x)
 }
 
 // Writes the stretch of each leaf of the form at i, the first of those from i up to `to`, which s follows, and notes what follows the functions
@@ -439,13 +527,13 @@ fn stretch_form(
     i: usize,
     to: usize,
     left: usize,
-    sums: &[u64; 16],
-    turn: &[u64; 512],
+    sums: &[u64; MAX_FUNCTIONS],
+    turn: &[u64; MAX_LEAVES],
     heads: &[u64; 48],
     s: u64,
-    seq: &mut [usize; 512],
-    out: &mut [u64; 512],
-    after: &mut [u64; 16],
+    seq: &mut [usize; MAX_LEAVES],
+    out: &mut [u64; MAX_LEAVES],
+    follows: &mut [u64; MAX_FUNCTIONS],
 ) -> u64
     requires { ⌜ i < to ⌝ }
     requires { ⌜ (to * 8 ≤ length (now row)) × (to ≤ 512) × (length (now seq) ≡ 512) × Under limit (now heads) × IsCost column ⌝ }
@@ -456,72 +544,47 @@ fn stretch_form(
         → now (out .exit) ≡ sets (now (out .entry)) i
         (front (stretch-rule (cost-in column) (now (sums .entry)) (λ f x. silence-of (head-at (now (heads .entry)) f) x)) (p .forms .part .lines) s)) ⌝ }
     ensures { λ _. ⌜ ((p : Ready (cost-in column) (now (row .entry)) (now (sums .entry)) (now (turn .entry)) left i to s)
-        → now (after .exit) ≡ follow-first (cost-in column) (now (sums .entry)) (p .forms .part .lines) s (now (after .entry))) ⌝ }
+        → now (follows .exit) ≡ follow-first (cost-in column) (now (sums .entry)) (p .forms .part .lines) s (now (follows .entry))) ⌝ }
     ensures { λ _. ⌜ Kept (i + 1) (now (seq .entry)) (now (seq .exit)) ⌝ }
 {
     let kind = get(row, i, KIND);
     if kind == IF {
-        let end = index(row, i, AFTER);
-        let mid = index(row, i, OTHER);
-        let rest = left - 2;
-        let a = stretch_block(
+        return stretch_if(
             row,
             column,
-            i + 1,
-            mid,
-            rest,
+            i,
+            to,
+            left,
             sums,
             turn,
             heads,
             s,
             seq,
             out,
-            after,
+            follows,
         );
-        let b = stretch_block(
-            row,
-            column,
-            mid,
-            end,
-            rest,
-            sums,
-            turn,
-            heads,
-            s,
-            seq,
-            out,
-            after,
-        );
-        let x = larger(a, b);
-        out[i] = point_stretch(row, column, i, x);
-        return silent_before(row, i, cost(row, i, column) + x);
     }
     let t = silent_before(row, i, weight(row, column, i, to, left, sums, turn) + s);
     if kind == LOOP {
-        let end = index(row, i, AFTER);
-        let rest = left - 1;
+        let after = index(row, i, AFTER);
         let b = stretch_block(
             row,
             column,
             i + 1,
-            end,
-            rest,
+            after,
+            left - 1,
             sums,
             turn,
             heads,
             0,
             seq,
             out,
-            after,
+            follows,
         );
-        out[i] = point_stretch(row, column, i, larger(s, b));
+        put_stretch(row, column, i, larger(s, b), out);
         return t;
     }
-    if kind == CALL {
-        out[i] = stretch_call(row, column, i, heads, s, after);
-        return t;
-    }
-    out[i] = point_stretch(row, column, i, s);
+    stretch_flat(row, column, i, to, left, heads, s, out, follows);
     t
 }
 
@@ -533,13 +596,13 @@ fn stretch_block(
     from: usize,
     to: usize,
     left: usize,
-    sums: &[u64; 16],
-    turn: &[u64; 512],
+    sums: &[u64; MAX_FUNCTIONS],
+    turn: &[u64; MAX_LEAVES],
     heads: &[u64; 48],
     s: u64,
-    seq: &mut [usize; 512],
-    out: &mut [u64; 512],
-    after: &mut [u64; 16],
+    seq: &mut [usize; MAX_LEAVES],
+    out: &mut [u64; MAX_LEAVES],
+    follows: &mut [u64; MAX_FUNCTIONS],
 ) -> u64
     requires { ⌜ (to * 8 ≤ length (now row)) × (to ≤ 512) × (length (now seq) ≡ 512) × Under limit (now heads) × IsCost column ⌝ }
     requires { ⌜ Sized (cost-in column) (now row) (now sums) (now turn) left from to s ⌝ }
@@ -549,7 +612,7 @@ fn stretch_block(
         → now (out .exit) ≡ sets (now (out .entry)) from
         (column-of (stretch-rule (cost-in column) (now (sums .entry)) (λ f x. silence-of (head-at (now (heads .entry)) f) x)) (p .forms .part .lines) s)) ⌝ }
     ensures { λ _. ⌜ ((p : Sized (cost-in column) (now (row .entry)) (now (sums .entry)) (now (turn .entry)) left from to s)
-        → now (after .exit) ≡ follow-calls (cost-in column) (now (sums .entry)) (p .forms .part .lines) s (now (after .entry))) ⌝ }
+        → now (follows .exit) ≡ follow-calls (cost-in column) (now (sums .entry)) (p .forms .part .lines) s (now (follows .entry))) ⌝ }
     ensures { λ _. ⌜ Kept from (now (seq .entry)) (now (seq .exit)) ⌝ }
 {
     let mut n = list(row, from, to, seq);
@@ -569,7 +632,7 @@ fn stretch_block(
             t,
             seq,
             out,
-            after,
+            follows,
         );
     }
     t
@@ -581,14 +644,15 @@ pub fn measure(
     starts: &[usize],
     n: usize,
     column: usize,
-    turn: &mut [u64; 512],
-) -> [u64; 16]
+    turn: &mut [u64; MAX_LEAVES],
+) -> [u64; MAX_FUNCTIONS]
     requires { ⌜ (n < length (now starts)) × (n ≤ 16) × (length (now turn) ≡ 512) × IsCost column ⌝ }
     requires { ⌜ Plan-of (now row) (now starts) n ⌝ }
-    ensures { λ r. ⌜ ((v : Plan-of (now (row .entry)) (now (starts .entry)) n) → Measured (cost-in column) (lines-of v) (now (starts .entry)) n r (now (turn .exit))) ⌝ }
+    ensures { λ r. ⌜ ((v : Plan-of (now (row .entry)) (now (starts .entry)) n)
+        → Measured (cost-in column) (lines-of v) (now (starts .entry)) n r (now (turn .exit))) ⌝ }
     ensures { λ r. ⌜ ((f : ℕ) → n ≤ f → getD r f 0 ≡ 0) × (length (now (turn .exit)) ≡ 512) ⌝ }
 {
-    let mut totals: [u64; 16] = [0; 16];
+    let mut totals: [u64; MAX_FUNCTIONS] = [0; MAX_FUNCTIONS];
     let mut f = 0;
     while f < n {
         let t = sum_block(
@@ -611,16 +675,16 @@ fn tail_all(
     row: &[u64],
     starts: &[usize],
     n: usize,
-    sums: &[u64; 16],
-    turn: &[u64; 512],
-    out: &mut [u64; 512],
+    sums: &[u64; MAX_FUNCTIONS],
+    turn: &[u64; MAX_LEAVES],
+    out: &mut [u64; MAX_LEAVES],
 )
     requires { ⌜ (n < length (now starts)) × (n ≤ 16) ⌝ }
     requires { ⌜ Summed C (now row) (now starts) n (now sums) (now turn) ⌝ }
     ensures { λ _. ⌜ ((v : Summed C (now (row .entry)) (now (starts .entry)) n (now (sums .entry)) (now (turn .entry)))
         → now (out .exit) ≡ tails-written (now (sums .entry)) (lines-of (v .plan)) (now (starts .entry)) n (now (out .entry))) ⌝ }
 {
-    let mut seq: [usize; 512] = [0; 512];
+    let mut seq: [usize; MAX_LEAVES] = [0; MAX_LEAVES];
     let mut f = 0;
     while f < n {
         tail_block(
@@ -658,8 +722,8 @@ fn silence_all(
     starts: &[usize],
     n: usize,
     column: usize,
-    sums: &[u64; 16],
-    turn: &[u64; 512],
+    sums: &[u64; MAX_FUNCTIONS],
+    turn: &[u64; MAX_LEAVES],
 ) -> [u64; 48]
     requires { ⌜ (n < length (now starts)) × (n ≤ 16) × IsCost column ⌝ }
     requires { ⌜ Summed (cost-in column) (now row) (now starts) n (now sums) (now turn) ⌝ }
@@ -691,22 +755,23 @@ fn stretch_all(
     starts: &[usize],
     n: usize,
     column: usize,
-    sums: &[u64; 16],
-    turn: &[u64; 512],
+    sums: &[u64; MAX_FUNCTIONS],
+    turn: &[u64; MAX_LEAVES],
     heads: &[u64; 48],
-    out: &mut [u64; 512],
+    out: &mut [u64; MAX_LEAVES],
 )
     requires { ⌜ (n < length (now starts)) × (n ≤ 16) × Under limit (now heads) × IsCost column ⌝ }
     requires { ⌜ Summed (cost-in column) (now row) (now starts) n (now sums) (now turn) ⌝ }
     ensures { λ _. ⌜ ((v : Summed (cost-in column) (now (row .entry)) (now (starts .entry)) n (now (sums .entry)) (now (turn .entry)))
-        → now (out .exit) ≡ stretches-written (cost-in column) (now (sums .entry)) (λ f x. silence-of (head-at (now (heads .entry)) f) x) (lines-of (v .plan)) (now (starts .entry)) n n (now (out .entry))) ⌝ }
+        → now (out .exit) ≡ stretches-written (cost-in column) (now (sums .entry))
+        (λ f x. silence-of (head-at (now (heads .entry)) f) x) (lines-of (v .plan)) (now (starts .entry)) n n (now (out .entry))) ⌝ }
 {
-    let mut seq: [usize; 512] = [0; 512];
-    let mut after: [u64; 16] = [0; 16];
+    let mut seq: [usize; MAX_LEAVES] = [0; MAX_LEAVES];
+    let mut follows: [u64; MAX_FUNCTIONS] = [0; MAX_FUNCTIONS];
     let mut f = n;
     while 0 < f {
         f -= 1;
-        let s = after[f];
+        let s = follows[f];
         stretch_block(
             row,
             column,
@@ -719,7 +784,7 @@ fn stretch_all(
             s,
             &mut seq,
             out,
-            &mut after,
+            &mut follows,
         );
     }
 }
@@ -731,17 +796,18 @@ pub fn stretches(
     starts: &[usize],
     n: usize,
     column: usize,
-    sums: &[u64; 16],
-    turn: &[u64; 512],
-    stretch: &mut [u64; 512],
+    sums: &[u64; MAX_FUNCTIONS],
+    turn: &[u64; MAX_LEAVES],
+    stretch: &mut [u64; MAX_LEAVES],
 ) -> u64
     requires { ⌜ (1 ≤ n) × (n < length (now starts)) × (n ≤ 16) × IsCost column ⌝ }
     requires { ⌜ Summed (cost-in column) (now row) (now starts) n (now sums) (now turn) ⌝ }
     ensures { λ r. ⌜ ((v : Summed (cost-in column) (now (row .entry)) (now (starts .entry)) n (now (sums .entry)) (now (turn .entry)))
         → r ≡ line-silence (cost-in column) (now (sums .entry)) (lines-of (v .plan) (n - 1)) 0) ⌝ }
     ensures { λ _. ⌜ ((v : Summed (cost-in column) (now (row .entry)) (now (starts .entry)) n (now (sums .entry)) (now (turn .entry)))
-        → now (stretch .exit) ≡ stretches-written (cost-in column) (now (sums .entry)) (λ f s. line-silence (cost-in column) (now (sums .entry)) (lines-of (v .plan) f) s) (lines-of (v .plan)) (now (starts .entry)) n n
-        (now (stretch .entry))) ⌝ }
+        → now (stretch .exit) ≡ stretches-written (cost-in column) (now (sums .entry))
+        (λ f s. line-silence (cost-in column) (now (sums .entry)) (lines-of (v .plan) f) s)
+        (lines-of (v .plan)) (now (starts .entry)) n n (now (stretch .entry))) ⌝ }
 {
     let heads = silence_all(row, starts, n, column, sums, turn);
     stretch_all(row, starts, n, column, sums, turn, &heads, stretch);
@@ -755,22 +821,26 @@ pub fn derive(
     row: &[u64],
     starts: &[usize],
     n: usize,
-    isolated: &[u64; 16],
-    turn: &[u64; 512],
-    max_load: &[u64; 16],
-    max_load_turn: &[u64; 512],
-    tail: &mut [u64; 512],
-    stretch: &mut [u64; 512],
+    isolated: &[u64; MAX_FUNCTIONS],
+    turn: &[u64; MAX_LEAVES],
+    max_load: &[u64; MAX_FUNCTIONS],
+    max_load_turn: &[u64; MAX_LEAVES],
+    tail: &mut [u64; MAX_LEAVES],
+    stretch: &mut [u64; MAX_LEAVES],
 ) -> u64
     requires { ⌜ (1 ≤ n) × (n < length (now starts)) × (n ≤ 16) ⌝ }
     requires { ⌜ SummedBoth (now row) (now starts) n (now isolated) (now turn) (now «max_load») (now «max_load_turn») ⌝ }
-    ensures { λ r. ⌜ ((v : SummedBoth (now (row .entry)) (now (starts .entry)) n (now (isolated .entry)) (now (turn .entry)) (now («max_load» .entry)) (now («max_load_turn» .entry)))
+    ensures { λ r. ⌜ ((v : SummedBoth (now (row .entry)) (now (starts .entry)) n (now (isolated .entry)) (now (turn .entry)) (now («max_load» .entry))
+        (now («max_load_turn» .entry)))
         → r ≡ line-silence M (now («max_load» .entry)) (lines-of (v .plan) (n - 1)) 0) ⌝ }
-    ensures { λ _. ⌜ ((v : SummedBoth (now (row .entry)) (now (starts .entry)) n (now (isolated .entry)) (now (turn .entry)) (now («max_load» .entry)) (now («max_load_turn» .entry)))
+    ensures { λ _. ⌜ ((v : SummedBoth (now (row .entry)) (now (starts .entry)) n (now (isolated .entry)) (now (turn .entry)) (now («max_load» .entry))
+        (now («max_load_turn» .entry)))
         → now (tail .exit) ≡ tails-written (now (isolated .entry)) (lines-of (v .plan)) (now (starts .entry)) n (now (tail .entry))) ⌝ }
-    ensures { λ _. ⌜ ((v : SummedBoth (now (row .entry)) (now (starts .entry)) n (now (isolated .entry)) (now (turn .entry)) (now («max_load» .entry)) (now («max_load_turn» .entry)))
-        → now (stretch .exit) ≡ stretches-written M (now («max_load» .entry)) (λ f s. line-silence M (now («max_load» .entry)) (lines-of (v .plan) f) s) (lines-of (v .plan)) (now (starts .entry)) n n
-        (now (stretch .entry))) ⌝ }
+    ensures { λ _. ⌜ ((v : SummedBoth (now (row .entry)) (now (starts .entry)) n (now (isolated .entry)) (now (turn .entry)) (now («max_load» .entry))
+        (now («max_load_turn» .entry)))
+        → now (stretch .exit) ≡ stretches-written M (now («max_load» .entry))
+        (λ f s. line-silence M (now («max_load» .entry)) (lines-of (v .plan) f) s)
+        (lines-of (v .plan)) (now (starts .entry)) n n (now (stretch .entry))) ⌝ }
 {
     tail_all(row, starts, n, isolated, turn, tail);
     stretches(row, starts, n, MAX_LOAD, max_load, max_load_turn, stretch)
@@ -808,7 +878,14 @@ fn start(tail: &[u64], from: usize, to: usize, e: u64) -> u64
 }
 
 // Whether d is the total of the leaf or call at i, the first of the forms from i up to `to`.
-fn flat_fits(row: &[u64], i: usize, to: usize, left: usize, sums: &[u64; 16], d: u64) -> bool
+fn flat_fits(
+    row: &[u64],
+    i: usize,
+    to: usize,
+    left: usize,
+    sums: &[u64; MAX_FUNCTIONS],
+    d: u64,
+) -> bool
     requires { ⌜ (i < to) × (to * 8 ≤ length (now row)) × (field (now row) i 0 < 2) ⌝ }
     requires { ⌜ Piece (now row) left i to ⌝ }
     ensures { λ r. ⌜ ((p : Piece (now (row .entry)) left i to) → Says r (d ≡ lead C (now (sums .entry)) (p .part .lines))) ⌝ }
@@ -825,18 +902,35 @@ fn flat_fits(row: &[u64], i: usize, to: usize, left: usize, sums: &[u64; 16], d:
     equal(d - y, c)
 }
 
-// Whether d is the total of the loop at i, if u is the sum of one of its rounds, and u is not over the loop's tail t.
-fn rounds_fit(row: &[u64], i: usize, d: u64, u: u64, t: u64) -> bool
-    requires { ⌜ (i * 8 + 8 ≤ length (now row)) × (field (now row) i 2 ≤ 1048576) × (field (now row) i 4 ≤ 65535) × (t ≤ limit) ⌝ }
-    ensures { λ r. ⌜ Says r ((u ≤ t) × (d ≡ field (now (row .entry)) i 2 + field (now (row .entry)) i 4 * u)) ⌝ }
+// Whether the tail t of the loop at i is its total and the x that follows it, if u is the sum of one of its rounds, and what its body begins with fits t.
+fn loop_fits(row: &[u64], i: usize, after: usize, tail: &[u64], t: u64, u: u64, x: u64) -> bool
+    requires { ⌜ (i * 8 + 8 ≤ length (now row)) × (field (now row) i 2 ≤ 1048576) × (field (now row) i 4 ≤ 65535) × (after ≤ length (now tail)) ⌝ }
+    requires { ⌜ (x ≤ t) × (t ≤ limit) ⌝ }
+    ensures { λ r. ⌜ Says r (LoopFits (now (row .entry)) (now (tail .entry)) i after t u x) ⌝ }
 {
     if t < u {
         return false;
     }
-    if d != get(row, i, ISOLATED) + get(row, i, DETAIL) * u {
+    let c = get(row, i, ISOLATED);
+    if t - x != c + get(row, i, DETAIL) * u {
         return false;
     }
-    true
+    equal(t - c, start(tail, i + 1, after, t - u))
+}
+
+// Whether the tail t of the if at i is its own visit and the larger of what its two parts begin with, where x follows them.
+fn if_fits(row: &[u64], i: usize, other: usize, after: usize, tail: &[u64], t: u64, x: u64) -> bool
+    requires { ⌜ (i * 8 + 8 ≤ length (now row)) × (other ≤ length (now tail)) × (after ≤ length (now tail)) ⌝ }
+    ensures { λ r. ⌜ Says r (IfFits (now (row .entry)) (now (tail .entry)) i other after t x) ⌝ }
+{
+    let c = get(row, i, ISOLATED);
+    if t < c {
+        return false;
+    }
+    equal(
+        t - c,
+        larger(start(tail, i + 1, other, x), start(tail, other, after, x)),
+    )
 }
 
 // Whether the lent numbers of the form at i, the first of those from i up to `to`, are the derived ones, where x follows the form.
@@ -845,7 +939,7 @@ fn form_fits(
     i: usize,
     to: usize,
     left: usize,
-    sums: &[u64; 16],
+    sums: &[u64; MAX_FUNCTIONS],
     turn: &[u64],
     tail: &[u64],
     x: u64,
@@ -861,32 +955,26 @@ fn form_fits(
         return false;
     }
     let kind = get(row, i, KIND);
-    let c = get(row, i, ISOLATED);
-    let end = index(row, i, AFTER);
+    let after = index(row, i, AFTER);
     if kind == LOOP {
-        if !rounds_fit(row, i, t - x, u, t) {
+        if !loop_fits(row, i, after, tail, t, u, x) {
             return false;
         }
-        if !block_fits(row, i + 1, end, left - 1, sums, turn, tail, t - u) {
-            return false;
-        }
-        return equal(t, c + start(tail, i + 1, end, t - u));
+        return block_fits(row, i + 1, after, left - 1, sums, turn, tail, t - u);
     }
     if u != 0 {
         return false;
     }
     if kind == IF {
-        let mid = index(row, i, OTHER);
-        if !block_fits(row, i + 1, mid, left - 2, sums, turn, tail, x) {
+        let other = index(row, i, OTHER);
+        if !if_fits(row, i, other, after, tail, t, x) {
             return false;
         }
-        if !block_fits(row, mid, end, left - 2, sums, turn, tail, x) {
+        let rest = left - 2;
+        if !block_fits(row, i + 1, other, rest, sums, turn, tail, x) {
             return false;
         }
-        return equal(
-            t,
-            c + larger(start(tail, i + 1, mid, x), start(tail, mid, end, x)),
-        );
+        return block_fits(row, other, after, rest, sums, turn, tail, x);
     }
     flat_fits(row, i, to, left, sums, t - x)
 }
@@ -897,7 +985,7 @@ fn block_fits(
     from: usize,
     to: usize,
     left: usize,
-    sums: &[u64; 16],
+    sums: &[u64; MAX_FUNCTIONS],
     turn: &[u64],
     tail: &[u64],
     e: u64,
@@ -909,18 +997,18 @@ fn block_fits(
 {
     let mut i = from;
     while i < to {
-        let end = after(row, i);
-        let x = start(tail, end, to, e);
+        let next = after(row, i);
+        let x = start(tail, next, to, e);
         if !form_fits(row, i, to, left, sums, turn, tail, x) {
             return false;
         }
-        i = end;
+        i = next;
     }
     true
 }
 
 // Whether the totals behind the last of n functions are 0.
-fn settled(sums: &[u64; 16], n: usize) -> bool
+fn settled(sums: &[u64; MAX_FUNCTIONS], n: usize) -> bool
     requires { ⌜ n ≤ 16 ⌝ }
     ensures { λ r. ⌜ Says r ((f : ℕ) → n ≤ f → f < 16 → getD (now (sums .entry)) f 0 ≡ 0) ⌝ }
 {
@@ -934,13 +1022,37 @@ fn settled(sums: &[u64; 16], n: usize) -> bool
     true
 }
 
+// Whether the lent isolated total of the function f of n, and its turns and tails, are the derived ones and its total is not over the limit.
+fn function_fits(
+    row: &[u64],
+    starts: &[usize],
+    n: usize,
+    f: usize,
+    sums: &[u64; MAX_FUNCTIONS],
+    turn: &[u64],
+    tail: &[u64],
+) -> bool
+    requires { ⌜ (f < n) × (n < length (now starts)) × (n ≤ 16) ⌝ }
+    requires { ⌜ (getD (now starts) n 0 ≤ length (now turn)) × (getD (now starts) n 0 ≤ length (now tail)) ⌝ }
+    requires { ⌜ Plan-of (now row) (now starts) n ⌝ }
+    ensures { λ r. ⌜ ((v : Plan-of (now (row .entry)) (now (starts .entry)) n)
+        → Says r (FunctionFits (now (sums .entry)) (now (turn .entry)) (now (tail .entry)) (now (starts .entry)) (lines-of v) f)) ⌝ }
+{
+    let from = starts[f];
+    let to = starts[f + 1];
+    if !block_fits(row, from, to, INNER_BRACKETS, sums, turn, tail, 0) {
+        return false;
+    }
+    equal(sums[f], start(tail, from, to, 0))
+}
+
 // Whether lent isolated totals of the n functions, and lent columns of turns and tails, are the derived ones and no total is over the limit. Nothing is
 // derived anew: each number is held to those beside it.
 pub fn tails_agree(
     row: &[u64],
     starts: &[usize],
     n: usize,
-    sums: &[u64; 16],
+    sums: &[u64; MAX_FUNCTIONS],
     turn: &[u64],
     tail: &[u64],
 ) -> bool
@@ -960,12 +1072,7 @@ pub fn tails_agree(
     }
     let mut f = 0;
     while f < n {
-        let from = starts[f];
-        let to = starts[f + 1];
-        if !block_fits(row, from, to, INNER_BRACKETS, sums, turn, tail, 0) {
-            return false;
-        }
-        if sums[f] != start(tail, from, to, 0) {
+        if !function_fits(row, starts, n, f, sums, turn, tail) {
             return false;
         }
         f += 1;

@@ -16,7 +16,8 @@ ghost use Rattle.place.specs.Stack.{NextStack};
 ghost use Rattle.table.specs.Table.{table-at};
 ghost use Rattle.control.specs.State.{fresh, standing};
 ghost use Rattle.control.specs.Calls.{place-of, running-at, reply, call-on, as-step, call-of};
-ghost use Rattle.control.specs.Private.{terms, weighing, opened, arrived, Headed, Rowed, Lent, WholeTable, spot, GoodState, GoodOnRow, GoodOnTable, Arriving};
+ghost use Rattle.control.specs.Private.{terms, weighing, opened, arrived, Headed, Rowed, Lent, WholeTable, spot, GoodState, GoodOnRow};
+ghost use Rattle.control.specs.Private.{GoodOnTable, Arriving};
 use model::Answer;
 use model::Call;
 use model::Ending;
@@ -261,7 +262,8 @@ fn next(row: &[u64], head: Head, state: State, x: usize) -> Place
     requires { ⌜ point-at (now row) x ≡ 1 ⌝ }
     requires { ⌜ GoodOnRow (now row) head state ⌝ }
     ensures { λ r. ⌜ ((q : Rowed (now (row .entry)) head) (ls : Levels) → standing (q .head .plan) state ≡ some ls
-        → NextStack (now (row .entry)) (main (q .head .plan)) (next-levels (q .head .plan) (place-of state ls) x) (state .leaves) (state .earlier) x (r .leaves) (r .earlier) (r .level)) ⌝ }
+        → NextStack (now (row .entry)) (main (q .head .plan)) (next-levels (q .head .plan) (place-of state ls) x)
+        (state .leaves) (state .earlier) x (r .leaves) (r .earlier) (r .level)) ⌝ }
 {
     let bounds = head.bounds;
     let n = head.functions;
@@ -331,7 +333,8 @@ fn reported_at(
 ) -> Step
     requires { ⌜ GoodOnTable (now row) (now turns) (now tails) (now stretches) head state ⌝ }
     ensures { λ r. ⌜ ((q : WholeTable (now (row .entry)) (now (turns .entry)) (now (tails .entry)) (now (stretches .entry)) head) (ls : Levels)
-        → standing (q .lent .rowed .head .plan) state ≡ some ls → r ≡ as-step (reply (q .lent .rowed .head .plan) state (running-at state ls) (Report point reading))) ⌝ }
+        → standing (q .lent .rowed .head .plan) state ≡ some ls
+        → r ≡ as-step (reply (q .lent .rowed .head .plan) state (running-at state ls) (Report point reading))) ⌝ }
 {
     if !is_point(row, point) {
         return refusal(state, STRANGER);
@@ -350,7 +353,8 @@ fn reported_at(
 // Whether the run of a good state can end here.
 fn may_close(row: &[u64], head: Head, state: State) -> bool
     requires { ⌜ GoodOnRow (now row) head state ⌝ }
-    ensures { λ r. ⌜ ((q : Rowed (now (row .entry)) head) (ls : Levels) → standing (q .head .plan) state ≡ some ls → r ≡ can-close (q .head .plan) (place-of state ls)) ⌝ }
+    ensures { λ r. ⌜ ((q : Rowed (now (row .entry)) head) (ls : Levels) → standing (q .head .plan) state ≡ some ls
+        → r ≡ can-close (q .head .plan) (place-of state ls)) ⌝ }
 {
     let bounds = head.bounds;
     let n = head.functions;

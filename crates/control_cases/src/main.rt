@@ -8,6 +8,7 @@ use model::Answer;
 use print::answer_line;
 use rows::MAX_LEAVES;
 use rows::ROW;
+use table::Head;
 use table::no_head;
 use table::read;
 
@@ -21,7 +22,29 @@ fn show(answer: Answer) {
     io::write_all(STDOUT_FILENO, &out[..size]);
 }
 
-// Reads a plan, plays a list of at most seven calls on its table from a fresh state, and prints the answers.
+// Plays a list of at most seven calls on a table from a fresh state, and prints the answers.
+fn play_on(
+    row: &[u64; ROW],
+    turns: &[u64; MAX_LEAVES],
+    tails: &[u64; MAX_LEAVES],
+    stretches: &[u64; MAX_LEAVES],
+    head: Head,
+    calls: &[u64],
+) {
+    let mut state = fresh();
+    for k in 0..CALLS {
+        let i = k * 3;
+        if i + 2 < calls.len() {
+            let next = call_from(calls[i], calls[i + 1], calls[i + 2]);
+            let step = call(row, turns, tails, stretches, head, state, next);
+            let answer = step.answer;
+            show(answer);
+            state = step.state;
+        }
+    }
+}
+
+// Reads a plan, and plays a list of calls on its table.
 fn play(text: &[u8], calls: &[u64]) {
     let mut row = [0; ROW];
     let mut turns = [0; MAX_LEAVES];
@@ -37,17 +60,12 @@ fn play(text: &[u8], calls: &[u64]) {
         no_head(),
     );
     let head = verdict.head;
-    let mut state = fresh();
-    for k in 0..CALLS {
-        let i = k * 3;
-        if i + 2 < calls.len() {
-            let next = call_from(calls[i], calls[i + 1], calls[i + 2]);
-            let step = call(&row, &turns, &tails, &stretches, head, state, next);
-            let answer = step.answer;
-            show(answer);
-            state = step.state;
-        }
-    }
+    play_on(&row, &turns, &tails, &stretches, head, calls);
+}
+
+// Plays the release of a plan.
+fn release(text: &[u8]) {
+    play(text, &[0, 0, 0]);
 }
 
 // Plan A: D 100, T 4; stretches 0 (release), 9 and 24. The margin is 100 less reading, remaining, stretch and 4.
@@ -154,12 +172,12 @@ fn cases_of_b() {
 // m10 to m12.
 fn smallest_cases() {
     // m10: D 9 is 13.
-    play(b"(task 9 3\n(fun\n(leaf s 7 9)\n)\n)\n", &[0, 0, 0]);
+    release(b"(task 9 3\n(fun\n(leaf s 7 9)\n)\n)\n");
     // m11: D 10 gives suspend 7 -9, and D 18 suspend 7 -1.
-    play(b"(task 10 3\n(fun\n(leaf s 7 9)\n)\n)\n", &[0, 0, 0]);
-    play(b"(task 18 3\n(fun\n(leaf s 7 9)\n)\n)\n", &[0, 0, 0]);
+    release(b"(task 10 3\n(fun\n(leaf s 7 9)\n)\n)\n");
+    release(b"(task 18 3\n(fun\n(leaf s 7 9)\n)\n)\n");
     // m12: D 19 gives go 7 0.
-    play(b"(task 19 3\n(fun\n(leaf s 7 9)\n)\n)\n", &[0, 0, 0]);
+    release(b"(task 19 3\n(fun\n(leaf s 7 9)\n)\n)\n");
 }
 
 fn main() {

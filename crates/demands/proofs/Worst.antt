@@ -22,8 +22,7 @@ use Rattle.model.specs.Worked.{plan-A, point-block, silent-block}
 use Rattle.model.proofs.Worked.{plan-A-accepted}
 use Rattle.text.specs.Spelling.{decimal, numerals, spell}
 use Rattle.reader.specs.Outcome.{plan}
-use Rattle.reader.specs.Print as printed
-use Rattle.reader.specs.Print.{forms-all, forms-of, join-all, print}
+use Rattle.reader.specs.Print.{forms-in, forms-all, forms-of, join-all, print}
 use Rattle.table.specs.Reading.{verdict}
 use Rattle.table.proofs.Theorems as table
 use Rattle.control.specs.Cases.{worst-of-A, cases}
@@ -109,7 +108,7 @@ worst-A m o = played-A (delivered m) zeros (answers-A m o)
 
 -- The text of plan A is the one that plan A is printed as.
 print-A : text-A ≡ print plan-A
-unfolding text-A plan-A print forms-of forms-all printed.forms join-all spell decimal numerals
+unfolding text-A plan-A print forms-of forms-all forms-in join-all spell decimal numerals
 print-A = refl
 
 -- So it is read as plan A.

@@ -12,7 +12,9 @@ ghost use Rattle.rows.specs.Rows.{kind-at, point-at, after-at, Piece};
 ghost use Rattle.rows.specs.Answers.{Says};
 ghost use Rattle.place.specs.Pieces.{Spanned};
 ghost use Rattle.place.specs.Stack.{FunctionTable, Decodes, Decoded, Put, NextStack};
-ghost use Rattle.place.specs.Private.{Enters, Counted, Settled, StackStands, Enterable, Running, Placed, Lands, Finds, fall-at, inner-from, inner-to, base-from, base-to, look, within-first, hits, trail, inner, Opens, Level-fits, Fares, inner-time, first-time, level-time};
+ghost use Rattle.place.specs.Private.{Enters, Counted, Settled, StackStands, Enterable, Running, Placed, Lands, Finds, fall-at, inner-from};
+ghost use Rattle.place.specs.Private.{inner-to, base-from, base-to, look, within-first, hits, trail, inner, Opens, Level-fits, Fares};
+ghost use Rattle.place.specs.Private.{inner-time, first-time, level-time};
 ghost use Rattle.place.specs.Times.{CostedStack, Clocked, TimesAt};
 use rows::AFTER;
 use rows::CALL;
@@ -187,7 +189,8 @@ fn opening(row: &[u64], starts: &[u64], head: usize) -> Records
 fn span(row: &[u64], starts: &[u64], n: usize, leaves: &ByLevel, l: usize) -> Records
     requires { ⌜ (1 ≤ l) × (l ≤ 32) ⌝ }
     requires { ⌜ Running (now row) (now starts) n (now leaves) l ⌝ }
-    ensures { λ r. ⌜ (r .from ≡ base-from (now (row .entry)) (now (starts .entry)) n (now (leaves .entry)) l) × (r .to ≡ base-to (now (row .entry)) (now (starts .entry)) n (now (leaves .entry)) l) ⌝ }
+    ensures { λ r. ⌜ (r .from ≡ base-from (now (row .entry)) (now (starts .entry)) n (now (leaves .entry)) l)
+        × (r .to ≡ base-to (now (row .entry)) (now (starts .entry)) n (now (leaves .entry)) l) ⌝ }
 {
     if l == 1 {
         let from = entry(starts, n - 1);
@@ -271,8 +274,8 @@ fn sought(row: &[u64], starts: &[u64], head: usize, x: usize) -> u64
     requires { ⌜ Enterable (now row) (now starts) head ⌝ }
     requires { ⌜ inner-to (now row) (now starts) head * 8 ≤ length (now row) ⌝ }
     requires { ⌜ Piece (now row) 62 (inner-from (now row) (now starts) head) (inner-to (now row) (now starts) head) ⌝ }
-    ensures { λ r. ⌜ ((p : Piece (now (row .entry)) 62 (inner-from (now (row .entry)) (now (starts .entry)) head) (inner-to (now (row .entry)) (now (starts .entry)) head)) (G : List Forms)
-        → r ≡ look (forms G (p .part .lines)) x) ⌝ }
+    ensures { λ r. ⌜ ((p : Piece (now (row .entry)) 62 (inner-from (now (row .entry)) (now (starts .entry)) head)
+        (inner-to (now (row .entry)) (now (starts .entry)) head)) (G : List Forms) → r ≡ look (forms G (p .part .lines)) x) ⌝ }
 {
     let s = opening(row, starts, head);
     let from = s.from;
@@ -400,7 +403,8 @@ pub fn next_place(row: &[u64], starts: &[u64], n: usize, place: Place, x: usize)
     requires { ⌜ point-at (now row) x ≡ 1 ⌝ }
     requires { ⌜ Decoded (now row) (now starts) n (place .leaves) (place .earlier) (place .level) ⌝ }
     ensures { λ r. ⌜ ((q : Decoded (now (row .entry)) (now (starts .entry)) n (place .leaves) (place .earlier) (place .level))
-        → NextStack (now (row .entry)) (getD (q .table .funs) (n - 1) done) (onward-at (q .levels) x) (place .leaves) (place .earlier) x (r .leaves) (r .earlier) (r .level)) ⌝ }
+        → NextStack (now (row .entry)) (getD (q .table .funs) (n - 1) done) (onward-at (q .levels) x) (place .leaves) (place .earlier) x
+        (r .leaves) (r .earlier) (r .level)) ⌝ }
 {
     let leaves = place.leaves;
     let earlier = place.earlier;
@@ -436,7 +440,8 @@ pub fn first_place(
     requires { ⌜ point-at (now row) x ≡ 1 ⌝ }
     requires { ⌜ FunctionTable (now row) (now starts) n ⌝ }
     ensures { λ r. ⌜ ((p : FunctionTable (now (row .entry)) (now (starts .entry)) n)
-        → NextStack (now (row .entry)) (getD (p .funs) (n - 1) done) (onto [] (seek (getD (p .funs) (n - 1) done) x)) leaves earlier x (r .leaves) (r .earlier) (r .level)) ⌝ }
+        → NextStack (now (row .entry)) (getD (p .funs) (n - 1) done) (onto [] (seek (getD (p .funs) (n - 1) done) x)) leaves earlier x
+        (r .leaves) (r .earlier) (r .level)) ⌝ }
 {
     let from = entry(starts, n - 1);
     let to = entry(starts, n);
@@ -472,7 +477,8 @@ pub fn first_end(row: &[u64], starts: &[u64], n: usize) -> bool
 pub fn can_end(row: &[u64], starts: &[u64], n: usize, place: Place) -> bool
     requires { ⌜ (1 ≤ place .level) × (place .level ≤ 32) ⌝ }
     requires { ⌜ Decoded (now row) (now starts) n (place .leaves) (place .earlier) (place .level) ⌝ }
-    ensures { λ r. ⌜ ((q : Decoded (now (row .entry)) (now (starts .entry)) n (place .leaves) (place .earlier) (place .level)) → r ≡ can-end (whole (q .levels))) ⌝ }
+    ensures { λ r. ⌜ ((q : Decoded (now (row .entry)) (now (starts .entry)) n (place .leaves) (place .earlier) (place .level))
+        → r ≡ can-end (whole (q .levels))) ⌝ }
 {
     let leaves = place.leaves;
     let level = place.level;
@@ -618,7 +624,8 @@ fn first_time(
 ) -> u64
     requires { ⌜ (1 ≤ l) × (l ≤ 32) ⌝ }
     requires { ⌜ getD (now leaves) l 0 < length (now tails) ⌝ }
-    requires { ⌜ (2 ≤ l → Opens (now row) (now tails) (now totals) (getD (now leaves) (l - 1) 0) (getD (now times) (l - 1) 0) (getD (now tails) (getD (now leaves) l 0) 0)) ⌝ }
+    requires { ⌜ (2 ≤ l → Opens (now row) (now tails) (now totals) (getD (now leaves) (l - 1) 0) (getD (now times) (l - 1) 0)
+        (getD (now tails) (getD (now leaves) l 0) 0)) ⌝ }
     ensures { λ r. ⌜ r ≡ first-time (now (row .entry)) (now (tails .entry)) (now (totals .entry)) (now (leaves .entry)) (now (times .entry)) l ⌝ }
 {
     let x = leaf_at(leaves, l);
@@ -644,7 +651,8 @@ fn level_time(
 ) -> u64
     requires { ⌜ (1 ≤ l) × (l ≤ 32) ⌝ }
     requires { ⌜ Level-fits (now row) (now tails) (now turns) (now totals) (now leaves) (now earlier) (now times) l ⌝ }
-    ensures { λ r. ⌜ r ≡ level-time (now (row .entry)) (now (tails .entry)) (now (turns .entry)) (now (totals .entry)) (now (leaves .entry)) (now (earlier .entry)) (now (times .entry)) l ⌝ }
+    ensures { λ r. ⌜ r ≡ level-time (now (row .entry)) (now (tails .entry)) (now (turns .entry)) (now (totals .entry)) (now (leaves .entry))
+        (now (earlier .entry)) (now (times .entry)) l ⌝ }
 {
     let first = first_time(row, tails, totals, leaves, times, l);
     let x = leaf_at(leaves, l);
@@ -664,7 +672,8 @@ pub fn next_times(
 ) -> ByLevel
     requires { ⌜ (1 ≤ place .level) × (place .level ≤ 32) ⌝ }
     requires { ⌜ Clocked (now row) (now tails) (now turns) (now totals) (place .leaves) (place .earlier) (place .level) times ⌝ }
-    ensures { λ r. ⌜ ((q : Clocked (now (row .entry)) (now (tails .entry)) (now (turns .entry)) (now (totals .entry)) (place .leaves) (place .earlier) (place .level) times)
+    ensures { λ r. ⌜ ((q : Clocked (now (row .entry)) (now (tails .entry)) (now (turns .entry))
+        (now (totals .entry)) (place .leaves) (place .earlier) (place .level) times)
         → TimesAt (getD (q .costed .decoded .table .funs) (q .n - 1) done) r (q .costed .decoded .levels) × ((k : ℕ) → place .level < k → getD r k 0 ≡ 0)) ⌝ }
 {
     let leaves = place.leaves;
@@ -688,7 +697,8 @@ fn times_hold(
 ) -> bool
     requires { ⌜ l ≤ 32 ⌝ }
     requires { ⌜ Fares (now row) (now tails) (now turns) (now totals) (now leaves) (now earlier) n l ⌝ }
-    ensures { λ r. ⌜ ((q : Fares (now (row .entry)) (now (tails .entry)) (now (turns .entry)) (now (totals .entry)) (now (leaves .entry)) (now (earlier .entry)) n l)
+    ensures { λ r. ⌜ ((q : Fares (now (row .entry)) (now (tails .entry)) (now (turns .entry)) (now (totals .entry)) (now (leaves .entry))
+        (now (earlier .entry)) n l)
         → Says r (TimesAt (getD (q .placed .table .funs) (n - 1) done) (now (times .entry)) (q .placed .levels))) ⌝ }
 {
     if l == 0 {
@@ -717,7 +727,8 @@ pub fn times_ok(
 ) -> bool
     requires { ⌜ (1 ≤ place .level) × (place .level ≤ 32) ⌝ }
     requires { ⌜ CostedStack (now row) (now tails) (now turns) (now totals) (place .leaves) (place .earlier) n (place .level) ⌝ }
-    ensures { λ r. ⌜ ((q : CostedStack (now (row .entry)) (now (tails .entry)) (now (turns .entry)) (now (totals .entry)) (place .leaves) (place .earlier) n (place .level))
+    ensures { λ r. ⌜ ((q : CostedStack (now (row .entry)) (now (tails .entry)) (now (turns .entry))
+        (now (totals .entry)) (place .leaves) (place .earlier) n (place .level))
         → Says r (TimesAt (getD (q .decoded .table .funs) (n - 1) done) times (q .decoded .levels))) ⌝ }
 {
     let leaves = place.leaves;

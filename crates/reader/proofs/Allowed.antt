@@ -12,7 +12,7 @@ use Rattle.text.specs.declared.Form.the-variants.{Task, Fun, Then, Else, Close,
 use Rattle.model.specs.Plan.{Block, Lines, close, leaf-line, call-line, loop-line, if-line}
 use Rattle.model.specs.Levels.{height}
 use Rattle.model.specs.Acceptance.{size, depth, Numbered, Costs, Ranged}
-use Rattle.reader.specs.Machine.{unless, fault}
+use Rattle.reader.specs.Machine.{refuse-unless, fault}
 use Rattle.reader.specs.Print.{leaf-form, call-form, loop-form, if-form}
 
 -- ONE FORM: what it must keep so that none of the refusals 3 to 7 meets it.
@@ -27,17 +27,17 @@ Allowed room d L n hs (Call k f c m) = (f ≤ 15) × (c ≤ 2 ^ 20) × (m ≤ 2 
 Allowed room d L n hs (Loop k b c m) = (1 ≤ b) × (b ≤ 65535) × (c ≤ 2 ^ 20) × (m ≤ 2 ^ 20) × (n < room) × (c ≤ m) × (L ≤ 32) × (d < 64)
 Allowed room d L n hs (If k c m) = (c ≤ 2 ^ 20) × (m ≤ 2 ^ 20) × (n < room) × (c ≤ m) × (L ≤ 32) × (d < 64)
 
-le-ok : (a b k later : ℕ) → unless (leb a b) (suc k) later ≡ 0 → (a ≤ b) × (later ≡ 0)
+le-ok : (a b k later : ℕ) → refuse-unless (leb a b) (suc k) later ≡ 0 → (a ≤ b) × (later ≡ 0)
 le-ok a b k later = go (leb a b) refl
   where
-    go : (t : Bool) → leb a b ≡ t → unless t (suc k) later ≡ 0 → (a ≤ b) × (later ≡ 0)
+    go : (t : Bool) → leb a b ≡ t → refuse-unless t (suc k) later ≡ 0 → (a ≤ b) × (later ≡ 0)
     go true h e = (leb-true a b h, e)
     go false h e = absurd (omega arith)
 
-lt-ok : (a b k later : ℕ) → unless (ltb a b) (suc k) later ≡ 0 → (a < b) × (later ≡ 0)
+lt-ok : (a b k later : ℕ) → refuse-unless (ltb a b) (suc k) later ≡ 0 → (a < b) × (later ≡ 0)
 lt-ok a b k later = go (ltb a b) refl
   where
-    go : (t : Bool) → ltb a b ≡ t → unless t (suc k) later ≡ 0 → (a < b) × (later ≡ 0)
+    go : (t : Bool) → ltb a b ≡ t → refuse-unless t (suc k) later ≡ 0 → (a < b) × (later ≡ 0)
     go true h e = (ltb-true a b h, e)
     go false h e = absurd (omega arith)
 

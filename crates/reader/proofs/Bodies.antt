@@ -18,19 +18,17 @@ use Rattle.model.specs.Places.{pick}
 use Rattle.text.specs.Text.{lines, line-at, rest-at}
 use Rattle.text.specs.Grammar.{no-form, line-form, read-at, Found, Means}
 use Rattle.text.proofs.Theorems.{read-means, lines-found, lines-at, lines-end}
-use Rattle.reader.specs.declared.Block.{Block}
-use Rattle.reader.specs.declared.Block.the-variants.{Plain, Calls, Inner, Choice}
 use Rattle.reader.specs.declared.Step.{Step}
 use Rattle.reader.specs.declared.Step.the-variants.{Stop, Leave, Take}
 use Rattle.reader.specs.declared.Sign.{Sign}
 use Rattle.reader.specs.declared.Sign.the-variants.{Missing, On}
 use Rattle.reader.specs.declared.Inside.the-variants.{Closed}
-use Rattle.reader.specs.Machine.{_⊕_, Around, State, body, stuck, to, block, tag-of, in-body, fault, run}
+use Rattle.reader.specs.Machine.{_⧺_, Around, ParserState, body, stuck, to, block, tag-of, in-body, fault, run}
 use Rattle.rows.specs.Records.{entry, records}
-use Rattle.reader.specs.Private.{form-of, judged-step, step-of, sign-of, Around-of, Halted, Leads, Came, FormsDone, FormDone, FormAt}
-use Rattle.reader.proofs.Appended.{⊕-assoc, size-⊕, height-⊕}
+use Rattle.reader.specs.Private.{body-fault, judged-step, step-of, sign-of, Around-of, Halted, Leads, Came, FormsDone, FormDone, FormAt}
+use Rattle.reader.proofs.Appended.{⧺-assoc, size-⧺, height-⧺}
 use Rattle.rows.proofs.Records.{records-length}
-use Rattle.reader.proofs.Records.{records-⊕}
+use Rattle.reader.proofs.Records.{records-⧺}
 use Rattle.reader.proofs.Allowed.{allowed}
 use Rattle.reader.proofs.Capped.{Held, found-held}
 use Rattle.reader.proofs.Contract.{Stands, Forming, Enclosed, forming-start, forming-out, forming-leaf, forming-call, forming-loop, forming-if}
@@ -67,7 +65,7 @@ leads-found {s} {at} w = record { line = line-at s at; split = lines-found w; wh
 abbrev pub StepAt : ℕ → ℕ → ℕ → ℕ → List ℕ → List ℕ → ℕ → Step → Type 0
 StepAt room d L n hs s at (Stop k) = (i : ℕ) → Refuses room hs d L n i (lines (drop at s)) k i
 StepAt room d L n hs s at (Leave e) = Found s at Close e
-StepAt room d L n hs s at (Take b e) = Found s at (form-of b) e × (fault room d L n hs (form-of b) ≡ 0)
+StepAt room d L n hs s at (Take f e) = Found s at f e × (body-fault room d L n hs f ≡ 0)
 
 -- Where no form of the grammar stands, the text ends or the line there is none.
 pub no-line-at : {A : Type 0} (s : List ℕ) (at : ℕ) → line-form (line-at s at) ≡ no-form → (lines (drop at s) ≡ [] → A) →
@@ -79,10 +77,11 @@ no-line-at {A} s at e f g = here (leb (length s) at) refl
     here false h = g (line-at s at) (lines (rest-at s at)) (lines-at s at (leb-false (length s) at h)) e
 
 module _ (room d L n : ℕ) (hs : List ℕ) (s : List ℕ) (at : ℕ) where
-  judged-at : (b : Block) (e : ℕ) → Found s at (form-of b) e → ((p : Plan) (K : Around) (fs : Lines) → (S : State) × (in-body n p K fs (form-of b) ≡ to S)) →
-      (x : ℕ) → fault room d L n hs (form-of b) ≡ x → StepAt room d L n hs s at (judged-step x b e)
-  judged-at b e w a zero q = (w, q)
-  judged-at b e w a (suc x) q = λ i. refuses-fault (lines-found w) (form-of b) x (found-held w) a q
+  judged-at : (f : Form) (e : ℕ) → Found s at f e → body-fault room d L n hs f ≡ fault room d L n hs f →
+      ((p : Plan) (K : Around) (fs : Lines) → (S : ParserState) × (in-body n p K fs f ≡ to S)) →
+      (x : ℕ) → fault room d L n hs f ≡ x → StepAt room d L n hs s at (judged-step x f e)
+  judged-at f e w o a zero q = (w, o ∙ q)
+  judged-at f e w o a (suc x) q = λ i. refuses-fault (lines-found w) f x (found-held w) a q
 
   stray : (f : Form) (e : ℕ) → Found s at f e → ((p : Plan) (K : Around) (fs : Lines) → in-body n p K fs f ≡ stuck) → StepAt room d L n hs s at (Stop 2)
   stray f e w a i = refuses-misplaced (lines-found w) f (found-held w) a
@@ -94,10 +93,10 @@ module _ (room d L n : ℕ) (hs : List ℕ) (s : List ℕ) (at : ℕ) where
   step-at (Line Then e) w = stray Then e w (λ p K fs. refl)
   step-at (Line Else e) w = stray Else e w (λ p K fs. refl)
   step-at (Line Close e) w = w
-  step-at (Line (Leaf k c m) e) w = judged-at (Plain k c m) e w (λ p K fs. (_, refl)) (fault room d L n hs (Leaf k c m)) refl
-  step-at (Line (Call k f c m) e) w = judged-at (Calls k f c m) e w (λ p K fs. (_, refl)) (fault room d L n hs (Call k f c m)) refl
-  step-at (Line (Loop k b c m) e) w = judged-at (Inner k b c m) e w (λ p K fs. (_, refl)) (fault room d L n hs (Loop k b c m)) refl
-  step-at (Line (If k c m) e) w = judged-at (Choice k c m) e w (λ p K fs. (_, refl)) (fault room d L n hs (If k c m)) refl
+  step-at (Line (Leaf k c m) e) w = judged-at (Leaf k c m) e w refl (λ p K fs. (_, refl)) (fault room d L n hs (Leaf k c m)) refl
+  step-at (Line (Call k f c m) e) w = judged-at (Call k f c m) e w refl (λ p K fs. (_, refl)) (fault room d L n hs (Call k f c m)) refl
+  step-at (Line (Loop k b c m) e) w = judged-at (Loop k b c m) e w refl (λ p K fs. (_, refl)) (fault room d L n hs (Loop k b c m)) refl
+  step-at (Line (If k c m) e) w = judged-at (If k c m) e w refl (λ p K fs. (_, refl)) (fault room d L n hs (If k c m)) refl
 
   -- What `one_line` answers is so.
   pub step-means : {r : Step} → r ≡ step-of room d L n hs (read-at s at) → StepAt room d L n hs s at r
@@ -228,13 +227,13 @@ module _ {s : List ℕ} {room : ℕ} {hs : List ℕ} {d L : ℕ} where
               ∙ sets-behind (g .rs) (records L (q .forms) n) R₀ (8 * count) (8 * n) (omega (arith, g .forming .sized, wide)));
           forming =
               record {
-                forms = g .forming .forms ⊕ q .forms;
-                sized = omega (arith, g .forming .sized, q .sized, size-⊕ (g .forming .forms) (q .forms));
-                tall = e ∙ (ap₂ max (g .forming .tall) (q .tall) ∙ sym (height-⊕ hs (g .forming .forms) (q .forms)));
-                rows = ap (λ y. y ++ records L (q .forms) n) (g .forming .rows) ∙ sym (records-⊕ L (g .forming .forms) (q .forms) count n (g .forming .sized));
+                forms = g .forming .forms ⧺ q .forms;
+                sized = omega (arith, g .forming .sized, q .sized, size-⧺ (g .forming .forms) (q .forms));
+                tall = e ∙ (ap₂ max (g .forming .tall) (q .tall) ∙ sym (height-⧺ hs (g .forming .forms) (q .forms)));
+                rows = ap (λ y. y ++ records L (q .forms) n) (g .forming .rows) ∙ sym (records-⧺ L (g .forming .forms) (q .forms) count n (g .forming .sized));
                 same = λ p K fs st.
                     g .forming .same p K fs st
-                    ∙ (q .same p K (fs ⊕ g .forming .forms) (around st) ∙ ap (λ y. run room (body p K y) m j (lines (drop a s))) (⊕-assoc fs (g .forming .forms) (q .forms)));
+                    ∙ (q .same p K (fs ⧺ g .forming .forms) (around st) ∙ ap (λ y. run room (body p K y) m j (lines (drop a s))) (⧺-assoc fs (g .forming .forms) (q .forms)));
               };
         }
       where

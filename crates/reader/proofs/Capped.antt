@@ -13,7 +13,7 @@ use Rattle.model.specs.Levels.{heights}
 use Rattle.text.specs.Text.{line-at}
 use Rattle.text.specs.Patterns.{capped}
 use Rattle.text.proofs.Theorems.{cap-high, cap-low, cap-same}
-use Rattle.reader.specs.Machine.{State, start, task, body, await-then, await-else, await-close, done, brackets, level, functions-of, Next, stuck, to, next, unless, fault, counted, Turn, stop, judged, turn}
+use Rattle.reader.specs.Machine.{ParserState, start, task, body, await-then, await-else, await-close, done, brackets, level, functions-of, Next, stuck, to, next, refuse-unless, fault, counted, Turn, stop, form-first, line-turn}
 use Rattle.reader.proofs.Allowed.{Allowed, allowed}
 
 -- a number of a plan, held
@@ -21,19 +21,19 @@ abbrev cap : ℕ → ℕ
 cap = capped (2 ^ 41)
 
 -- two tests alike: what follows need only be the same where they hold
-both : (t u : Bool) (k x y : ℕ) → t ≡ u → (u ≡ true → x ≡ y) → unless t k x ≡ unless u k y
+both : (t u : Bool) (k x y : ℕ) → t ≡ u → (u ≡ true → x ≡ y) → refuse-unless t k x ≡ refuse-unless u k y
 both t true k x y e h = rw e (h refl)
 both t false k x y e h = rw e
 
-high : (a b k x y : ℕ) → b < 2 ^ 41 → (a ≤ b → cap a ≡ a → x ≡ y) → unless (leb (cap a) b) k x ≡ unless (leb a b) k y
+high : (a b k x y : ℕ) → b < 2 ^ 41 → (a ≤ b → cap a ≡ a → x ≡ y) → refuse-unless (leb (cap a) b) k x ≡ refuse-unless (leb a b) k y
 high a b k x y h g =
     both (leb (cap a) b) (leb a b) k x y (cap-high (2 ^ 41) a b h) (λ e. let l : a ≤ b = leb-true a b e in g l (cap-same (2 ^ 41) a (omega arith)))
 
 module _ (room d L n : ℕ) (hs : List ℕ) where
   -- of costs, with what follows
   costs : (c m : ℕ) (x y : ℕ) → (cap c ≡ c → cap m ≡ m → x ≡ y) →
-      unless (leb (cap c) (2 ^ 20)) 3 (unless (leb (cap m) (2 ^ 20)) 3 (unless (ltb n room) 4 (unless (leb (cap c) (cap m)) 5 x))) ≡
-      unless (leb c (2 ^ 20)) 3 (unless (leb m (2 ^ 20)) 3 (unless (ltb n room) 4 (unless (leb c m) 5 y)))
+      refuse-unless (leb (cap c) (2 ^ 20)) 3 (refuse-unless (leb (cap m) (2 ^ 20)) 3 (refuse-unless (ltb n room) 4 (refuse-unless (leb (cap c) (cap m)) 5 x))) ≡
+      refuse-unless (leb c (2 ^ 20)) 3 (refuse-unless (leb m (2 ^ 20)) 3 (refuse-unless (ltb n room) 4 (refuse-unless (leb c m) 5 y)))
   costs c m x y h = high c (2 ^ 20) 3 _ _ (omega arith) (λ l e. high m (2 ^ 20) 3 _ _ (omega arith) (λ l′ e′. rw (e, e′, h e e′)))
 
   cap-fault : (f : Form) → fault room d L n hs (cap-form f) ≡ fault room d L n hs f
@@ -68,12 +68,12 @@ verdict : Next → ℕ → Turn
 verdict stuck k = stop 2
 verdict (to S) k = stop (suc k)
 
-judged-verdict : (x : Next) (k n : ℕ) → judged x (suc k) n ≡ verdict x k
+form-first-verdict : (x : Next) (k n : ℕ) → form-first x (suc k) n ≡ verdict x k
 unfolding verdict
-judged-verdict stuck k n = refl
-judged-verdict (to S) k n = refl
+form-first-verdict stuck k n = refl
+form-first-verdict (to S) k n = refl
 
-cap-verdict : (S : State) (n k : ℕ) (f : Form) → verdict (next S n (cap-form f)) k ≡ verdict (next S n f) k
+cap-verdict : (S : ParserState) (n k : ℕ) (f : Form) → verdict (next S n (cap-form f)) k ≡ verdict (next S n f) k
 unfolding verdict
 cap-verdict start n j (Task x y) = refl
 cap-verdict start n j Fun = refl
@@ -140,14 +140,14 @@ cap-verdict (done p) n j (Loop k b c m) = refl
 cap-verdict (done p) n j (If k c m) = refl
 
 -- A form and the form with its numbers held are judged alike.
-pub turn-capped : (room : ℕ) (S : State) (n : ℕ) (f : Form) → turn room S n (form (cap-form f)) ≡ turn room S n (form f)
+pub turn-capped : (room : ℕ) (S : ParserState) (n : ℕ) (f : Form) → line-turn room S n (form (cap-form f)) ≡ line-turn room S n (form f)
 turn-capped room S n f = here (fault room (brackets S) (level S) n (heights [] (functions-of S)) f) refl
   where
-    here : (k : ℕ) → fault room (brackets S) (level S) n (heights [] (functions-of S)) f ≡ k → turn room S n (form (cap-form f)) ≡ turn room S n (form f)
-    here zero e = ap (λ x. turn room S n (form x)) (uncapped room (brackets S) (level S) n (heights [] (functions-of S)) f (allowed room (brackets S) (level S) n (heights [] (functions-of S)) f e))
+    here : (k : ℕ) → fault room (brackets S) (level S) n (heights [] (functions-of S)) f ≡ k → line-turn room S n (form (cap-form f)) ≡ line-turn room S n (form f)
+    here zero e = ap (λ x. line-turn room S n (form x)) (uncapped room (brackets S) (level S) n (heights [] (functions-of S)) f (allowed room (brackets S) (level S) n (heights [] (functions-of S)) f e))
     here (suc k) e =
         let q : fault room (brackets S) (level S) n (heights [] (functions-of S)) (cap-form f) ≡ suc k = cap-fault room (brackets S) (level S) n (heights [] (functions-of S)) f ∙ e in
-        rw (q, e) (judged-verdict (next S n (cap-form f)) k (counted n (cap-form f)) ∙ (cap-verdict S n k f ∙ sym (judged-verdict (next S n f) k (counted n f))))
+        rw (q, e) (form-first-verdict (next S n (cap-form f)) k (counted n (cap-form f)) ∙ (cap-verdict S n k f ∙ sym (form-first-verdict (next S n f) k (counted n f))))
 
 -- A line whose form, with its numbers held, is g: what reading a line gives.
 pub record Held (l : List ℕ) (g : Form) : Type 0 where
@@ -156,8 +156,8 @@ pub record Held (l : List ℕ) (g : Form) : Type 0 where
   pub held : cap-form whole ≡ g
 
 -- Such a line is judged as g.
-pub turn-held : (room : ℕ) (S : State) (n : ℕ) (l : List ℕ) (g : Form) → Held l g → turn room S n (line-form l) ≡ turn room S n (form g)
-turn-held room S n l g h = ap (turn room S n) (h .line) ∙ (sym (turn-capped room S n (h .whole)) ∙ ap (λ x. turn room S n (form x)) (h .held))
+pub turn-held : (room : ℕ) (S : ParserState) (n : ℕ) (l : List ℕ) (g : Form) → Held l g → line-turn room S n (line-form l) ≡ line-turn room S n (form g)
+turn-held room S n l g h = ap (line-turn room S n) (h .line) ∙ (sym (turn-capped room S n (h .whole)) ∙ ap (λ x. line-turn room S n (form x)) (h .held))
 
 -- What was found at a place of a text is held there.
 pub found-held : {s : List ℕ} {i : ℕ} {g : Form} {e : ℕ} → Found s i g e → Held (line-at s i) g

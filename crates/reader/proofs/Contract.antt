@@ -13,40 +13,40 @@ use Rattle.text.specs.Grammar.{no-form, form, line-form}
 use Rattle.model.specs.Plan.{Block, Lines, close, leaf-line, call-line, loop-line, if-line, Plan}
 use Rattle.model.specs.Levels.{height, heights}
 use Rattle.model.specs.Acceptance.{size, sizes}
-use Rattle.reader.specs.Machine.{_⊕_, Around, in-fun, in-loop, in-then, in-else, State, start, task, body, await-then, await-else, await-close, done, brackets-in, brackets, level-in, level, functions-of, stuck, to, closed, with-function, block, next, fault, counted, Turn, turn, onwards, run}
+use Rattle.reader.specs.Machine.{_⧺_, Around, in-fun, in-loop, in-then, in-else, ParserState, start, task, body, await-then, await-else, await-close, done, brackets-in, brackets, level-in, level, functions-of, stuck, to, closed, with-function, block, next, fault, counted, Turn, line-turn, onwards, run}
 use Rattle.reader.specs.Outcome.{refused}
 use Rattle.rows.specs.Records.{entry, records, records-all, bounds}
 use Rattle.reader.proofs.Complete.{closes-task}
-use Rattle.reader.proofs.Appended.{⊕-assoc, ⊕-close, size-⊕, height-⊕, sizes-snoc, heights-snoc}
+use Rattle.reader.proofs.Appended.{⧺-assoc, ⧺-close, size-⧺, height-⧺, sizes-snoc, heights-snoc}
 use Rattle.reader.proofs.Allowed.{no-fault}
 use Rattle.reader.proofs.Capped.{Held, turn-held}
 use Rattle.rows.proofs.Records.{records-all-snoc, bounds-snoc}
-use Rattle.reader.proofs.Records.{records-⊕}
+use Rattle.reader.proofs.Records.{records-⧺}
 
 -- ONE LINE, in any state: us are the lines that are left, l is the first of them
 
-judge : (room : ℕ) (S : State) (n i : ℕ) {us : List (List ℕ)} {l : List ℕ} {ks : List (List ℕ)} (f : Form) → us ≡ l ∷ ks → Held l f →
-    run room S n i us ≡ onwards (turn room S n (form f)) i (λ S′ n′. run room S′ n′ (i + 1) ks)
+judge : (room : ℕ) (S : ParserState) (n i : ℕ) {us : List (List ℕ)} {l : List ℕ} {ks : List (List ℕ)} (f : Form) → us ≡ l ∷ ks → Held l f →
+    run room S n i us ≡ onwards (line-turn room S n (form f)) i (λ S′ n′. run room S′ n′ (i + 1) ks)
 unfolding run
 judge room S n i {us} {l} {ks} f z a = ap (run room S n i) z ∙ ap (λ (t : Turn). onwards t i (λ S′ n′. run room S′ n′ (i + 1) ks)) (turn-held room S n l f a)
 
 -- A form that may stand there and meets none of the refusals 3 to 7 is taken.
-pub taken : (room : ℕ) (S S′ : State) (n i : ℕ) {us : List (List ℕ)} {l : List ℕ} {ks : List (List ℕ)} (f : Form) → us ≡ l ∷ ks → Held l f → next S n f ≡ to S′ →
+pub taken : (room : ℕ) (S S′ : ParserState) (n i : ℕ) {us : List (List ℕ)} {l : List ℕ} {ks : List (List ℕ)} (f : Form) → us ≡ l ∷ ks → Held l f → next S n f ≡ to S′ →
     fault room (brackets S) (level S) n (heights [] (functions-of S)) f ≡ 0 → run room S n i us ≡ run room S′ (counted n f) (i + 1) ks
 taken room S S′ n i f z a b c = judge room S n i f z a ∙ rw (b, c)
 
 -- A form that may stand there and meets one of them is refused by it, at its line.
-pub broken : (room : ℕ) (S S′ : State) (n i k : ℕ) {us : List (List ℕ)} {l : List ℕ} {ks : List (List ℕ)} (f : Form) → us ≡ l ∷ ks → Held l f → next S n f ≡ to S′ →
+pub broken : (room : ℕ) (S S′ : ParserState) (n i k : ℕ) {us : List (List ℕ)} {l : List ℕ} {ks : List (List ℕ)} (f : Form) → us ≡ l ∷ ks → Held l f → next S n f ≡ to S′ →
     fault room (brackets S) (level S) n (heights [] (functions-of S)) f ≡ suc k → run room S n i us ≡ refused (suc k) i
 broken room S S′ n i k f z a b c = judge room S n i f z a ∙ rw (b, c)
 
 -- A form that may not stand there is refused by 2.
-pub misplaced : (room : ℕ) (S : State) (n i : ℕ) {us : List (List ℕ)} {l : List ℕ} {ks : List (List ℕ)} (f : Form) → us ≡ l ∷ ks → Held l f → next S n f ≡ stuck →
+pub misplaced : (room : ℕ) (S : ParserState) (n i : ℕ) {us : List (List ℕ)} {l : List ℕ} {ks : List (List ℕ)} (f : Form) → us ≡ l ∷ ks → Held l f → next S n f ≡ stuck →
     run room S n i us ≡ refused 2 i
 misplaced room S n i f z a b = judge room S n i f z a ∙ rw b
 
 -- A line that is no form is refused by 2.
-pub no-line : (room : ℕ) (S : State) (n i : ℕ) {us : List (List ℕ)} {l : List ℕ} {ks : List (List ℕ)} → us ≡ l ∷ ks → line-form l ≡ no-form → run room S n i us ≡ refused 2 i
+pub no-line : (room : ℕ) (S : ParserState) (n i : ℕ) {us : List (List ℕ)} {l : List ℕ} {ks : List (List ℕ)} → us ≡ l ∷ ks → line-form l ≡ no-form → run room S n i us ≡ refused 2 i
 unfolding run
 no-line room S n i z a = ap (run room S n i) z ∙ rw a
 
@@ -64,7 +64,7 @@ pub record Forming (room : ℕ) (hs : List ℕ) (d L n i : ℕ) (ls : List (List
   pub sized : m ≡ n + size forms
   pub tall : h ≡ height hs forms
   pub rows : rs ≡ records L forms n
-  pub same : (p : Plan) (K : Around) (fs : Lines) → Stands p K hs d L → run room (body p K fs) n i ls ≡ run room (body p K (fs ⊕ forms)) m j us
+  pub same : (p : Plan) (K : Around) (fs : Lines) → Stands p K hs d L → run room (body p K fs) n i ls ≡ run room (body p K (fs ⧺ forms)) m j us
 
 -- Behind the body's closing bracket: the same.
 pub record Enclosed (room : ℕ) (hs : List ℕ) (d L n i : ℕ) (ls : List (List ℕ)) (m j h : ℕ) (rs : List ℕ) (us : List (List ℕ)) : Type 0 where
@@ -72,7 +72,7 @@ pub record Enclosed (room : ℕ) (hs : List ℕ) (d L n i : ℕ) (ls : List (Lis
   pub sized : m ≡ n + size forms
   pub tall : h ≡ height hs forms
   pub rows : rs ≡ records L forms n
-  pub same : (p : Plan) (K : Around) (fs : Lines) → Stands p K hs d L → run room (body p K fs) n i ls ≡ run room (closed p K (fs ⊕ forms)) m j us
+  pub same : (p : Plan) (K : Around) (fs : Lines) → Stands p K hs d L → run room (body p K fs) n i ls ≡ run room (closed p K (fs ⧺ forms)) m j us
 
 -- THE WAY THROUGH A LOOP AND AN IF, in any body
 
@@ -115,7 +115,7 @@ module _ (room : ℕ) {hs : List ℕ} {d L : ℕ} (n i : ℕ) {us : List (List �
       module _ {m₁ j₁ h₁ : ℕ} {rs₁ : List ℕ} {us₂ : List (List ℕ)} (got₁ : Enclosed room hs (d + 2) L (n + 1) (i + 1 + 1) ks₁ m₁ j₁ h₁ rs₁ us₂) where
         -- The then part leads to where the else part must come.
         pub then-closes : run room (body p K fs) n i us ≡ run room (await-else p K (block n k c v) (got₁ .forms) fs) m₁ j₁ us₂
-        unfolding _⊕_
+        unfolding _⧺_
         then-closes =
             then-opens
             ∙ got₁ .same p (in-then (block n k c v) fs K) close (in-then-stands p K (block n k c v) fs st)
@@ -132,7 +132,7 @@ module _ (room : ℕ) {hs : List ℕ} {d L : ℕ} (n i : ℕ) {us : List (List �
           -- The else part leads to where the if must close.
           pub else-closes : {m₂ j₂ h₂ : ℕ} {rs₂ : List ℕ} {us₃ : List (List ℕ)} (got₂ : Enclosed room hs (d + 2) L m₁ (j₁ + 1) ks₂ m₂ j₂ h₂ rs₂ us₃) →
               run room (body p K fs) n i us ≡ run room (await-close p K (block n k c v) (got₁ .forms) (got₂ .forms) fs) m₂ j₂ us₃
-          unfolding _⊕_
+          unfolding _⧺_
           else-closes got₂ =
               else-opens
               ∙ got₂ .same p (in-else (block n k c v) (got₁ .forms) fs K) close (in-else-stands p K (block n k c v) (got₁ .forms) fs st)
@@ -144,7 +144,7 @@ module _ {room : ℕ} {hs : List ℕ} {d L : ℕ} where
   pub forming-start : (n i : ℕ) (ls : List (List ℕ)) → Forming room hs d L n i ls n i 0 [] ls
   unfolding size height records
   forming-start n i ls =
-      record { forms = close; sized = omega arith; tall = refl; rows = refl; same = λ p K fs st. ap (λ x. run room (body p K x) n i ls) (sym (⊕-close fs)) }
+      record { forms = close; sized = omega arith; tall = refl; rows = refl; same = λ p K fs st. ap (λ x. run room (body p K x) n i ls) (sym (⧺-close fs)) }
 
   module _ {n i : ℕ} {ls : List (List ℕ)} {m j h : ℕ} {rs : List ℕ} {us : List (List ℕ)} (g : Forming room hs d L n i ls m j h rs us) {l : List ℕ} {ks : List (List ℕ)} (z : us ≡ l ∷ ks) where
     -- The body closes.
@@ -156,20 +156,20 @@ module _ {room : ℕ} {hs : List ℕ} {d L : ℕ} where
           sized = g .sized;
           tall = g .tall;
           rows = g .rows;
-          same = λ p K fs st. g .same p K fs st ∙ taken room (body p K (fs ⊕ g .forms)) (closed p K (fs ⊕ g .forms)) m j Close z a refl refl;
+          same = λ p K fs st. g .same p K fs st ∙ taken room (body p K (fs ⧺ g .forms)) (closed p K (fs ⧺ g .forms)) m j Close z a refl refl;
         }
 
     -- one more form x, by which the machine comes from here to there
     more : (x : Lines) (m′ j′ h′ : ℕ) (rs′ : List ℕ) (ks′ : List (List ℕ)) → m′ ≡ m + size x → h′ ≡ max h (height hs x) → rs′ ≡ records L x m →
-        ((p : Plan) (K : Around) (fs : Lines) → Stands p K hs d L → run room (body p K fs) m j us ≡ run room (body p K (fs ⊕ x)) m′ j′ ks′) →
+        ((p : Plan) (K : Around) (fs : Lines) → Stands p K hs d L → run room (body p K fs) m j us ≡ run room (body p K (fs ⧺ x)) m′ j′ ks′) →
         Forming room hs d L n i ls m′ j′ h′ (rs ++ rs′) ks′
     more x m′ j′ h′ rs′ ks′ a b c q =
         record {
-          forms = g .forms ⊕ x;
-          sized = omega (arith, g .sized, size-⊕ (g .forms) x);
-          tall = b ∙ (ap (λ y. max y (height hs x)) (g .tall) ∙ sym (height-⊕ hs (g .forms) x));
-          rows = ap₂ (λ y z. y ++ z) (g .rows) c ∙ sym (records-⊕ L (g .forms) x n m (g .sized));
-          same = λ p K fs st. g .same p K fs st ∙ (q p K (fs ⊕ g .forms) st ∙ ap (λ y. run room (body p K y) m′ j′ ks′) (⊕-assoc fs (g .forms) x));
+          forms = g .forms ⧺ x;
+          sized = omega (arith, g .sized, size-⧺ (g .forms) x);
+          tall = b ∙ (ap (λ y. max y (height hs x)) (g .tall) ∙ sym (height-⧺ hs (g .forms) x));
+          rows = ap₂ (λ y z. y ++ z) (g .rows) c ∙ sym (records-⧺ L (g .forms) x n m (g .sized));
+          same = λ p K fs st. g .same p K fs st ∙ (q p K (fs ⧺ g .forms) st ∙ ap (λ y. run room (body p K y) m′ j′ ks′) (⧺-assoc fs (g .forms) x));
         }
 
     -- A leaf line.
@@ -192,7 +192,7 @@ module _ {room : ℕ} {hs : List ℕ} {d L : ℕ} where
     pub forming-loop : (k : Bool) (b c v : ℕ) → Held l (Loop k b c v) → fault room d L m hs (Loop k b c v) ≡ 0 →
         {m′ j′ h′ : ℕ} {rs′ : List ℕ} {ks′ : List (List ℕ)} → Enclosed room hs (d + 1) (L + 1) (m + 1) (j + 1) ks m′ j′ h′ rs′ ks′ →
         Forming room hs d L n i ls m′ j′ (max h (1 + h′)) (rs ++ (entry 2 (block m k c v) b 0 m′ L ++ rs′)) ks′
-    unfolding size height records _⊕_
+    unfolding size height records _⧺_
     forming-loop k b c v a e {m′} {j′} {h′} {rs′} {ks′} got =
         more (loop-line (block m k c v) b (got .forms) close) m′ j′ (max h (1 + h′)) (entry 2 (block m k c v) b 0 m′ L ++ rs′) ks′ (omega (arith, got .sized)) (omega (arith, got .tall))
         (ap₂ (λ x y. entry 2 (block m k c v) b 0 x L ++ y) (got .sized) (got .rows ∙ sym (append-nil (records (L + 1) (got .forms) (m + 1)))))
@@ -214,7 +214,7 @@ module _ {room : ℕ} {hs : List ℕ} {d L : ℕ} where
         (if-rows m₁ m₂ rs₁ rs₂ (got₁ .forms) (got₂ .forms) (got₁ .sized) (got₂ .sized) (got₁ .rows) (got₂ .rows))
         (λ p K fs st.
         else-closes room m j z p K fs st k c v a e o z₁ a₁ got₁ z₂ a₂ got₂
-        ∙ taken room (await-close p K (block m k c v) (got₁ .forms) (got₂ .forms) fs) (body p K (fs ⊕ if-line (block m k c v) (got₁ .forms) (got₂ .forms) close)) m₂ j₂ Close z₃ a₃ refl (unfold fault in refl))
+        ∙ taken room (await-close p K (block m k c v) (got₁ .forms) (got₂ .forms) fs) (body p K (fs ⧺ if-line (block m k c v) (got₁ .forms) (got₂ .forms) close)) m₂ j₂ Close z₃ a₃ refl (unfold fault in refl))
       where
         zero-max : (z : ℕ) → z ≡ max z 0
         zero-max z = omega arith
@@ -254,7 +254,7 @@ module _ {room : ℕ} {ls : List (List ℕ)} {p : Plan} {n i : ℕ} {hs rs bs : 
   -- A function: its line, and its body by the contract.
   pub reading-fun : Held l Fun → fault room 1 0 n hs Fun ≡ 0 → {m j h : ℕ} {rs′ : List ℕ} {ks′ : List (List ℕ)} → (got : Enclosed room hs 2 1 n (i + 1) ks m j h rs′ ks′) →
       Reading room ls (with-function p (got .forms)) m j (hs ++ (h ∷ [])) (rs ++ rs′) (bs ++ (m ∷ [])) ks′
-  unfolding _⊕_
+  unfolding _⧺_
   reading-fun a b {m} {j} {h} {rs′} {ks′} got =
       record {
         sized = omega (arith, g .sized, got .sized, sizes-snoc (p .functions) (got .forms));

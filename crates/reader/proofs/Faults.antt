@@ -7,12 +7,15 @@ use native.Mathlib.Omega.{arith}
 use lib.ListN.{length, getD, take, length-take}
 use lib.Dec.{leb, ltb}
 use borrow.Author.Tests.{le-leb, lt-leb, lt-ltb, le-ltb}
-use Rattle.text.specs.declared.Form.the-variants.{Leaf, Call, Loop, If}
-use Rattle.reader.specs.Machine.{unless, of-leaf, fault}
-use Rattle.reader.specs.declared.Block.{Block}
+use types.Run.{OneOf, miss}
+use denote.Enum.Declared.{tagOf}
+use Rattle.text.specs.declared.Form.{Form}
+use Rattle.text.specs.declared.Form.the-variants.{Task, Fun, Then, Else, Close, Leaf, Call, Loop, If}
+use Rattle.text.proofs.Form as Form-type
+use Rattle.reader.specs.Machine.{refuse-unless, of-leaf, fault}
 use Rattle.reader.specs.declared.Step.the-variants.{Stop}
 use Rattle.reader.specs.declared.Head.the-variants.{Not}
-use Rattle.reader.specs.Private.{first-of, of-bound, of-open, of-target, judged-step, judged-head}
+use Rattle.reader.specs.Private.{first-of, of-bound, of-open, of-target, body-fault, judged-step, judged-head, head-form}
 
 -- The first of two refusals is the first if there is one.
 pub first-some : (a b : ℕ) → (a ≡ 0 → ⊥) → a ≡ first-of a b
@@ -20,12 +23,12 @@ first-some zero b h = absurd (h refl)
 first-some (suc a) b h = refl
 
 -- A test first, then what the later tests say.
-first-unless : (t : Bool) (k later : ℕ) → first-of (unless t (suc k) 0) later ≡ unless t (suc k) later
+first-unless : (t : Bool) (k later : ℕ) → first-of (refuse-unless t (suc k) 0) later ≡ refuse-unless t (suc k) later
 first-unless true k later = refl
 first-unless false k later = refl
 
 -- A test and another, then what the later tests say.
-first-second : (t u : Bool) (k later : ℕ) → first-of (unless t (suc k) (unless u (suc k) 0)) later ≡ unless t (suc k) (unless u (suc k) later)
+first-second : (t u : Bool) (k later : ℕ) → first-of (refuse-unless t (suc k) (refuse-unless u (suc k) 0)) later ≡ refuse-unless t (suc k) (refuse-unless u (suc k) later)
 first-second true true k later = refl
 first-second true false k later = refl
 first-second false u k later = refl
@@ -34,7 +37,7 @@ first-second false u k later = refl
 first-leaf : (room n c m later : ℕ) → first-of (of-leaf room n c m 0) later ≡ of-leaf room n c m later
 first-leaf room n c m later = here (leb c (2 ^ 20)) (leb m (2 ^ 20)) (ltb n room) (leb c m)
   where
-    here : (t u v w : Bool) → first-of (unless t 3 (unless u 3 (unless v 4 (unless w 5 0)))) later ≡ unless t 3 (unless u 3 (unless v 4 (unless w 5 later)))
+    here : (t u v w : Bool) → first-of (refuse-unless t 3 (refuse-unless u 3 (refuse-unless v 4 (refuse-unless w 5 0)))) later ≡ refuse-unless t 3 (refuse-unless u 3 (refuse-unless v 4 (refuse-unless w 5 later)))
     here true true true true = refl
     here true true true false = refl
     here true true false w = refl
@@ -43,11 +46,11 @@ first-leaf room n c m later = here (leb c (2 ^ 20)) (leb m (2 ^ 20)) (ltb n room
 
 -- The refusals of a leaf, from those of its parts.
 module _ (room d L n : ℕ) (hs : List ℕ) (k : Bool) where
-  pub fault-leaf : (c m : ℕ) {r x y : ℕ} → r ≡ first-of x y → x ≡ of-leaf room n c m 0 → y ≡ unless (leb L 32) 7 0 → r ≡ fault room d L n hs (Leaf k c m)
+  pub fault-leaf : (c m : ℕ) {r x y : ℕ} → r ≡ first-of x y → x ≡ of-leaf room n c m 0 → y ≡ refuse-unless (leb L 32) 7 0 → r ≡ fault room d L n hs (Leaf k c m)
   unfolding fault
-  fault-leaf c m p a b = p ∙ (ap₂ first-of a b ∙ first-leaf room n c m (unless (leb L 32) 7 0))
+  fault-leaf c m p a b = p ∙ (ap₂ first-of a b ∙ first-leaf room n c m (refuse-unless (leb L 32) 7 0))
 
-  pub fault-call : (f c m : ℕ) {r x y z w : ℕ} → r ≡ first-of x y → x ≡ unless (leb f 15) 3 0 → y ≡ first-of z w → z ≡ of-leaf room n c m 0 → w ≡ of-target L hs f →
+  pub fault-call : (f c m : ℕ) {r x y z w : ℕ} → r ≡ first-of x y → x ≡ refuse-unless (leb f 15) 3 0 → y ≡ first-of z w → z ≡ of-leaf room n c m 0 → w ≡ of-target L hs f →
       r ≡ fault room d L n hs (Call k f c m)
   unfolding fault
   fault-call f c m p a q b e =
@@ -87,12 +90,36 @@ module _ (own : ℕ) (hs : List ℕ) (few : own ≤ length hs) (L f : ℕ) where
   pub target-fine : f < own → L ≤ 32 → getD hs f 0 ≤ 32 - L → 0 ≡ of-target L (take own hs) f
   target-fine h l g = rw (length-first own hs few, lt-ltb f own h, getD-first own hs f h, le-leb (L + getD hs f 0) 32 (omega arith))
 
--- A leaf that meets a refusal is refused by it.
-pub judged-stop : (k x : ℕ) (b : Block) (e : ℕ) → k ≡ x → (k ≡ 0 → ⊥) → Stop k ≡ judged-step x b e
-judged-stop k zero b e q h = absurd (h q)
-judged-stop k (suc x) b e q h = ap Stop q
+-- A line that meets a refusal is refused by it.
+pub judged-stop : (k x : ℕ) (f : Form) (e : ℕ) → k ≡ x → (k ≡ 0 → ⊥) → Stop k ≡ judged-step x f e
+judged-stop k zero f e q h = absurd (h q)
+judged-stop k (suc x) f e q h = ap Stop q
 
 -- A task line that meets a refusal is refused by it.
 pub judged-not : (k x D t e : ℕ) → k ≡ x → (k ≡ 0 → ⊥) → Not k ≡ judged-head x D t e
 judged-not k zero D t e q h = absurd (h q)
 judged-not k (suc x) D t e q h = ap Not q
+
+-- A form that is no leaf's is misplaced in a body.
+pub stray-fault : (room d L n : ℕ) (hs : List ℕ) (f : Form) → OneOf (0 ∷ 1 ∷ 2 ∷ 3 ∷ 4 ∷ []) (tagOf Form-type.the-type f) → 2 ≡ body-fault room d L n hs f
+stray-fault room d L n hs (Task D t) h = refl
+stray-fault room d L n hs Fun h = refl
+stray-fault room d L n hs Then h = refl
+stray-fault room d L n hs Else h = refl
+stray-fault room d L n hs Close h = refl
+stray-fault room d L n hs (Leaf k c m) h = absurd (miss (0 ∷ 1 ∷ 2 ∷ 3 ∷ 4 ∷ []) 5 tt h)
+stray-fault room d L n hs (Call k f c m) h = absurd (miss (0 ∷ 1 ∷ 2 ∷ 3 ∷ 4 ∷ []) 6 tt h)
+stray-fault room d L n hs (Loop k b c m) h = absurd (miss (0 ∷ 1 ∷ 2 ∷ 3 ∷ 4 ∷ []) 7 tt h)
+stray-fault room d L n hs (If k c m) h = absurd (miss (0 ∷ 1 ∷ 2 ∷ 3 ∷ 4 ∷ []) 8 tt h)
+
+-- A form that is no task's is misplaced in the first line.
+pub no-task : (f : Form) (e : ℕ) → OneOf (1 ∷ 2 ∷ 3 ∷ 4 ∷ 5 ∷ 6 ∷ 7 ∷ 8 ∷ []) (tagOf Form-type.the-type f) → Not 2 ≡ head-form e f
+no-task (Task D t) e h = absurd (miss (1 ∷ 2 ∷ 3 ∷ 4 ∷ 5 ∷ 6 ∷ 7 ∷ 8 ∷ []) 0 tt h)
+no-task Fun e h = refl
+no-task Then e h = refl
+no-task Else e h = refl
+no-task Close e h = refl
+no-task (Leaf k c m) e h = refl
+no-task (Call k f c m) e h = refl
+no-task (Loop k b c m) e h = refl
+no-task (If k c m) e h = refl

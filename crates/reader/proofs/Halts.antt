@@ -11,7 +11,7 @@ use Rattle.text.specs.declared.Form.{Form}
 use Rattle.text.specs.declared.Form.the-variants.{Fun, Then, Else, Loop, If}
 use Rattle.text.specs.Grammar.{Line, no-form, form, line-form}
 use Rattle.model.specs.Plan.{Block, Lines, close, Plan}
-use Rattle.reader.specs.Machine.{outcome, _⊕_, start, turn, onwards, Around, in-fun, in-loop, in-then, in-else, State, task, body, await-then, await-else, await-close, done, brackets, level, functions-of, stuck, to, block, tag-of, in-body, in-task, fault, run}
+use Rattle.reader.specs.Machine.{outcome, _⧺_, start, line-turn, onwards, Around, in-fun, in-loop, in-then, in-else, ParserState, task, body, await-then, await-else, await-close, done, brackets, level, functions-of, stuck, to, block, tag-of, in-body, in-task, fault, run}
 use Rattle.reader.specs.Outcome.{plan, refused}
 use Rattle.reader.proofs.Capped.{Held}
 use Rattle.reader.proofs.Contract.{broken, misplaced, no-line, Stands, Forming, Enclosed, Reading, loop-opens, in-loop-stands, in-then-stands, in-else-stands, if-opens, then-opens, then-closes, else-opens, else-closes, fun-opens, in-fun-stands}
@@ -49,7 +49,7 @@ module _ {room : ℕ} {hs : List ℕ} {d L : ℕ} where
   -- What is refused from here on is refused from the beginning of the body.
   pub refuses-on : {n i : ℕ} {ls : List (List ℕ)} {m j h : ℕ} {rs : List ℕ} {us : List (List ℕ)} {r x : ℕ} →
       Forming room hs d L n i ls m j h rs us → Refuses room hs d L m j us r x → Refuses room hs d L n i ls r x
-  refuses-on g q = record { stops = λ p K fs st. g .same p K fs st ∙ q .stops p K (fs ⊕ g .forms) st }
+  refuses-on g q = record { stops = λ p K fs st. g .same p K fs st ∙ q .stops p K (fs ⧺ g .forms) st }
 
   -- The text ends in the body.
   pub refuses-end : {n i : ℕ} {us : List (List ℕ)} → us ≡ [] → Refuses room hs d L n i us 2 i
@@ -66,7 +66,7 @@ module _ {room : ℕ} {hs : List ℕ} {d L : ℕ} where
     refuses-misplaced f a b = record { stops = λ p K fs st. misplaced room (body p K fs) n i f z a (b p K fs) }
 
     -- A form that may stand in a body and meets one of the refusals 3 to 7.
-    pub refuses-fault : (f : Form) (k : ℕ) → Held l f → ((p : Plan) (K : Around) (fs : Lines) → (S : State) × (in-body n p K fs f ≡ to S)) →
+    pub refuses-fault : (f : Form) (k : ℕ) → Held l f → ((p : Plan) (K : Around) (fs : Lines) → (S : ParserState) × (in-body n p K fs f ≡ to S)) →
         fault room d L n hs f ≡ suc k → Refuses room hs d L n i us (suc k) i
     unfolding brackets level functions-of
     refuses-fault f k a b c =
@@ -167,7 +167,7 @@ pub done-on : (room n i : ℕ) (p : Plan) {us : List (List ℕ)} {l : List ℕ} 
 unfolding run
 done-on room n i p {us} {l} {ks} z = ap (run room (done p) n i) z ∙ here (line-form l)
   where
-    here : (x : Line) → onwards (turn room (done p) n x) i (λ S′ n′. run room S′ n′ (i + 1) ks) ≡ refused 2 i
+    here : (x : Line) → onwards (line-turn room (done p) n x) i (λ S′ n′. run room S′ n′ (i + 1) ks) ≡ refused 2 i
     here no-form = refl
     here (form f) = refl
 

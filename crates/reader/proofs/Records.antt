@@ -7,25 +7,25 @@ use lib.ListN.{length, getD, length-append}
 use Rattle.model.specs.Plan.{Block, Lines, close, leaf-line, call-line, loop-line, if-line, Plan}
 use Rattle.model.specs.Levels.{Leveled, own-levels, height}
 use Rattle.model.specs.Acceptance.{size, sizes, Numbered, Functions, Formed}
-use Rattle.reader.specs.Machine.{_⊕_, block}
+use Rattle.reader.specs.Machine.{_⧺_, block}
 use Rattle.rows.specs.Records.{entry, records, records-all, row-of}
 use Rattle.reader.specs.Records.{leveled-leaves, Shows, no-leaf}
 
 -- HOW THEY GROW
 
 -- Forms after forms.
-pub records-⊕ : (L : ℕ) (x y : Lines) (n m : ℕ) → m ≡ n + size x → records L (x ⊕ y) n ≡ records L x n ++ records L y m
-unfolding records size _⊕_
-records-⊕ L close y n m e = ap (records L y) (omega arith)
-records-⊕ L (leaf-line b rest) y n m e = ap (λ r. entry 0 b 0 0 (n + 1) L ++ r) (records-⊕ L rest y (n + 1) m (omega arith))
-records-⊕ L (call-line b f rest) y n m e = ap (λ r. entry 1 b f 0 (n + 1) L ++ r) (records-⊕ L rest y (n + 1) m (omega arith))
-records-⊕ L (loop-line b k body rest) y n m e =
+pub records-⧺ : (L : ℕ) (x y : Lines) (n m : ℕ) → m ≡ n + size x → records L (x ⧺ y) n ≡ records L x n ++ records L y m
+unfolding records size _⧺_
+records-⧺ L close y n m e = ap (records L y) (omega arith)
+records-⧺ L (leaf-line b rest) y n m e = ap (λ r. entry 0 b 0 0 (n + 1) L ++ r) (records-⧺ L rest y (n + 1) m (omega arith))
+records-⧺ L (call-line b f rest) y n m e = ap (λ r. entry 1 b f 0 (n + 1) L ++ r) (records-⧺ L rest y (n + 1) m (omega arith))
+records-⧺ L (loop-line b k body rest) y n m e =
     ap (λ r. entry 2 b k 0 (n + 1 + size body) L ++ r)
-    (ap (λ r. records (L + 1) body (n + 1) ++ r) (records-⊕ L rest y (n + 1 + size body) m (omega arith))
+    (ap (λ r. records (L + 1) body (n + 1) ++ r) (records-⧺ L rest y (n + 1 + size body) m (omega arith))
     ∙ sym (append-assoc (records (L + 1) body (n + 1)) (records L rest (n + 1 + size body)) (records L y m)))
-records-⊕ L (if-line b then else rest) y n m e =
+records-⧺ L (if-line b then else rest) y n m e =
     ap (λ r. entry 3 b 0 (n + 1 + size then) (n + 1 + size then + size else) L ++ r)
-    (ap (λ r. records L then (n + 1) ++ (records L else (n + 1 + size then) ++ r)) (records-⊕ L rest y (n + 1 + size then + size else) m (omega arith)) ∙ simp append-assoc)
+    (ap (λ r. records L then (n + 1) ++ (records L else (n + 1 + size then) ++ r)) (records-⧺ L rest y (n + 1 + size then + size else) m (omega arith)) ∙ simp append-assoc)
 
 -- WHICH LEAF
 

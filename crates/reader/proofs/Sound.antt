@@ -14,7 +14,7 @@ use Rattle.text.specs.Grammar.{Line, no-form, form, line-form}
 use Rattle.model.specs.Plan.{Block, Lines, close, leaf-line, call-line, loop-line, if-line, Plan}
 use Rattle.model.specs.Levels.{height, heights}
 use Rattle.model.specs.Acceptance.{size, sizes, Functions, Formed, Fits}
-use Rattle.reader.specs.Machine.{_⊕_, Around, in-fun, in-loop, in-then, in-else, State, start, task, body, await-then, await-else, await-close, done, brackets-in, brackets, level-in, level, functions-of, Next, stuck, to, block, next, fault, counted, judged, turn, onwards, run, outcome}
+use Rattle.reader.specs.Machine.{_⧺_, Around, in-fun, in-loop, in-then, in-else, ParserState, start, task, body, await-then, await-else, await-close, done, brackets-in, brackets, level-in, level, functions-of, Next, stuck, to, block, next, fault, counted, form-first, line-turn, onwards, run, outcome}
 use Rattle.reader.specs.Outcome.{Outcome, plan, refused}
 use Rattle.text.specs.Spelling.{spell}
 use Rattle.reader.specs.Print.{loop-form, if-form, forms-of, join-all, print}
@@ -23,12 +23,12 @@ use Rattle.text.proofs.Theorems.{spells-read}
 use Rattle.reader.proofs.Allowed.{Allowed, allowed, Good, Good-all, good-numbered, good-ranged, good-size, good-height, good-depth}
 use Rattle.reader.proofs.Complete.{follow}
 use Rattle.reader.proofs.Steps.{before, Step, opens-task, opens-fun, closes-task, leaf, call, loop, cond, closes-fun, closes-loop, closes-then, closes-else, opens-then, opens-else, closes-if, stepped, before-step}
-use Rattle.reader.proofs.Appended.{size-⊕, sizes-snoc, heights-length}
+use Rattle.reader.proofs.Appended.{size-⧺, sizes-snoc, heights-length}
 
 -- WHAT HOLDS IN A STATE
 module _ (room : ℕ) where
-  good-append : (hs : List ℕ) (x y : Lines) (d L n m : ℕ) → m ≡ n + size x → Good room hs d L n x → Good room hs d L m y → Good room hs d L n (x ⊕ y)
-  unfolding Good size _⊕_
+  good-append : (hs : List ℕ) (x y : Lines) (d L n m : ℕ) → m ≡ n + size x → Good room hs d L n x → Good room hs d L m y → Good room hs d L n (x ⧺ y)
+  unfolding Good size _⧺_
   good-append hs close y d L n m e g h = let q : m ≡ n = omega arith in rw q at h
   good-append hs (leaf-line b rest) y d L n m e (q, a, g) h = (q, a, good-append hs rest y d L (n + 1) m (omega arith) g h)
   good-append hs (call-line b f rest) y d L n m e (q, a, g) h = (q, a, good-append hs rest y d L (n + 1) m (omega arith) g h)
@@ -71,7 +71,7 @@ module _ (room : ℕ) where
   Open p (in-then b fs K) = Open p K × Here p K fs × At p K fs b (if-form b) × (brackets-in K + 1 < 64)
   Open p (in-else b ts fs K) = Open p K × Here p K fs × At p K fs b (if-form b) × (brackets-in K + 1 < 64) × Part p K (b .number + 1) ts
 
-  Inv : State → ℕ → Type 0
+  Inv : ParserState → ℕ → Type 0
   Inv start n = n ≡ 0
   Inv (task p) n = Header p × (n ≡ sizes (p .functions))
   Inv (body p K fs) n = Open p K × Here p K fs × (n ≡ base p K + size fs)
@@ -82,21 +82,21 @@ module _ (room : ℕ) where
       Open p K × Here p K fs × At p K fs b (if-form b) × (brackets-in K + 1 < 64) × Part p K (b .number + 1) ts × Part p K (b .number + 1 + size ts) es × (n ≡ b .number + 1 + size ts + size es)
   Inv (done p) n = Header p × (1 ≤ length (p .functions))
 
-  abbrev Asked : State → ℕ → Form → Type 0
+  abbrev Asked : ParserState → ℕ → Form → Type 0
   Asked S n f = Allowed room (brackets S) (level S) n (heights [] (functions-of S)) f
 
   -- A step keeps it.
-  kept : {S S′ : State} {n : ℕ} {f : Form} → Step S n f S′ → Inv S n → Asked S n f → Inv S′ (counted n f)
+  kept : {S S′ : ParserState} {n : ℕ} {f : Form} → Step S n f S′ → Inv S n → Asked S n f → Inv S′ (counted n f)
   unfolding Inv Open base brackets level functions-of Good Good-all size sizes brackets-in level-in
   kept opens-task e (a, b, c, d) = (record { low = a; high = b; cost = c; few = omega arith; all = tt }, e)
   kept (opens-fun {p = p}) (h, e) (a, b) = ((h, omega (arith, heights-length [] (p .functions))), tt, omega arith)
   kept (closes-task q) (h, e) a = (h, q)
   kept (leaf {p = p} {K = K} {fs = fs} {n = n} {k = k} {c = c} {m = m}) (o, g, e) a =
       let l = leaf-line (block n k c m) close in
-      (o, good-append (heights [] (p .functions)) fs l (brackets-in K) (level-in K) (base p K) n e g (refl, a, tt), omega (arith, size-⊕ fs l))
+      (o, good-append (heights [] (p .functions)) fs l (brackets-in K) (level-in K) (base p K) n e g (refl, a, tt), omega (arith, size-⧺ fs l))
   kept (call {p = p} {K = K} {fs = fs} {n = n} {k = k} {g = t} {c = c} {m = m}) (o, g, e) a =
       let l = call-line (block n k c m) t close in
-      (o, good-append (heights [] (p .functions)) fs l (brackets-in K) (level-in K) (base p K) n e g (refl, a, tt), omega (arith, size-⊕ fs l))
+      (o, good-append (heights [] (p .functions)) fs l (brackets-in K) (level-in K) (base p K) n e g (refl, a, tt), omega (arith, size-⧺ fs l))
   kept loop (o, g, e) a = ((o, g, (e, a)), tt, omega arith)
   kept cond (o, g, e) a = (o, g, (e, a), refl)
   kept (closes-fun {p = p} {fs = fs}) ((h, u), g, e) a = (
@@ -111,7 +111,7 @@ module _ (room : ℕ) where
   )
   kept (closes-loop {p = p} {x = x} {b = b} {hs = hs} {K = K} {fs = fs}) ((o, g₀, (q, a)), g, e) u =
       let l = loop-line x b fs close in
-      (o, good-append (heights [] (p .functions)) hs l (brackets-in K) (level-in K) (base p K) (x .number) q g₀ (refl, a, g, tt), omega (arith, size-⊕ hs l))
+      (o, good-append (heights [] (p .functions)) hs l (brackets-in K) (level-in K) (base p K) (x .number) q g₀ (refl, a, g, tt), omega (arith, size-⧺ hs l))
   kept closes-then ((o, g₀, a, d), g, e) u = (o, g₀, a, d, g, e)
   kept closes-else ((o, g₀, a, d, t), g, e) u = (o, g₀, a, d, t, g, e)
   kept opens-then (o, g, a, e) d = ((o, g, a, d), tt, omega arith)
@@ -119,37 +119,37 @@ module _ (room : ℕ) where
   kept (closes-if {p = p} {K = K} {x = x} {ts = ts} {es = es} {fs = fs}) (o, g, (q, a), d, t, s, e) u =
       let l = if-line x ts es close in
       let w = good-append (heights [] (p .functions)) fs l (brackets-in K) (level-in K) (base p K) (x .number) q g (refl, a, d, t, s, tt) in
-      (o, w, omega (arith, size-⊕ fs l))
+      (o, w, omega (arith, size-⧺ fs l))
 
 -- THE RUN
 never-plan : {A : Type 0} {p : Plan} {k i : ℕ} → refused k i ≡ plan p → A
 never-plan e = let z : _≡_ {A = ℕ} 0 1 = cc in absurd (omega arith)
 
 -- a line by which the machine went on
-pub record Went (room : ℕ) (S : State) (n : ℕ) (f : Form) (S′ : State) (n′ : ℕ) : Type 0 where
+pub record Went (room : ℕ) (S : ParserState) (n : ℕ) (f : Form) (S′ : ParserState) (n′ : ℕ) : Type 0 where
   pub step : next S n f ≡ to S′
   pub leaves : n′ ≡ counted n f
   pub faultless : fault room (brackets S) (level S) n (heights [] (functions-of S)) f ≡ 0
 
-went : (room : ℕ) (S : State) (n i : ℕ) (f : Form) (then : State → ℕ → Outcome) (p : Plan) → onwards (turn room S n (form f)) i then ≡ plan p →
-    (S′ : State) × (n′ : ℕ) × Went room S n f S′ n′ × (then S′ n′ ≡ plan p)
+went : (room : ℕ) (S : ParserState) (n i : ℕ) (f : Form) (then : ParserState → ℕ → Outcome) (p : Plan) → onwards (line-turn room S n (form f)) i then ≡ plan p →
+    (S′ : ParserState) × (n′ : ℕ) × Went room S n f S′ n′ × (then S′ n′ ≡ plan p)
 went room S n i f then p e = here (next S n f) (fault room (brackets S) (level S) n (heights [] (functions-of S)) f) refl refl e
   where
-    here : (x : Next) (k : ℕ) → next S n f ≡ x → fault room (brackets S) (level S) n (heights [] (functions-of S)) f ≡ k → onwards (judged x k (counted n f)) i then ≡ plan p →
-        (S′ : State) × (n′ : ℕ) × Went room S n f S′ n′ × (then S′ n′ ≡ plan p)
+    here : (x : Next) (k : ℕ) → next S n f ≡ x → fault room (brackets S) (level S) n (heights [] (functions-of S)) f ≡ k → onwards (form-first x k (counted n f)) i then ≡ plan p →
+        (S′ : ParserState) × (n′ : ℕ) × Went room S n f S′ n′ × (then S′ n′ ≡ plan p)
     here stuck k a b e = never-plan e
     here (to S′) zero a b e = (S′, counted n f, record { step = a; leaves = refl; faultless = b }, e)
     here (to S′) (suc k) a b e = never-plan e
 
 -- The lines of an accepted text are spelled forms.
-unspelled : (room : ℕ) (ls : List (List ℕ)) (S : State) (n i : ℕ) (p : Plan) → run room S n i ls ≡ plan p →
+unspelled : (room : ℕ) (ls : List (List ℕ)) (S : ParserState) (n i : ℕ) (p : Plan) → run room S n i ls ≡ plan p →
     (fs : List Form) × (ls ≡ map spell fs) × (follow room S n i fs ≡ plan p)
 unfolding run follow
 unspelled room [] S n i p e = ([], refl, e)
 unspelled room (l ∷ ls) S n i p e = here (line-form l) refl e (unspelled room ls)
   where
-    here : (x : Line) → line-form l ≡ x → onwards (turn room S n x) i (λ S′ n′. run room S′ n′ (i + 1) ls) ≡ plan p →
-        ((S : State) (n i : ℕ) (p : Plan) → run room S n i ls ≡ plan p → (fs : List Form) × (ls ≡ map spell fs) × (follow room S n i fs ≡ plan p)) →
+    here : (x : Line) → line-form l ≡ x → onwards (line-turn room S n x) i (λ S′ n′. run room S′ n′ (i + 1) ls) ≡ plan p →
+        ((S : ParserState) (n i : ℕ) (p : Plan) → run room S n i ls ≡ plan p → (fs : List Form) × (ls ≡ map spell fs) × (follow room S n i fs ≡ plan p)) →
         (fs : List Form) × (l ∷ ls ≡ map spell fs) × (follow room S n i fs ≡ plan p)
     here no-form q e ih = never-plan e
     here (form f) q e ih =
@@ -159,12 +159,12 @@ unspelled room (l ∷ ls) S n i p e = here (line-form l) refl e (unspelled room 
 
 -- What a state leads to.
 module _ (room : ℕ) where
-  step-kept : (S : State) (n : ℕ) (f : Form) (S′ : State) (n′ : ℕ) → Inv room S n → Went room S n f S′ n′ → Inv room S′ n′ × (before S′ ≡ before S ++ (f ∷ []))
+  step-kept : (S : ParserState) (n : ℕ) (f : Form) (S′ : ParserState) (n′ : ℕ) → Inv room S n → Went room S n f S′ n′ → Inv room S′ n′ × (before S′ ≡ before S ++ (f ∷ []))
   step-kept S n f S′ n′ h w =
       let s : Step S n f S′ = stepped (w .step) in
       (rw (w .leaves) (kept room s h (allowed room (brackets S) (level S) n (heights [] (functions-of S)) f (w .faultless))), before-step s)
 
-  ends-in : (fs : List Form) (S : State) (n i : ℕ) (p : Plan) → Inv room S n → follow room S n i fs ≡ plan p →
+  ends-in : (fs : List Form) (S : ParserState) (n i : ℕ) (p : Plan) → Inv room S n → follow room S n i fs ≡ plan p →
       (before S ++ fs ≡ forms-of p) × ((m : ℕ) × Inv room (done p) m)
   unfolding follow before
   ends-in [] start n i p h e = never-plan e

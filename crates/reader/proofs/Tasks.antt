@@ -27,8 +27,8 @@ use Rattle.reader.specs.declared.Head.the-variants.{Not, Opens}
 use Rattle.reader.specs.Machine.{start, task, done, brackets, level, functions-of, stuck, in-task, closed-task, with-function, fault, run, outcome}
 use Rattle.reader.specs.Outcome.{Outcome, plan, refused}
 use Rattle.rows.specs.Records.{records, row-of}
-use Rattle.reader.specs.Raw.{padded, refused-raw, accepted-raw, raw-of, row-after, Written}
-use Rattle.reader.specs.Private.{of-task, member-of, judged-head, head-of, ended-raw, Halted, FormsDone, TextAt}
+use Rattle.reader.specs.Raw.{padded, refused-raw, accepted-raw, raw-of, row-left, Written}
+use Rattle.reader.specs.Private.{of-task, member-of, judged-head, first-line, ended-raw, Halted, FormsDone, TextAt}
 use Rattle.reader.proofs.Allowed.{no-fault}
 use Rattle.reader.proofs.Capped.{Held, found-held}
 use Rattle.rows.proofs.Records.{records-all-length, bounds-length}
@@ -86,7 +86,7 @@ module _ (s : List ℕ) (room : ℕ) where
   judged-at D t e w zero q = (w, q)
   judged-at D t e w (suc x) q = broken room start (task (record { deadline = D; switch = t; functions = [] })) 0 1 x (Task D t) (lines-found w) (found-held w) refl q
 
-  head-at : (r : Read) → Means s 0 r → HeadAt s room (head-of r)
+  head-at : (r : Read) → Means s 0 r → HeadAt s room (first-line r)
   head-at Unread w = no-line-at s 0 w (λ q. start-end room q) (λ l ks z a. no-line room start 0 1 z a)
   head-at (Line (Task D t) e) w = judged-at D t e w (of-task D t) refl
   head-at (Line Fun e) w = misplaced room start 0 1 Fun (lines-found w) (found-held w) refl
@@ -99,7 +99,7 @@ module _ (s : List ℕ) (room : ℕ) where
   head-at (Line (If k c m) e) w = misplaced room start 0 1 (If k c m) (lines-found w) (found-held w) refl
 
   -- What `task_line` answers is so.
-  pub head-means : {r : Head} → r ≡ head-of (read-at s 0) → HeadAt s room r
+  pub head-means : {r : Head} → r ≡ first-line (read-at s 0) → HeadAt s room r
   head-means q = subst (HeadAt s room) (sym q) (head-at (read-at s 0) (read-means s 0 (read-at s 0) refl))
 
 -- A LINE IN THE TASK
@@ -289,11 +289,11 @@ accepts Accepted = 1
 accepts (Refused k j) = 0
 
 -- The row of an accepted text is the one that was written.
-pub row-accepted : (o : Outcome) (R₀ R : List ℕ) {r : Raw} → r ≡ raw-of o → r .answer ≡ Accepted → Written o R₀ R → R ≡ row-after o R₀
+pub row-accepted : (o : Outcome) (R₀ R : List ℕ) {r : Raw} → r ≡ raw-of o → r .answer ≡ Accepted → Written o R₀ R → R ≡ row-left o R₀
 row-accepted (plan p) R₀ R e a w = w
 row-accepted (refused k j) R₀ R e a w = let q : _≡_ {A = ℕ} 1 0 = sym (ap accepts a) ∙ ap (λ x. accepts (x .answer)) e in absurd (omega arith)
 
 -- The row of a refused text is the one that was lent.
-pub row-refused : (o : Outcome) (R₀ : List ℕ) {r : Raw} {k j : ℕ} → r ≡ raw-of o → r .answer ≡ Refused k j → R₀ ≡ row-after o R₀
+pub row-refused : (o : Outcome) (R₀ : List ℕ) {r : Raw} {k j : ℕ} → r ≡ raw-of o → r .answer ≡ Refused k j → R₀ ≡ row-left o R₀
 row-refused (plan p) R₀ e a = let q : _≡_ {A = ℕ} 0 1 = sym (ap accepts a) ∙ ap (λ x. accepts (x .answer)) e in absurd (omega arith)
 row-refused (refused k j) R₀ e a = refl

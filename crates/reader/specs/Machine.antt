@@ -15,14 +15,14 @@ use Rattle.text.specs.Text.{lines}
 use Rattle.text.specs.Grammar.{Line, no-form, form, line-form}
 use Rattle.reader.specs.Outcome.{Outcome, plan, refused}
 
-infixl 60 _⊕_
+infixl 60 _⧺_
 -- Forms after forms.
-unfoldable pub _⊕_ : Lines → Lines → Lines
-close ⊕ y = y
-leaf-line b rest ⊕ y = leaf-line b (rest ⊕ y)
-call-line b f rest ⊕ y = call-line b f (rest ⊕ y)
-loop-line b n body rest ⊕ y = loop-line b n body (rest ⊕ y)
-if-line b then else rest ⊕ y = if-line b then else (rest ⊕ y)
+unfoldable pub _⧺_ : Lines → Lines → Lines
+close ⧺ y = y
+leaf-line b rest ⧺ y = leaf-line b (rest ⧺ y)
+call-line b f rest ⧺ y = call-line b f (rest ⧺ y)
+loop-line b n body rest ⧺ y = loop-line b n body (rest ⧺ y)
+if-line b then else rest ⧺ y = if-line b then else (rest ⧺ y)
 
 -- WHERE THE READER STANDS
 
@@ -37,14 +37,14 @@ pub data Around : Type 0 where
 -- Nothing was read yet (start); inside the task but in no function (task); in a body, with its forms so far (body); behind an `(if` line, where
 -- its `(then` must come, with the forms before the if (await-then); behind its then part, where its `(else` must come (await-else); behind its else
 -- part, where its `)` must come (await-close); behind the closed task (done). The plan is the one so far: D, T and the functions that are closed.
-pub data State : Type 0 where
-  start : State
-  task : Plan → State
-  body : Plan → Around → Lines → State
-  await-then : Plan → Around → Block → Lines → State
-  await-else : Plan → Around → Block → Lines → Lines → State
-  await-close : Plan → Around → Block → Lines → Lines → Lines → State
-  done : Plan → State
+pub data ParserState : Type 0 where
+  start : ParserState
+  task : Plan → ParserState
+  body : Plan → Around → Lines → ParserState
+  await-then : Plan → Around → Block → Lines → ParserState
+  await-else : Plan → Around → Block → Lines → Lines → ParserState
+  await-close : Plan → Around → Block → Lines → Lines → Lines → ParserState
+  done : Plan → ParserState
 
 -- The open brackets (01) in a body: task and fun, and around it one for a loop, two for an if and its part.
 unfoldable pub brackets-in : Around → ℕ
@@ -54,7 +54,7 @@ brackets-in (in-then b before K) = brackets-in K + 2
 brackets-in (in-else b then before K) = brackets-in K + 2
 
 -- The open brackets where the reader stands.
-unfoldable pub brackets : State → ℕ
+unfoldable pub brackets : ParserState → ℕ
 brackets start = 0
 brackets (task p) = 1
 brackets (body p K fs) = brackets-in K
@@ -72,7 +72,7 @@ level-in (in-then b before K) = level-in K
 level-in (in-else b then before K) = level-in K
 
 -- The level of a form where the reader stands.
-unfoldable pub level : State → ℕ
+unfoldable pub level : ParserState → ℕ
 level start = 0
 level (task p) = 0
 level (body p K fs) = level-in K
@@ -82,7 +82,7 @@ level (await-close p K b then else fs) = level-in K
 level (done p) = 0
 
 -- The functions that are closed; their count is the number of the function that is being read.
-unfoldable pub functions-of : State → List Lines
+unfoldable pub functions-of : ParserState → List Lines
 functions-of start = []
 functions-of (task p) = p .functions
 functions-of (body p K fs) = p .functions
@@ -96,16 +96,16 @@ functions-of (done p) = p .functions
 -- Where the reader stands after a form; or stuck: the form may not stand there.
 pub data Next : Type 0 where
   stuck : Next
-  to : State → Next
+  to : ParserState → Next
 
 -- A plan with one function more.
 abbrev pub with-function : Plan → Lines → Plan
 with-function p fs = record { deadline = p .deadline; switch = p .switch; functions = p .functions ++ (fs ∷ []) }
 
 -- `)` closes the last open form (01): a body closes with the forms fs.
-abbrev pub closed : Plan → Around → Lines → State
+abbrev pub closed : Plan → Around → Lines → ParserState
 closed p in-fun fs = task (with-function p fs)
-closed p (in-loop b n before K) fs = body p K (before ⊕ loop-line b n fs close)
+closed p (in-loop b n before K) fs = body p K (before ⧺ loop-line b n fs close)
 closed p (in-then b before K) fs = await-else p K b fs before
 closed p (in-else b then before K) fs = await-close p K b then fs before
 
@@ -149,8 +149,8 @@ in-body n p K fs Fun = stuck
 in-body n p K fs Then = stuck
 in-body n p K fs Else = stuck
 in-body n p K fs Close = to (closed p K fs)
-in-body n p K fs (Leaf k c m) = to (body p K (fs ⊕ leaf-line (block n k c m) close))
-in-body n p K fs (Call k f c m) = to (body p K (fs ⊕ call-line (block n k c m) f close))
+in-body n p K fs (Leaf k c m) = to (body p K (fs ⧺ leaf-line (block n k c m) close))
+in-body n p K fs (Call k f c m) = to (body p K (fs ⧺ call-line (block n k c m) f close))
 in-body n p K fs (Loop k b c m) = to (body p (in-loop (block n k c m) b fs K) close)
 in-body n p K fs (If k c m) = to (await-then p K (block n k c m) fs)
 
@@ -167,65 +167,65 @@ tag-of (Loop k b c m) = 7
 tag-of (If k c m) = 8
 
 -- Only the line with this number may stand there.
-abbrev pub only : ℕ → Form → State → Next
+abbrev pub only : ℕ → Form → ParserState → Next
 only t f S = pick (eqb (tag-of f) t) (to S) stuck
 
 -- An if is followed by exactly one `(then` and one `(else` part, in that order, and by its `)` (01); behind the closed task nothing may stand.
-abbrev pub next : State → ℕ → Form → Next
+abbrev pub next : ParserState → ℕ → Form → Next
 next start n f = in-start f
 next (task p) n f = in-task p f
 next (body p K fs) n f = in-body n p K fs f
 next (await-then p K b fs) n f = only 2 f (body p (in-then b fs K) close)
 next (await-else p K b then fs) n f = only 3 f (body p (in-else b then fs K) close)
-next (await-close p K b then else fs) n f = only 4 f (body p K (fs ⊕ if-line b then else close))
+next (await-close p K b then else fs) n f = only 4 f (body p K (fs ⧺ if-line b then else close))
 next (done p) n f = stuck
 
 -- REFUSALS 3 TO 7, in this order whatever the order of the fields
 
 -- Where the test fails, refusal k; where it holds, what the later tests say.
-abbrev pub unless : Bool → ℕ → ℕ → ℕ
-unless ok k later = pick ok later k
+abbrev pub refuse-unless : Bool → ℕ → ℕ → ℕ
+refuse-unless ok k later = pick ok later k
 
 -- Of a leaf, call, loop or if line: C and M from 0 to 2^20, else range (3); n leaves read and room in the lent row for one more, else count (4);
 -- M not below C, else load (5); then what its kind asks.
 abbrev pub of-leaf : ℕ → ℕ → ℕ → ℕ → ℕ → ℕ
 of-leaf room n c m later =
-    unless (leb c (2 ^ 20)) 3
-    (unless (leb m (2 ^ 20)) 3
-    (unless (ltb n room) 4
-    (unless (leb c m) 5 later)))
+    refuse-unless (leb c (2 ^ 20)) 3
+    (refuse-unless (leb m (2 ^ 20)) 3
+    (refuse-unless (ltb n room) 4
+    (refuse-unless (leb c m) 5 later)))
 
 -- The first of the refusals range (3), count (4), load (5), target (6) and depth (7) that a form meets, or 0 for none. The lent row has room for so
 -- many leaves and n are read; d brackets are open; L is the level; hs are the heights of the closed functions, so that `length hs` is the number
 -- of the function that is being read.
 unfoldable pub fault : ℕ → ℕ → ℕ → ℕ → List ℕ → Form → ℕ
 fault room d L n hs (Task D t) =
-    unless (leb 1 D) 3
-    (unless (leb D (2 ^ 40)) 3
-    (unless (leb t (2 ^ 20)) 3
-    (unless (ltb d 64) 7 0)))
+    refuse-unless (leb 1 D) 3
+    (refuse-unless (leb D (2 ^ 40)) 3
+    (refuse-unless (leb t (2 ^ 20)) 3
+    (refuse-unless (ltb d 64) 7 0)))
 fault room d L n hs Fun =
-    unless (ltb (length hs) 16) 4
-    (unless (ltb d 64) 7 0)
-fault room d L n hs Then = unless (ltb d 64) 7 0
-fault room d L n hs Else = unless (ltb d 64) 7 0
+    refuse-unless (ltb (length hs) 16) 4
+    (refuse-unless (ltb d 64) 7 0)
+fault room d L n hs Then = refuse-unless (ltb d 64) 7 0
+fault room d L n hs Else = refuse-unless (ltb d 64) 7 0
 fault room d L n hs Close = 0
-fault room d L n hs (Leaf k c m) = of-leaf room n c m (unless (leb L 32) 7 0)
+fault room d L n hs (Leaf k c m) = of-leaf room n c m (refuse-unless (leb L 32) 7 0)
 fault room d L n hs (Call k f c m) =
-    unless (leb f 15) 3
+    refuse-unless (leb f 15) 3
     (of-leaf room n c m
-    (unless (ltb f (length hs)) 6
-    (unless (leb (L + getD hs f 0) 32) 7 0)))
+    (refuse-unless (ltb f (length hs)) 6
+    (refuse-unless (leb (L + getD hs f 0) 32) 7 0)))
 fault room d L n hs (Loop k b c m) =
-    unless (leb 1 b) 3
-    (unless (leb b 65535) 3
+    refuse-unless (leb 1 b) 3
+    (refuse-unless (leb b 65535) 3
     (of-leaf room n c m
-    (unless (leb L 32) 7
-    (unless (ltb d 64) 7 0))))
+    (refuse-unless (leb L 32) 7
+    (refuse-unless (ltb d 64) 7 0))))
 fault room d L n hs (If k c m) =
     of-leaf room n c m
-    (unless (leb L 32) 7
-    (unless (ltb d 64) 7 0))
+    (refuse-unless (leb L 32) 7
+    (refuse-unless (ltb d 64) 7 0))
 
 -- The number of leaves after a form: leaf, call, loop and if lines are leaves (01).
 abbrev pub counted : ℕ → Form → ℕ
@@ -244,24 +244,24 @@ counted n (If k c m) = n + 1
 -- The reader refuses by a number (stop), or goes on in a state, with the leaves read (go).
 pub data Turn : Type 0 where
   stop : ℕ → Turn
-  go : State → ℕ → Turn
+  go : ParserState → ℕ → Turn
 
 -- Form (2) comes before the others.
-abbrev pub judged : Next → ℕ → ℕ → Turn
-judged stuck k n = stop 2
-judged (to S) zero n = go S n
-judged (to S) (suc k) n = stop (suc k)
+abbrev pub form-first : Next → ℕ → ℕ → Turn
+form-first stuck k n = stop 2
+form-first (to S) zero n = go S n
+form-first (to S) (suc k) n = stop (suc k)
 
 -- A line that is no form of the grammar is refused by 2.
-abbrev pub turn : ℕ → State → ℕ → Line → Turn
-turn room S n no-form = stop 2
-turn room S n (form f) =
-    judged (next S n f) (fault room (brackets S) (level S) n (heights [] (functions-of S)) f) (counted n f)
+abbrev pub line-turn : ℕ → ParserState → ℕ → Line → Turn
+line-turn room S n no-form = stop 2
+line-turn room S n (form f) =
+    form-first (next S n f) (fault room (brackets S) (level S) n (heights [] (functions-of S)) f) (counted n f)
 
 -- ALL LINES
 
 -- A text that ends early is refused by 2 at the line after the last, i.
-abbrev pub finish : State → ℕ → Outcome
+abbrev pub finish : ParserState → ℕ → Outcome
 finish start i = refused 2 i
 finish (task p) i = refused 2 i
 finish (body p K fs) i = refused 2 i
@@ -271,14 +271,14 @@ finish (await-close p K b then else fs) i = refused 2 i
 finish (done p) i = plan p
 
 -- A refusal carries the number of its line, i; else the reader goes on.
-abbrev pub onwards : Turn → ℕ → (State → ℕ → Outcome) → Outcome
+abbrev pub onwards : Turn → ℕ → (ParserState → ℕ → Outcome) → Outcome
 onwards (stop k) i f = refused k i
 onwards (go S n) i f = f S n
 
 -- The lines from number i on.
-unfoldable pub run : ℕ → State → ℕ → ℕ → List (List ℕ) → Outcome
+unfoldable pub run : ℕ → ParserState → ℕ → ℕ → List (List ℕ) → Outcome
 run room S n i [] = finish S i
-run room S n i (l ∷ ls) = onwards (turn room S n (line-form l)) i (λ S′ n′. run room S′ n′ (i + 1) ls)
+run room S n i (l ∷ ls) = onwards (line-turn room S n (line-form l)) i (λ S′ n′. run room S′ n′ (i + 1) ls)
 
 -- What the reader is to make of a text, for a lent row of so many records, of which the first 512 are used. Oversize (1) comes first, with line 0.
 unfoldable pub outcome : ℕ → List ℕ → Outcome

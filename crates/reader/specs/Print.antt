@@ -21,18 +21,18 @@ abbrev pub if-form : Block → Form
 if-form b = If (b .point) (b .isolated) (b .max-load)
 
 -- The lines of forms in text order (01, the table of lines).
-unfoldable pub forms : Lines → List Form
-forms close = []
-forms (leaf-line b rest) = leaf-form b ∷ forms rest
-forms (call-line b f rest) = call-form b f ∷ forms rest
-forms (loop-line b n body rest) = loop-form b n ∷ (forms body ++ (Close ∷ forms rest))
-forms (if-line b then else rest) =
-    if-form b ∷ Then ∷ (forms then ++ (Close ∷ Else ∷ (forms else ++ (Close ∷ Close ∷ forms rest))))
+unfoldable pub forms-in : Lines → List Form
+forms-in close = []
+forms-in (leaf-line b rest) = leaf-form b ∷ forms-in rest
+forms-in (call-line b f rest) = call-form b f ∷ forms-in rest
+forms-in (loop-line b n body rest) = loop-form b n ∷ (forms-in body ++ (Close ∷ forms-in rest))
+forms-in (if-line b then else rest) =
+    if-form b ∷ Then ∷ (forms-in then ++ (Close ∷ Else ∷ (forms-in else ++ (Close ∷ Close ∷ forms-in rest))))
 
 -- The lines of functions.
 unfoldable pub forms-all : List Lines → List Form
 forms-all [] = []
-forms-all (l ∷ ls) = Fun ∷ (forms l ++ (Close ∷ forms-all ls))
+forms-all (l ∷ ls) = Fun ∷ (forms-in l ++ (Close ∷ forms-all ls))
 
 -- The lines of a plan.
 unfoldable pub forms-of : Plan → List Form

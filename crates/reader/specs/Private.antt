@@ -17,8 +17,6 @@ use Rattle.model.specs.Places.{pick}
 use Rattle.text.specs.Text.{lines}
 use Rattle.text.specs.Grammar.{form, line-form, cap-form}
 use Rattle.reader.specs.declared.Raw.{Raw}
-use Rattle.reader.specs.declared.Block.{Block}
-use Rattle.reader.specs.declared.Block.the-variants.{Plain, Calls, Inner, Choice}
 use Rattle.reader.specs.declared.Step.{Step}
 use Rattle.reader.specs.declared.Step.the-variants.{Stop, Leave, Take}
 use Rattle.reader.specs.declared.Sign.{Sign}
@@ -29,7 +27,7 @@ use Rattle.reader.specs.declared.Head.{Head}
 use Rattle.reader.specs.declared.Head.the-variants.{Not, Opens}
 use Rattle.reader.specs.declared.Inside.{Inside}
 use Rattle.reader.specs.declared.Inside.the-variants.{Stopped, Closed}
-use Rattle.reader.specs.Machine.{_⊕_, Around, body, brackets-in, level-in, closed, unless, fault, tag-of, start, run}
+use Rattle.reader.specs.Machine.{_⧺_, Around, body, brackets-in, level-in, closed, refuse-unless, fault, tag-of, start, run}
 use Rattle.reader.specs.Outcome.{refused}
 use Rattle.rows.specs.Records.{records}
 use Rattle.reader.specs.Raw.{refused-raw, raw-of, Written}
@@ -43,70 +41,55 @@ first-of (suc a) b = suc a
 
 -- The refusals that a loop's bound meets.
 abbrev pub of-bound : ℕ → ℕ
-of-bound b = unless (leb 1 b) 3 (unless (leb b 65535) 3 0)
+of-bound b = refuse-unless (leb 1 b) 3 (refuse-unless (leb b 65535) 3 0)
 
 -- The refusals that the level of an opening line and its bracket meet.
 abbrev pub of-open : ℕ → ℕ → ℕ
-of-open L d = unless (leb L 32) 7 (unless (ltb d 64) 7 0)
+of-open L d = refuse-unless (leb L 32) 7 (refuse-unless (ltb d 64) 7 0)
 
 -- The refusals that a call's target meets, where hs are the heights of the functions before.
 abbrev pub of-target : ℕ → List ℕ → ℕ → ℕ
-of-target L hs f = unless (ltb f (length hs)) 6 (unless (leb (L + getD hs f 0) 32) 7 0)
+of-target L hs f = refuse-unless (ltb f (length hs)) 6 (refuse-unless (leb (L + getD hs f 0) 32) 7 0)
 
 -- The refusals that a task line meets.
 abbrev pub of-task : ℕ → ℕ → ℕ
-of-task D t = unless (leb 1 D) 3 (unless (leb D (2 ^ 40)) 3 (unless (leb t (2 ^ 20)) 3 0))
+of-task D t = refuse-unless (leb 1 D) 3 (refuse-unless (leb D (2 ^ 40)) 3 (refuse-unless (leb t (2 ^ 20)) 3 0))
 
--- The line that is such a leaf.
-abbrev pub form-of : Block → Form
-form-of (Plain k c m) = Leaf k c m
-form-of (Calls k f c m) = Call k f c m
-form-of (Inner k b c m) = Loop k b c m
-form-of (Choice k c m) = If k c m
+-- The refusals that a line in a body meets, if it does not close it.
+abbrev pub body-fault : ℕ → ℕ → ℕ → ℕ → List ℕ → Form → ℕ
+body-fault room d L n hs (Task D t) = 2
+body-fault room d L n hs Fun = 2
+body-fault room d L n hs Then = 2
+body-fault room d L n hs Else = 2
+body-fault room d L n hs Close = 2
+body-fault room d L n hs (Leaf k c m) = fault room d L n hs (Leaf k c m)
+body-fault room d L n hs (Call k f c m) = fault room d L n hs (Call k f c m)
+body-fault room d L n hs (Loop k b c m) = fault room d L n hs (Loop k b c m)
+body-fault room d L n hs (If k c m) = fault room d L n hs (If k c m)
 
--- A leaf that meets no refusal is taken.
-abbrev pub judged-step : ℕ → Block → ℕ → Step
-judged-step zero b e = Take b e
-judged-step (suc k) b e = Stop (suc k)
-
--- What a form does in a body.
-abbrev pub step-form : ℕ → ℕ → ℕ → ℕ → List ℕ → ℕ → Form → Step
-step-form room d L n hs e (Task D t) = Stop 2
-step-form room d L n hs e Fun = Stop 2
-step-form room d L n hs e Then = Stop 2
-step-form room d L n hs e Else = Stop 2
-step-form room d L n hs e Close = Leave e
-step-form room d L n hs e (Leaf k c m) = judged-step (fault room d L n hs (Leaf k c m)) (Plain k c m) e
-step-form room d L n hs e (Call k f c m) = judged-step (fault room d L n hs (Call k f c m)) (Calls k f c m) e
-step-form room d L n hs e (Loop k b c m) = judged-step (fault room d L n hs (Loop k b c m)) (Inner k b c m) e
-step-form room d L n hs e (If k c m) = judged-step (fault room d L n hs (If k c m)) (Choice k c m) e
+-- A line that meets no refusal is taken.
+abbrev pub judged-step : ℕ → Form → ℕ → Step
+judged-step zero f e = Take f e
+judged-step (suc k) f e = Stop (suc k)
 
 -- What a line does in a body.
 abbrev pub step-of : ℕ → ℕ → ℕ → ℕ → List ℕ → Read → Step
 step-of room d L n hs Unread = Stop 2
-step-of room d L n hs (Line f e) = step-form room d L n hs e f
+step-of room d L n hs (Line f e) = pick (eqb (tag-of f) 4) (Leave e) (judged-step (body-fault room d L n hs f) f e)
 
 -- Whether a line is the one with number t.
 abbrev pub sign-of : ℕ → Read → Sign
 sign-of t Unread = Missing
 sign-of t (Line f e) = pick (eqb (tag-of f) t) (On e) Missing
 
--- What a form is in the task.
-abbrev pub member-form : ℕ → Form → Member
-member-form e (Task D t) = Neither
-member-form e Fun = Function e
-member-form e Then = Neither
-member-form e Else = Neither
-member-form e Close = End e
-member-form e (Leaf k c m) = Neither
-member-form e (Call k f c m) = Neither
-member-form e (Loop k b c m) = Neither
-member-form e (If k c m) = Neither
+-- What a form is in the task, by its number.
+abbrev pub member-form : ℕ → ℕ → Member
+member-form e t = pick (eqb t 1) (Function e) (pick (eqb t 4) (End e) Neither)
 
 -- What a line is in the task.
 abbrev pub member-of : Read → Member
 member-of Unread = Neither
-member-of (Line f e) = member-form e f
+member-of (Line f e) = member-form e (tag-of f)
 
 -- A task line that meets no refusal opens the task.
 abbrev pub judged-head : ℕ → ℕ → ℕ → ℕ → Head
@@ -126,9 +109,9 @@ head-form e (Loop k b c m) = Not 2
 head-form e (If k c m) = Not 2
 
 -- What the first line is.
-abbrev pub head-of : Read → Head
-head-of Unread = Not 2
-head-of (Line f e) = head-form e f
+abbrev pub first-line : Read → Head
+first-line Unread = Not 2
+first-line (Line f e) = head-form e f
 
 -- FORMS: the heights of the closed functions are hs, d brackets are open, the level is L, n leaves were read, and i is the number of the first line
 
@@ -165,7 +148,7 @@ pub record FormsDone (s : List ℕ) (room : ℕ) (hs : List ℕ) (d L at i n : �
   pub tall : h ≡ height hs forms
   pub filled : R ≡ sets R₀ (8 * n) (records L forms n)
   pub same : (p : Plan) (K : Around) (fs : Lines) → Around-of p K hs d L →
-      run room (body p K fs) n i (lines (drop at s)) ≡ run room (closed p K (fs ⊕ forms)) m j (lines (drop e s))
+      run room (body p K fs) n i (lines (drop at s)) ≡ run room (closed p K (fs ⧺ forms)) m j (lines (drop e s))
 
 -- What reading the forms of a body from the place `at` promises.
 abbrev pub FormsAt : List ℕ → ℕ → List ℕ → ℕ → ℕ → ℕ → ℕ → ℕ → List ℕ → List ℕ → Inside → Type 0
@@ -179,7 +162,7 @@ pub record FormDone (s : List ℕ) (room : ℕ) (hs : List ℕ) (d L at i n : �
   pub sized : m ≡ n + size forms
   pub tall : h ≡ height hs forms
   pub filled : R ≡ sets R₀ (8 * n) (records L forms n)
-  pub same : (p : Plan) (K : Around) (fs : Lines) → Around-of p K hs d L → run room (body p K fs) n i us ≡ run room (body p K (fs ⊕ forms)) m j (lines (drop e s))
+  pub same : (p : Plan) (K : Around) (fs : Lines) → Around-of p K hs d L → run room (body p K fs) n i us ≡ run room (body p K (fs ⧺ forms)) m j (lines (drop e s))
 
 -- What reading one form behind its line f promises, whatever stands at that line.
 abbrev pub FormAt : List ℕ → ℕ → List ℕ → ℕ → ℕ → ℕ → ℕ → ℕ → Form → List ℕ → List ℕ → Inside → Type 0

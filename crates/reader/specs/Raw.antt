@@ -32,9 +32,9 @@ raw-of (refused k j) = refused-raw k j
 raw-of (plan p) = accepted-raw (p .deadline) (p .switch) (sizes (p .functions)) (length (p .functions)) (padded 17 (bounds-of p)) (padded 16 (heights-of p))
 
 -- The lent row afterwards: a plan's records stand at its beginning, and what is behind them is kept; a refusal keeps all of it.
-abbrev pub row-after : Outcome → List ℕ → List ℕ
-row-after (refused k j) row = row
-row-after (plan p) row = sets row 0 (row-of p)
+abbrev pub row-left : Outcome → List ℕ → List ℕ
+row-left (refused k j) row = row
+row-left (plan p) row = sets row 0 (row-of p)
 
 -- The same of a row R₀ that becomes R, but of a refused text nothing is said.
 abbrev pub Written : Outcome → List ℕ → List ℕ → Type 0

@@ -6,20 +6,18 @@ ghost use lib.ListN.{length, take};
 ghost use lib.Seq.{sets};
 ghost use lib.Dec.{leb};
 ghost use Rattle.text.specs.Grammar.{read-at, Found};
-ghost use Rattle.reader.specs.Machine.{tag-of, fault, of-leaf, unless, outcome};
+ghost use Rattle.reader.specs.Machine.{tag-of, fault, of-leaf, refuse-unless, outcome};
 ghost use Rattle.model.specs.Places.{bit};
 ghost use Rattle.text.specs.declared.Form.the-variants.{Task, If};
-ghost use Rattle.reader.specs.Raw.{refused-raw, accepted-raw, raw-of, row-after, Written};
-ghost use Rattle.reader.specs.Private.{first-of, of-bound, of-open, of-target, form-of, judged-step, step-of, sign-of, member-of, of-task, head-of, ended-raw, FormsAt, FormAt, TextAt};
-use rows::AFTER;
+ghost use Rattle.reader.specs.Raw.{refused-raw, accepted-raw, raw-of, row-left, Written};
+ghost use Rattle.reader.specs.Private.{first-of, of-bound, of-open, of-target, body-fault, step-of, sign-of, member-of, of-task, first-line};
+ghost use Rattle.reader.specs.Private.{ended-raw, FormsAt, FormAt, TextAt};
 use rows::BOUNDS;
 use rows::CALL;
 use rows::DETAIL;
 use rows::IF;
-use rows::ISOLATED;
 use rows::KIND;
 use rows::LEAF;
-use rows::LEVEL;
 use rows::LIMIT;
 use rows::LOOP;
 use rows::MAX_BRACKETS;
@@ -27,11 +25,8 @@ use rows::MAX_COST;
 use rows::MAX_FUNCTIONS;
 use rows::MAX_LEAVES;
 use rows::MAX_LEVEL;
-use rows::MAX_LOAD;
 use rows::MAX_LOOP_BOUND;
 use rows::MAX_SWITCH;
-use rows::OTHER;
-use rows::POINT;
 use rows::ROW;
 use rows::STRIDE;
 use rows::larger;
@@ -57,19 +52,11 @@ pub struct Raw {
     pub heights: [u64; MAX_FUNCTIONS],
 }
 
-// A line that is a leaf of the plan, with its K, its F or B, and its C and M.
-enum Block {
-    Plain(bool, u64, u64),
-    Calls(bool, u64, u64, u64),
-    Inner(bool, u64, u64, u64),
-    Choice(bool, u64, u64),
-}
-
 // What a line in a body does: it is refused by a number; it closes the body; or it is a leaf. With the place after it.
 enum Step {
     Stop(u64),
     Leave(usize),
-    Take(Block, usize),
+    Take(Form, usize),
 }
 
 // Whether the line that must come stands there, with the place after it.
@@ -118,7 +105,9 @@ const TARGET: u64 = 6;
 
 const DEPTH: u64 = 7;
 
-// The lines without numbers that must come at their places.
+// The numbers of the lines that have no numbers of their own.
+const FUN: u64 = 1;
+
 const THEN: u64 = 2;
 
 const ELSE: u64 = 3;
@@ -150,7 +139,7 @@ fn leaf_fault(c: u64, m: u64, n: usize, room: usize) -> u64
 
 // Tests the level of a leaf.
 fn level_fault(level: u64) -> u64
-    ensures { λ r. ⌜ r ≡ unless (leb level 32) 7 0 ⌝ }
+    ensures { λ r. ⌜ r ≡ refuse-unless (leb level 32) 7 0 ⌝ }
 {
     if MAX_LEVEL < level { DEPTH } else { 0 }
 }
@@ -177,7 +166,7 @@ fn bound_fault(b: u64) -> u64
 
 // Tests the range of a call's target.
 fn range_fault(f: u64) -> u64
-    ensures { λ r. ⌜ r ≡ unless (leb f 15) 3 0 ⌝ }
+    ensures { λ r. ⌜ r ≡ refuse-unless (leb f 15) 3 0 ⌝ }
 {
     if MAX_TARGET < f { RANGE } else { 0 }
 }
@@ -201,9 +190,9 @@ fn target_fault(f: u64, level: u64, tall: &[u64; MAX_FUNCTIONS], own: usize) -> 
     }
 }
 
-// Finds the first of the refusals 3 to 7 that a leaf of a body meets, or 0.
-fn block_fault(
-    b: Block,
+// Finds the first of the refusals 2 to 7 that a line in a body meets, if it does not close it, or 0.
+fn body_fault(
+    b: Form,
     tall: &[u64; MAX_FUNCTIONS],
     own: usize,
     room: usize,
@@ -212,44 +201,23 @@ fn block_fault(
     n: usize,
 ) -> u64
     requires { ⌜ (own ≤ 16) × (own ≤ length (now tall)) ⌝ }
-    ensures { λ r. ⌜ r ≡ fault room d level n (take own (now (tall .entry))) (form-of b) ⌝ }
+    ensures { λ r. ⌜ r ≡ body-fault room d level n (take own (now (tall .entry))) b ⌝ }
 {
     match b {
-        Block::Plain(_, c, m) => first(leaf_fault(c, m, n, room), level_fault(level)),
-        Block::Calls(_, f, c, m) => {
+        Form::Leaf(_, c, m) => first(leaf_fault(c, m, n, room), level_fault(level)),
+        Form::Call(_, f, c, m) => {
             let costs = leaf_fault(c, m, n, room);
             first(
                 range_fault(f),
                 first(costs, target_fault(f, level, tall, own)),
             )
         }
-        Block::Inner(_, t, c, m) => {
+        Form::Loop(_, t, c, m) => {
             let costs = leaf_fault(c, m, n, room);
             first(bound_fault(t), first(costs, open_fault(level, d)))
         }
-        Block::Choice(_, c, m) => first(leaf_fault(c, m, n, room), open_fault(level, d)),
-    }
-}
-
-// Judges a leaf of a body: it is taken, or refused by its first fault.
-fn judged(
-    b: Block,
-    e: usize,
-    tall: &[u64; MAX_FUNCTIONS],
-    own: usize,
-    room: usize,
-    d: usize,
-    level: u64,
-    n: usize,
-) -> Step
-    requires { ⌜ (own ≤ 16) × (own ≤ length (now tall)) ⌝ }
-    ensures { λ r. ⌜ r ≡ judged-step (fault room d level n (take own (now (tall .entry))) (form-of b)) b e ⌝ }
-{
-    let k = block_fault(b, tall, own, room, d, level, n);
-    if k == 0 {
-        Step::Take(b, e)
-    } else {
-        Step::Stop(k)
+        Form::If(_, c, m) => first(leaf_fault(c, m, n, room), open_fault(level, d)),
+        _ => FORM,
     }
 }
 
@@ -270,16 +238,14 @@ fn one_line(
     let Read::Line(f, e) = line(text, at) else {
         return Step::Stop(FORM);
     };
-    match f {
-        Form::Task(_, _) => Step::Stop(FORM),
-        Form::Fun => Step::Stop(FORM),
-        Form::Then => Step::Stop(FORM),
-        Form::Else => Step::Stop(FORM),
-        Form::Close => Step::Leave(e),
-        Form::Leaf(k, c, m) => judged(Block::Plain(k, c, m), e, tall, own, room, d, level, n),
-        Form::Call(k, t, c, m) => judged(Block::Calls(k, t, c, m), e, tall, own, room, d, level, n),
-        Form::Loop(k, t, c, m) => judged(Block::Inner(k, t, c, m), e, tall, own, room, d, level, n),
-        Form::If(k, c, m) => judged(Block::Choice(k, c, m), e, tall, own, room, d, level, n),
+    if tag(f) == CLOSE {
+        return Step::Leave(e);
+    }
+    let k = body_fault(f, tall, own, room, d, level, n);
+    if k == 0 {
+        Step::Take(f, e)
+    } else {
+        Step::Stop(k)
     }
 }
 
@@ -289,7 +255,7 @@ fn tag(f: Form) -> u64
 {
     match f {
         Form::Task(_, _) => 0,
-        Form::Fun => 1,
+        Form::Fun => FUN,
         Form::Then => THEN,
         Form::Else => ELSE,
         Form::Close => CLOSE,
@@ -321,16 +287,14 @@ fn in_task(text: &[u8], at: usize) -> Member
     let Read::Line(f, e) = line(text, at) else {
         return Member::Neither;
     };
-    match f {
-        Form::Task(_, _) => Member::Neither,
-        Form::Fun => Member::Function(e),
-        Form::Then => Member::Neither,
-        Form::Else => Member::Neither,
-        Form::Close => Member::End(e),
-        Form::Leaf(_, _, _) => Member::Neither,
-        Form::Call(_, _, _, _) => Member::Neither,
-        Form::Loop(_, _, _, _) => Member::Neither,
-        Form::If(_, _, _) => Member::Neither,
+    let t = tag(f);
+    if t == FUN {
+        return Member::Function(e);
+    }
+    if t == CLOSE {
+        Member::End(e)
+    } else {
+        Member::Neither
     }
 }
 
@@ -341,7 +305,18 @@ fn point_mark(k: bool) -> u64
     if k { 1 } else { 0 }
 }
 
-// Writes the record of leaf number n.
+// Writes four numbers, one behind the other.
+fn put_four(row: &mut [u64; ROW], at: usize, a: u64, b: u64, c: u64, d: u64)
+    requires { ⌜ at + 4 ≤ 4096 ⌝ }
+    ensures { λ _. ⌜ now (row .exit) ≡ sets (now (row .entry)) at (a ∷ b ∷ c ∷ d ∷ []) ⌝ }
+{
+    row[at] = a;
+    row[at + 1] = b;
+    row[at + 2] = c;
+    row[at + 3] = d;
+}
+
+// Writes the record of leaf number n: the fields from the kind on, and those from the detail on.
 fn put(
     row: &mut [u64; ROW],
     n: usize,
@@ -358,14 +333,8 @@ fn put(
     ensures { λ _. ⌜ now (row .exit) ≡ sets (now (row .entry)) (8 * n) (kind ∷ bit k ∷ c ∷ m ∷ detail ∷ other ∷ after ∷ level ∷ []) ⌝ }
 {
     let at = STRIDE * n;
-    row[at + KIND] = kind;
-    row[at + POINT] = point_mark(k);
-    row[at + ISOLATED] = c;
-    row[at + MAX_LOAD] = m;
-    row[at + DETAIL] = detail;
-    row[at + OTHER] = other as u64;
-    row[at + AFTER] = after as u64;
-    row[at + LEVEL] = level;
+    put_four(row, at + KIND, kind, point_mark(k), c, m);
+    put_four(row, at + DETAIL, detail, other as u64, after as u64, level);
 }
 
 // Reads the forms of a body from the place `from` and the line `first` on, up to the bracket that closes it, and writes their records. The functions before,
@@ -417,26 +386,27 @@ fn one_form(
     room: usize,
     d: usize,
     level: u64,
-    b: Block,
+    b: Form,
     at: usize,
     i: usize,
     n: usize,
     row: &mut [u64; ROW],
 ) -> Inside
-    requires { ⌜ (own ≤ 16) × (own ≤ length (now tall)) × (room ≤ 512) × (at ≤ length (now text)) × (i ≤ at) × (fault room d level n (take own (now tall)) (form-of b) ≡ 0) ⌝ }
-    ensures { λ r. ⌜ FormAt (now (text .entry)) room (take own (now (tall .entry))) d level at i n (form-of b) (now (row .entry)) (now (row .exit)) r ⌝ }
+    requires { ⌜ (own ≤ 16) × (own ≤ length (now tall)) × (room ≤ 512) × (at ≤ length (now text)) × (i ≤ at)
+        × (body-fault room d level n (take own (now tall)) b ≡ 0) ⌝ }
+    ensures { λ r. ⌜ FormAt (now (text .entry)) room (take own (now (tall .entry))) d level at i n b (now (row .entry)) (now (row .exit)) r ⌝ }
 {
     match b {
-        Block::Plain(k, c, m) => {
+        Form::Leaf(k, c, m) => {
             put(row, n, LEAF, k, c, m, 0, 0, n + 1, level);
             Inside::Closed(at, i + 1, n + 1, 1)
         }
-        Block::Calls(k, f, c, m) => {
+        Form::Call(k, f, c, m) => {
             put(row, n, CALL, k, c, m, f, 0, n + 1, level);
             let g = f as usize;
             Inside::Closed(at, i + 1, n + 1, 1 + tall[g])
         }
-        Block::Inner(k, t, c, m) => {
+        Form::Loop(k, t, c, m) => {
             let up = level + 1;
             let r = forms(text, tall, own, room, d + 1, up, at, i + 1, n + 1, row);
             let Inside::Closed(e, j, o, h) = r else {
@@ -445,7 +415,8 @@ fn one_form(
             put(row, n, LOOP, k, c, m, t, 0, o, level);
             Inside::Closed(e, j, o, 1 + h)
         }
-        Block::Choice(k, c, m) => if_form(text, tall, own, room, d, level, k, c, m, at, i, n, row),
+        Form::If(k, c, m) => if_form(text, tall, own, room, d, level, k, c, m, at, i, n, row),
+        _ => Inside::Stopped(FORM, i),
     }
 }
 
@@ -466,7 +437,8 @@ fn if_form(
     n: usize,
     row: &mut [u64; ROW],
 ) -> Inside
-    requires { ⌜ (own ≤ 16) × (own ≤ length (now tall)) × (room ≤ 512) × (at ≤ length (now text)) × (i ≤ at) × (fault room d level n (take own (now tall)) (If k c m) ≡ 0) ⌝ }
+    requires { ⌜ (own ≤ 16) × (own ≤ length (now tall)) × (room ≤ 512) × (at ≤ length (now text)) × (i ≤ at)
+        × (fault room d level n (take own (now tall)) (If k c m) ≡ 0) ⌝ }
     ensures { λ r. ⌜ FormAt (now (text .entry)) room (take own (now (tall .entry))) d level at i n (If k c m) (now (row .entry)) (now (row .exit)) r ⌝ }
 {
     let next = i + 1;
@@ -562,28 +534,19 @@ fn task_fault(d: u64, t: u64) -> u64
 
 // Reads the first line.
 fn task_line(text: &[u8]) -> Head
-    ensures { λ r. ⌜ r ≡ head-of (read-at (now (text .entry)) 0) ⌝ }
+    ensures { λ r. ⌜ r ≡ first-line (read-at (now (text .entry)) 0) ⌝ }
 {
     let Read::Line(f, e) = line(text, 0) else {
         return Head::Not(FORM);
     };
-    match f {
-        Form::Task(d, t) => {
-            let k = task_fault(d, t);
-            if k == 0 {
-                Head::Opens(d, t, e)
-            } else {
-                Head::Not(k)
-            }
-        }
-        Form::Fun => Head::Not(FORM),
-        Form::Then => Head::Not(FORM),
-        Form::Else => Head::Not(FORM),
-        Form::Close => Head::Not(FORM),
-        Form::Leaf(_, _, _) => Head::Not(FORM),
-        Form::Call(_, _, _, _) => Head::Not(FORM),
-        Form::Loop(_, _, _, _) => Head::Not(FORM),
-        Form::If(_, _, _) => Head::Not(FORM),
+    let Form::Task(d, t) = f else {
+        return Head::Not(FORM);
+    };
+    let k = task_fault(d, t);
+    if k == 0 {
+        Head::Opens(d, t, e)
+    } else {
+        Head::Not(k)
     }
 }
 
@@ -641,7 +604,7 @@ fn smaller(a: usize, b: usize) -> usize
 }
 
 // Reads a plan into a row of which so many records may be used, 512 at most. A refused text leaves in the row what was read of it.
-pub fn read_lines(text: &[u8], capacity: usize, row: &mut [u64; 4096]) -> Raw
+pub fn read_lines(text: &[u8], capacity: usize, row: &mut [u64; ROW]) -> Raw
     ensures answers { λ r. ⌜ r ≡ raw-of (outcome capacity (now (text .entry))) ⌝ }
     ensures writes { λ _. ⌜ Written (outcome capacity (now (text .entry))) (now (row .entry)) (now (row .exit)) ⌝ }
 {
@@ -654,7 +617,7 @@ pub fn read_lines(text: &[u8], capacity: usize, row: &mut [u64; 4096]) -> Raw
 // Reads a plan into the lent row, of which so many records may be used, 512 at most. A refused text leaves the row as it is.
 pub fn read_raw(text: &[u8], capacity: usize, row: &mut [u64; ROW]) -> Raw
     ensures answers { λ r. ⌜ r ≡ raw-of (outcome capacity (now (text .entry))) ⌝ }
-    ensures writes { λ _. ⌜ now (row .exit) ≡ row-after (outcome capacity (now (text .entry))) (now (row .entry)) ⌝ }
+    ensures writes { λ _. ⌜ now (row .exit) ≡ row-left (outcome capacity (now (text .entry))) (now (row .entry)) ⌝ }
 {
     let mut work = *row;
     let raw = read_lines(text, capacity, &mut work);

@@ -7,10 +7,11 @@ use libc::STDOUT_FILENO;
 use print::put_bytes;
 use reader::Answer;
 use reader::read_raw;
+use rows::ROW;
 
 // Reads a text into a row of which so many records may be used, and prints the answer.
 fn show(text: &[u8], capacity: usize) {
-    let mut row = [0u64; 4096];
+    let mut row = [0; ROW];
     let raw = read_raw(text, capacity, &mut row);
     let answer = raw.answer;
     match answer {
@@ -131,79 +132,81 @@ fn later_texts() {
     show(b"(task 1 0\n(fun\n(call s 0 2 1)\n)\n)\n", 512);
 }
 
-// Texts of many bytes, leaves or functions, for refusals 1 and 4.
-fn long_texts() {
+// Shows the smallest plan with so many blanks and line feeds behind it.
+fn show_tail(blanks: usize, feeds: usize) {
     let mut text = blank();
-    // The smallest plan, of 33 bytes, and blanks up to 65,537 bytes: oversize, with line 0.
-    let a0 = add(&mut text, 0, b"(task 19 3\n(fun\n(leaf s 7 9)\n)\n)\n", 1);
-    let a1 = add(&mut text, a0, b" ", 65504);
-    show(&text[..a1], 512);
-    // With blanks up to 65,536 bytes it is not oversize: the text goes on with line 6.
-    let b0 = add(&mut text, 0, b"(task 19 3\n(fun\n(leaf s 7 9)\n)\n)\n", 1);
-    let b1 = add(&mut text, b0, b" ", 65503);
-    show(&text[..b1], 512);
-    // The last of them is a line feed, and still the text goes on.
-    let b2 = add(&mut text, b0, b" ", 65502);
-    let b3 = add(&mut text, b2, b"\n", 1);
-    show(&text[..b3], 512);
-    // 512 leaves in lines 3 to 514.
-    let c0 = add(&mut text, 0, b"(task 1 0\n(fun\n", 1);
-    let c1 = add(&mut text, c0, b"(leaf s 0 0)\n", 512);
-    let c2 = add(&mut text, c1, b")\n", 2);
-    show(&text[..c2], 512);
-    // 513 leaves: the last stands in line 515; of a longer row only 512 records are used.
-    let d0 = add(&mut text, 0, b"(task 1 0\n(fun\n", 1);
-    let d1 = add(&mut text, d0, b"(leaf s 0 0)\n", 513);
-    let d2 = add(&mut text, d1, b")\n", 2);
-    show(&text[..d2], 600);
-    // 16 functions in lines 2 to 33.
-    let e0 = add(&mut text, 0, b"(task 1 0\n", 1);
-    let e1 = add(&mut text, e0, b"(fun\n)\n", 16);
-    let e2 = add(&mut text, e1, b")\n", 1);
-    show(&text[..e2], 512);
-    // 17 functions: the last stands in line 34.
-    let f0 = add(&mut text, 0, b"(task 1 0\n", 1);
-    let f1 = add(&mut text, f0, b"(fun\n)\n", 17);
-    let f2 = add(&mut text, f1, b")\n", 1);
-    show(&text[..f2], 512);
+    let a = add(&mut text, 0, b"(task 19 3\n(fun\n(leaf s 7 9)\n)\n)\n", 1);
+    let b = add(&mut text, a, b" ", blanks);
+    let c = add(&mut text, b, b"\n", feeds);
+    show(&text[..c], 512);
 }
 
-// Shows a text of its first lines, so many ifs, each in the then part of the one before, and its last closing brackets.
-fn show_ifs(first: &[u8], count: usize, last: usize) {
-    let mut text = blank();
-    let a = add(&mut text, 0, first, 1);
-    let b = add(&mut text, a, b"(if s 0 0\n(then\n", count);
-    let c = add(&mut text, b, b")\n(else\n)\n)\n", count);
-    let d = add(&mut text, c, b")\n", last);
-    show(&text[..d], 512);
-}
-
-// Shows a text whose first function has so many loops, each in the body of the one before; `last` closes it and the text.
-fn show_loops(count: usize, last: &[u8]) {
+// Shows a text whose first function has so many leaves, with so many empty functions behind it.
+fn show_flat(leaves: usize, empty: usize, capacity: usize) {
     let mut text = blank();
     let a = add(&mut text, 0, b"(task 1 0\n(fun\n", 1);
-    let b = add(&mut text, a, b"(loop s 1 0 0\n", count);
-    let c = add(&mut text, b, b")\n", count);
-    let d = add(&mut text, c, last, 1);
+    let b = add(&mut text, a, b"(leaf s 0 0)\n", leaves);
+    let c = add(&mut text, b, b")\n(fun\n", empty);
+    let d = add(&mut text, c, b")\n", 2);
+    show(&text[..d], capacity);
+}
+
+// Texts of many bytes, leaves or functions, for refusals 1 and 4.
+fn long_texts() {
+    // The smallest plan, of 33 bytes, and blanks up to 65,537 bytes: oversize, with line 0.
+    show_tail(65504, 0);
+    // With blanks up to 65,536 bytes it is not oversize: the text goes on with line 6.
+    show_tail(65503, 0);
+    // The last of them is a line feed, and still the text goes on.
+    show_tail(65502, 1);
+    // 512 leaves in lines 3 to 514.
+    show_flat(512, 0, 512);
+    // 513 leaves: the last stands in line 515; of a longer row only 512 records are used.
+    show_flat(513, 0, 600);
+    // 16 functions in lines 2 to 33.
+    show_flat(0, 15, 512);
+    // 17 functions: the last stands in line 34.
+    show_flat(0, 16, 512);
+}
+
+// Writes so many loops, each in the body of the one before, and in the last of them so many ifs, each in the then part of the one before; gives the place
+// after them.
+fn add_nested(text: &mut [u8; 65537], at: usize, loops: usize, ifs: usize) -> usize
+    requires { ⌜ (at ≤ 65537) × (65537 ≡ length (now text)) ⌝ }
+    ensures { λ r. ⌜ (r ≤ 65537) × (65537 ≡ length (now (text .exit))) ⌝ }
+{
+    let a = add(text, at, b"(loop s 1 0 0\n", loops);
+    let b = add(text, a, b"(if s 0 0\n(then\n", ifs);
+    let c = add(text, b, b")\n(else\n)\n)\n", ifs);
+    add(text, c, b")\n", loops)
+}
+
+// Shows a text whose first function has so many loops and in them so many ifs, each in the one before; so many functions that call it follow.
+fn show_nested(loops: usize, ifs: usize, calls: usize) {
+    let mut text = blank();
+    let a = add(&mut text, 0, b"(task 1 0\n(fun\n", 1);
+    let b = add_nested(&mut text, a, loops, ifs);
+    let c = add(&mut text, b, b")\n(fun\n(call s 0 0 0)\n", calls);
+    let d = add(&mut text, c, b")\n", 2);
     show(&text[..d], 512);
 }
 
 // Refusal 7, depth.
 fn deep_texts() {
     // 64 open brackets: task, fun and 31 times if and then. The level stays 1. 31 ifs.
-    show_ifs(b"(task 1 0\n(fun\n", 31, 2);
+    show_nested(0, 31, 0);
     // The same with a 32nd if in line 2 + 62 + 1: the 65th open bracket.
-    show_ifs(b"(task 1 0\n(fun\n", 32, 2);
+    show_nested(0, 32, 0);
     // A loop in line 3, 30 times if and then in lines 4 to 63, the 64th bracket in line 64: its then in line 65 is the 65th.
-    show_ifs(b"(task 1 0\n(fun\n(loop s 1 0 0\n", 31, 3);
+    show_nested(1, 31, 0);
     // 32 loops, each in the body of the one before: the innermost has level 32.
-    show_loops(32, b")\n)\n");
+    show_nested(32, 0, 0);
     // 33 loops: the innermost, in line 35, has level 33.
-    show_loops(33, b")\n)\n");
+    show_nested(33, 0, 0);
     // Function 0 has 31 loops, each in the one before; the call at level 1 reaches level 32. 31 loops and a call.
-    show_loops(31, b")\n(fun\n(call s 0 0 0)\n)\n)\n");
+    show_nested(31, 0, 1);
     // Function 0 has 32 loops in lines 3 to 34 and closes in line 67; the call in line 69 reaches level 33.
-    show_loops(32, b")\n(fun\n(call s 0 0 0)\n)\n)\n");
+    show_nested(32, 0, 1);
 }
 
 fn main() {

@@ -14,8 +14,8 @@ use Rattle.text.specs.declared.Form.{Form}
 use Rattle.text.specs.declared.Form.the-variants.{Task, Fun, Then, Else, Close, Leaf, Call, Loop, If}
 use Rattle.model.specs.Plan.{Lines, close, leaf-line, call-line, loop-line, if-line}
 use Rattle.model.specs.Levels.{height, heights}
-use Rattle.reader.specs.Machine.{_⊕_, Around, in-fun, in-loop, in-then, in-else, State, start, task, body, await-then, await-else, await-close, done, brackets-in, brackets, level-in, functions-of, to, block, next, counted}
-use Rattle.reader.proofs.Appended.{height-⊕, heights-snoc, heights-length}
+use Rattle.reader.specs.Machine.{_⧺_, Around, in-fun, in-loop, in-then, in-else, ParserState, start, task, body, await-then, await-else, await-close, done, brackets-in, brackets, level-in, functions-of, to, block, next, counted}
+use Rattle.reader.proofs.Appended.{height-⧺, heights-snoc, heights-length}
 use Rattle.reader.proofs.Steps.{before, Step, opens-task, opens-fun, closes-task, leaf, call, loop, cond, closes-fun, closes-loop, closes-then, closes-else, opens-then, opens-else, closes-if, stepped, before-step}
 use Rattle.refusals.specs.Refusal.{of-leaf, of-call, of-loop, of-if, leaves-among, functions-among, own-function, innermost, brackets-behind, open-brackets, LevelAt, own-level, called-level, earlier-line}
 use Rattle.refusals.proofs.Nesting.{Held, held-step, nests, leaves-after, nests-append}
@@ -29,7 +29,7 @@ levels-in (in-loop b n hs K) = (level-in K + 1) ∷ levels-in K
 levels-in (in-then b hs K) = level-in K ∷ level-in K ∷ levels-in K
 levels-in (in-else b ts hs K) = level-in K ∷ level-in K ∷ levels-in K
 
-unfoldable pub levels-at : State → List ℕ
+unfoldable pub levels-at : ParserState → List ℕ
 levels-at start = []
 levels-at (task p) = 0 ∷ []
 levels-at (body p K fs) = levels-in K
@@ -47,7 +47,7 @@ innermost-in (in-then b hs K) = refl
 innermost-in (in-else b ts hs K) = refl
 
 -- A step opens and closes what its line does.
-brackets-step : {S S′ : State} {n : ℕ} {f : Form} → Step S n f S′ → brackets-behind f (levels-at S) ≡ levels-at S′
+brackets-step : {S S′ : ParserState} {n : ℕ} {f : Form} → Step S n f S′ → brackets-behind f (levels-at S) ≡ levels-at S′
 unfolding levels-at levels-in level-in
 brackets-step opens-task = refl
 brackets-step opens-fun = refl
@@ -72,7 +72,7 @@ brackets-within (in-then b hs K) = omega (arith, brackets-within K)
 brackets-within (in-else b ts hs K) = omega (arith, brackets-within K)
 
 -- The machine counts these brackets.
-pub brackets-at : (S : State) → brackets S ≡ length (levels-at S)
+pub brackets-at : (S : ParserState) → brackets S ≡ length (levels-at S)
 unfolding brackets levels-at
 brackets-at start = refl
 brackets-at (task p) = refl
@@ -102,7 +102,7 @@ innermost-under K = innermost-in K ∙ level-under K
 -- FUNCTIONS AND LEAVES
 
 -- The functions that have begun.
-unfoldable pub functions-in : State → ℕ
+unfoldable pub functions-in : ParserState → ℕ
 functions-in start = 0
 functions-in (task p) = length (p .functions)
 functions-in (body p K fs) = length (p .functions) + 1
@@ -111,7 +111,7 @@ functions-in (await-else p K b ts fs) = length (p .functions) + 1
 functions-in (await-close p K b ts es fs) = length (p .functions) + 1
 functions-in (done p) = length (p .functions)
 
-functions-step : {S S′ : State} {n : ℕ} {f : Form} → Step S n f S′ → (es : List Form) → functions-among es ≡ functions-in S →
+functions-step : {S S′ : ParserState} {n : ℕ} {f : Form} → Step S n f S′ → (es : List Form) → functions-among es ≡ functions-in S →
     functions-among (f ∷ es) ≡ functions-in S′
 unfolding functions-in functions-among
 functions-step opens-task es e = e
@@ -230,13 +230,13 @@ peak hs (in-loop b n gs K) fs = max (peak hs K gs) (under K + 1 + height hs fs)
 peak hs (in-then b gs K) fs = max (peak hs K gs) (under K + max 1 (height hs fs))
 peak hs (in-else b ts gs K) fs = max (peak hs K gs) (under K + max 1 (max (height hs ts) (height hs fs)))
 
-peak-⊕ : (hs : List ℕ) (K : Around) (fs x : Lines) → peak hs K (fs ⊕ x) ≡ max (peak hs K fs) (under K + height hs x)
+peak-⧺ : (hs : List ℕ) (K : Around) (fs x : Lines) → peak hs K (fs ⧺ x) ≡ max (peak hs K fs) (under K + height hs x)
 unfolding peak under
-peak-⊕ hs in-fun fs x = omega (arith, height-⊕ hs fs x)
-peak-⊕ hs (in-loop b n gs K) fs x = omega (arith, height-⊕ hs fs x)
-peak-⊕ hs (in-then b gs K) fs x = omega (arith, height-⊕ hs fs x)
-peak-⊕ hs (in-else b ts gs K) fs x =
-    ap (λ y. max (peak hs K gs) (under K + max 1 (max (height hs ts) y))) (height-⊕ hs fs x) ∙
+peak-⧺ hs in-fun fs x = omega (arith, height-⧺ hs fs x)
+peak-⧺ hs (in-loop b n gs K) fs x = omega (arith, height-⧺ hs fs x)
+peak-⧺ hs (in-then b gs K) fs x = omega (arith, height-⧺ hs fs x)
+peak-⧺ hs (in-else b ts gs K) fs x =
+    ap (λ y. max (peak hs K gs) (under K + max 1 (max (height hs ts) y))) (height-⧺ hs fs x) ∙
     (ap (λ y. max (peak hs K gs) (under K + y)) (regroup (height hs ts) (height hs fs) (height hs x)) ∙
     further (peak hs K gs) (under K) (max 1 (max (height hs ts) (height hs fs))) (height hs x))
   where
@@ -247,7 +247,7 @@ peak-⊕ hs (in-else b ts gs K) fs x =
     further a b c d = omega arith
 
 -- The heights of all functions so far, that of the one being read last.
-unfoldable pub talls : State → List ℕ
+unfoldable pub talls : ParserState → List ℕ
 talls start = []
 talls (task p) = heights [] (p .functions)
 talls (body p K fs) = heights [] (p .functions) ++ (peak (heights [] (p .functions)) K fs ∷ [])
@@ -290,7 +290,7 @@ raise hs x y z own F o e = by (eqb F own) refl
     by false q = other hs x z F (λ i. eqb-false F own q (i ∙ sym o)) ∙ same (getD (hs ++ (x ∷ [])) F 0) true
 
 -- A call names a function that is closed.
-abbrev pub NamesClosed : State → Form → Type 0
+abbrev pub NamesClosed : ParserState → Form → Type 0
 NamesClosed S (Task d t) = Unit
 NamesClosed S Fun = Unit
 NamesClosed S Then = Unit
@@ -306,7 +306,7 @@ getD-front [] x F h = absurd (omega arith)
 getD-front (k ∷ hs) x zero h = refl
 getD-front (k ∷ hs) x (suc F) h = getD-front hs x F (omega arith)
 
-talls-step : {S S′ : State} {n : ℕ} {f : Form} → Step S n f S′ → NamesClosed S f → (F : ℕ) →
+talls-step : {S S′ : ParserState} {n : ℕ} {f : Form} → Step S n f S′ → NamesClosed S f → (F : ℕ) →
     getD (talls S′) F 0 ≡ max (getD (talls S) F 0) (pick (eqb F (functions-in S - 1)) (highest (innermost (levels-at S)) (λ G. getD (talls S) G 0) f) 0)
 unfolding talls peak under height heights functions-in levels-at functions-of
 talls-step opens-task h F = same 0 (eqb F 0)
@@ -314,10 +314,10 @@ talls-step (opens-fun {p = p}) h F = pad (heights [] (p .functions)) F ∙ same 
 talls-step (closes-task {p = p} q) h F = same (getD (heights [] (p .functions)) F 0) (eqb F (length (p .functions) - 1))
 talls-step (leaf {p = p} {K = K} {fs = fs} {n = n} {k = k} {c = c} {m = m}) h F =
     raise (heights [] (p .functions)) _ _ _ _ F (omega (arith, heights-length [] (p .functions)))
-    (peak-⊕ (heights [] (p .functions)) K fs (leaf-line (block n k c m) close) ∙ omega (arith, innermost-under K))
+    (peak-⧺ (heights [] (p .functions)) K fs (leaf-line (block n k c m) close) ∙ omega (arith, innermost-under K))
 talls-step (call {p = p} {K = K} {fs = fs} {n = n} {k = k} {g = g} {c = c} {m = m}) h F =
     raise (heights [] (p .functions)) _ _ _ _ F (omega (arith, heights-length [] (p .functions)))
-    (peak-⊕ (heights [] (p .functions)) K fs (call-line (block n k c m) g close) ∙
+    (peak-⧺ (heights [] (p .functions)) K fs (call-line (block n k c m) g close) ∙
     omega (
       arith,
       innermost-under K,
@@ -331,14 +331,14 @@ talls-step (closes-fun {p = p} {fs = fs}) h F =
     ap (λ hs. getD hs F 0) (heights-snoc [] (p .functions) fs) ∙ keep (heights [] (p .functions)) _ _ F (eqb F (length (p .functions) + 1 - 1)) refl
 talls-step (closes-loop {p = p} {x = x} {b = b} {hs = hs} {K = K} {fs = fs}) h F =
     keep (heights [] (p .functions)) _ _ F (eqb F (length (p .functions) + 1 - 1))
-    (peak-⊕ (heights [] (p .functions)) K hs (loop-line x b fs close) ∙ omega arith)
+    (peak-⧺ (heights [] (p .functions)) K hs (loop-line x b fs close) ∙ omega arith)
 talls-step (closes-then {p = p}) h F = keep (heights [] (p .functions)) _ _ F (eqb F (length (p .functions) + 1 - 1)) refl
 talls-step (closes-else {p = p}) h F = keep (heights [] (p .functions)) _ _ F (eqb F (length (p .functions) + 1 - 1)) refl
 talls-step (opens-then {p = p}) h F = keep (heights [] (p .functions)) _ _ F (eqb F (length (p .functions) + 1 - 1)) (omega arith)
 talls-step (opens-else {p = p}) h F = keep (heights [] (p .functions)) _ _ F (eqb F (length (p .functions) + 1 - 1)) (omega arith)
 talls-step (closes-if {p = p} {K = K} {x = x} {ts = ts} {es = es} {fs = fs}) h F =
     keep (heights [] (p .functions)) _ _ F (eqb F (length (p .functions) + 1 - 1))
-    (peak-⊕ (heights [] (p .functions)) K fs (if-line x ts es close) ∙ omega arith)
+    (peak-⧺ (heights [] (p .functions)) K fs (if-line x ts es close) ∙ omega arith)
 
 highest-same : (L : ℕ) (g h : ℕ → ℕ) → ((F : ℕ) → g F ≡ h F) → (f : Form) → highest L g f ≡ highest L h f
 highest-same L g h e (Task d t) = refl
@@ -354,7 +354,7 @@ highest-same L g h e (If k c m) = refl
 -- THE STATE AND THE LINES BEFORE IT
 
 -- A state with n leaves is that behind these lines, in every measure.
-pub record Agrees (S : State) (n : ℕ) (es : List Form) : Type 0 where
+pub record Agrees (S : ParserState) (n : ℕ) (es : List Form) : Type 0 where
   pub order : before S ≡ reverse es
   pub nested : nests start 0 (reverse es) ≡ to S
   pub held : Held S
@@ -368,7 +368,7 @@ pub agrees-start : Agrees start 0 []
 unfolding before nests leaves-after leaves-among functions-among open-brackets levels-at functions-in height-of talls
 agrees-start = record { order = refl; nested = refl; held = tt; leaves = refl; leaves-read = refl; brackets-are = refl; functions = refl; tall = λ F. refl }
 
-pub agrees-step : {S S′ : State} {n : ℕ} {es : List Form} {f : Form} → Agrees S n es → next S n f ≡ to S′ → NamesClosed S f → Agrees S′ (counted n f) (f ∷ es)
+pub agrees-step : {S S′ : ParserState} {n : ℕ} {es : List Form} {f : Form} → Agrees S n es → next S n f ≡ to S′ → NamesClosed S f → Agrees S′ (counted n f) (f ∷ es)
 unfolding open-brackets height-of
 agrees-step {S} {S′} {n} {es} {f} a e h =
     let s : Step S n f S′ = stepped e in

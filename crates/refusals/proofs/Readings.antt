@@ -15,7 +15,7 @@ use Rattle.text.specs.Patterns.{matched, item, number, digits}
 use Rattle.text.specs.Grammar.{form, line-form}
 use Rattle.model.specs.Levels.{height, heights}
 use Rattle.reader.specs.Outcome.{refused}
-use Rattle.reader.specs.Machine.{_⊕_, outcome, run, fault, brackets-in, brackets, level-in, level, functions-of}
+use Rattle.reader.specs.Machine.{_⧺_, outcome, run, fault, brackets-in, brackets, level-in, level, functions-of}
 use Rattle.refusals.specs.Refusal.{of-leaf, of-call, leaves-among, functions-among, own-function, innermost, open-brackets, LevelAt, own-level, Breaks, target-range, leaf-count, row-count, function-count, load, target, bracket-depth, level-depth, RefusedAt}
 use Rattle.refusals.proofs.Measures.{height-of, height-bounds, height-met}
 use Rattle.refusals.proofs.Refusal.{refused-exactly}
@@ -133,55 +133,55 @@ by-rules capacity text k j h e = refused-exactly capacity text k j (leb-true (le
 
 -- The empty text.
 empty-text : RefusedAt 512 (bytes "") 2 1
-unfolding outcome run fault brackets-in brackets level-in level functions-of heights height _⊕_ line-form lines matched item number digits
+unfolding outcome run fault brackets-in brackets level-in level functions-of heights height _⧺_ line-form lines matched item number digits
 empty-text = by-rules 512 (bytes "") 2 1 refl refl
 
 -- A task closed with no function.
 task-without-function : RefusedAt 512 (bytes "(task 1 0\n)\n") 2 2
-unfolding outcome run fault brackets-in brackets level-in level functions-of heights height _⊕_ line-form lines matched item number digits
+unfolding outcome run fault brackets-in brackets level-in level functions-of heights height _⧺_ line-form lines matched item number digits
 task-without-function = by-rules 512 (bytes "(task 1 0\n)\n") 2 2 refl refl
 
 -- An if closed without its parts.
 if-without-parts : RefusedAt 512 (bytes "(task 1 0\n(fun\n(if p 1 1\n)\n") 2 4
-unfolding outcome run fault brackets-in brackets level-in level functions-of heights height _⊕_ line-form lines matched item number digits
+unfolding outcome run fault brackets-in brackets level-in level functions-of heights height _⧺_ line-form lines matched item number digits
 if-without-parts = by-rules 512 (bytes "(task 1 0\n(fun\n(if p 1 1\n)\n") 2 4 refl refl
 
 -- A form directly inside an if.
 form-in-if : RefusedAt 512 (bytes "(task 1 0\n(fun\n(if p 1 1\n(leaf p 1 1)\n") 2 4
-unfolding outcome run fault brackets-in brackets level-in level functions-of heights height _⊕_ line-form lines matched item number digits
+unfolding outcome run fault brackets-in brackets level-in level functions-of heights height _⧺_ line-form lines matched item number digits
 form-in-if = by-rules 512 (bytes "(task 1 0\n(fun\n(if p 1 1\n(leaf p 1 1)\n") 2 4 refl refl
 
 -- Parts swapped.
 parts-swapped : RefusedAt 512 (bytes "(task 1 0\n(fun\n(if p 1 1\n(else\n") 2 4
-unfolding outcome run fault brackets-in brackets level-in level functions-of heights height _⊕_ line-form lines matched item number digits
+unfolding outcome run fault brackets-in brackets level-in level functions-of heights height _⧺_ line-form lines matched item number digits
 parts-swapped = by-rules 512 (bytes "(task 1 0\n(fun\n(if p 1 1\n(else\n") 2 4 refl refl
 
 -- A part doubled.
 part-doubled : RefusedAt 512 (bytes "(task 1 0\n(fun\n(if p 1 1\n(then\n)\n(then\n") 2 6
-unfolding outcome run fault brackets-in brackets level-in level functions-of heights height _⊕_ line-form lines matched item number digits
+unfolding outcome run fault brackets-in brackets level-in level functions-of heights height _⧺_ line-form lines matched item number digits
 part-doubled = by-rules 512 (bytes "(task 1 0\n(fun\n(if p 1 1\n(then\n)\n(then\n") 2 6 refl refl
 
 -- A text that ends early: the line after the last.
 ended-early : RefusedAt 512 (bytes "(task 1 0\n(fun\n)\n") 2 4
-unfolding outcome run fault brackets-in brackets level-in level functions-of heights height _⊕_ line-form lines matched item number digits
+unfolding outcome run fault brackets-in brackets level-in level functions-of heights height _⧺_ line-form lines matched item number digits
 ended-early = by-rules 512 (bytes "(task 1 0\n(fun\n)\n") 2 4 refl refl
 
 -- Anything behind the closed task, also a blank line.
 blank-behind : RefusedAt 512 (bytes "(task 1 0\n(fun\n)\n)\n\n") 2 5
-unfolding outcome run fault brackets-in brackets level-in level functions-of heights height _⊕_ line-form lines matched item number digits
+unfolding outcome run fault brackets-in brackets level-in level functions-of heights height _⧺_ line-form lines matched item number digits
 blank-behind = by-rules 512 (bytes "(task 1 0\n(fun\n)\n)\n\n") 2 5 refl refl
 
 -- A last line without a line feed, whatever else is wrong with it.
 no-line-feed : RefusedAt 512 (bytes "(task 0 0") 2 1
-unfolding outcome run fault brackets-in brackets level-in level functions-of heights height _⊕_ line-form lines matched item number digits
+unfolding outcome run fault brackets-in brackets level-in level functions-of heights height _⧺_ line-form lines matched item number digits
 no-line-feed = by-rules 512 (bytes "(task 0 0") 2 1 refl refl
 
 -- A leading zero, also where the number would be out of range.
 zero-in-front : RefusedAt 512 (bytes "(task 1 0\n(fun\n(leaf p 09999999 1)\n") 2 3
-unfolding outcome run fault brackets-in brackets level-in level functions-of heights height _⊕_ line-form lines matched item number digits
+unfolding outcome run fault brackets-in brackets level-in level functions-of heights height _⧺_ line-form lines matched item number digits
 zero-in-front = by-rules 512 (bytes "(task 1 0\n(fun\n(leaf p 09999999 1)\n") 2 3 refl refl
 
 -- Wrong nesting before range.
 nesting-before-range : RefusedAt 512 (bytes "(task 1 0\n(leaf p 9999999 1)\n") 2 2
-unfolding outcome run fault brackets-in brackets level-in level functions-of heights height _⊕_ line-form lines matched item number digits
+unfolding outcome run fault brackets-in brackets level-in level functions-of heights height _⧺_ line-form lines matched item number digits
 nesting-before-range = by-rules 512 (bytes "(task 1 0\n(leaf p 9999999 1)\n") 2 2 refl refl

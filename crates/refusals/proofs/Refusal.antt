@@ -14,7 +14,7 @@ use Rattle.text.specs.Grammar.{Line, no-form, form, line-form}
 use Rattle.model.specs.Plan.{Lines, Plan}
 use Rattle.model.specs.Levels.{heights}
 use Rattle.reader.specs.Outcome.{Outcome, plan, refused}
-use Rattle.reader.specs.Machine.{Around, State, start, task, body, await-then, await-else, await-close, done, brackets, level, functions-of, Next, stuck, to, next, fault, counted, Turn, stop, go, judged, turn, finish, onwards, run, outcome}
+use Rattle.reader.specs.Machine.{Around, ParserState, start, task, body, await-then, await-else, await-close, done, brackets, level, functions-of, Next, stuck, to, next, fault, counted, Turn, stop, go, form-first, line-turn, finish, onwards, run, outcome}
 use Rattle.reader.proofs.Allowed.{Allowed, allowed}
 use Rattle.reader.proofs.Appended.{heights-length}
 use Rattle.reader.proofs.Steps.{before, Step, opens-fun, leaf, call, loop, cond, stepped, before-step}
@@ -33,18 +33,18 @@ at-body p K fs a = record {
   heights-are = λ F h. a .tall F ∙ getD-front (heights [] (p .functions)) (peak (heights [] (p .functions)) K fs) F h;
 }
 
-at-leaf : {S S′ : State} {n c m : ℕ} {f : Form} {es : List Form} → LeafLine f c m → Step S n f S′ → Agrees S n es →
+at-leaf : {S S′ : ParserState} {n c m : ℕ} {f : Form} {es : List Form} → LeafLine f c m → Step S n f S′ → Agrees S n es →
     AtLeaf es (level S) (heights [] (functions-of S))
 at-leaf of-leaf (leaf {p = p} {K = K} {fs = fs}) a = at-body p K fs a
 at-leaf of-call (call {p = p} {K = K} {fs = fs}) a = at-body p K fs a
 at-leaf of-loop (loop {p = p} {K = K} {fs = fs}) a = at-body p K fs a
 at-leaf of-if (cond {p = p} {K = K} {fs = fs}) a = at-body p K fs a
 
-at-fun : {S S′ : State} {n : ℕ} → Step S n Fun S′ → length (heights [] (functions-of S)) ≡ functions-in S
+at-fun : {S S′ : ParserState} {n : ℕ} → Step S n Fun S′ → length (heights [] (functions-of S)) ≡ functions-in S
 unfolding functions-of functions-in
 at-fun (opens-fun {p = p}) = omega (arith, heights-length [] (p .functions))
 
-values : {S S′ : State} {n : ℕ} {f : Form} {es : List Form} → Agrees S n es → Step S n f S′ →
+values : {S S′ : ParserState} {n : ℕ} {f : Form} {es : List Form} → Agrees S n es → Step S n f S′ →
     Values es f (brackets S) (level S) n (heights [] (functions-of S))
 values {S} {S′} {n} a s = record {
   brackets-are = brackets-at S ∙ ap length (sym (a .brackets-are));
@@ -53,7 +53,7 @@ values {S} {S′} {n} a s = record {
   at-leaf = λ x. at-leaf x s a;
 }
 
-names : (room d L n : ℕ) (S : State) (f : Form) → Allowed room d L n (heights [] (functions-of S)) f → NamesClosed S f
+names : (room d L n : ℕ) (S : ParserState) (f : Form) → Allowed room d L n (heights [] (functions-of S)) f → NamesClosed S f
 names room d L n S (Task x t) a = tt
 names room d L n S Fun a = tt
 names room d L n S Then a = tt
@@ -68,16 +68,16 @@ names room d L n S (If k c m) a = tt
 
 -- The machine goes on at a line that breaks no rule, and stops by the first rule that a line breaks.
 data Judged (capacity : ℕ) (es : List Form) : Line → Turn → Type 0 where
-  goes : {f : Form} {S : State} {n : ℕ} → ((i : ℕ) → ¬ Breaks capacity es (form f) i) → Agrees S n (f ∷ es) → Judged capacity es (form f) (go S n)
+  goes : {f : Form} {S : ParserState} {n : ℕ} → ((i : ℕ) → ¬ Breaks capacity es (form f) i) → Agrees S n (f ∷ es) → Judged capacity es (form f) (go S n)
   stops : {x : Line} {k : ℕ} → Breaks capacity es x k → ((i : ℕ) → i < k → ¬ Breaks capacity es x i) → Judged capacity es x (stop k)
 
-judge : (capacity : ℕ) {S : State} {n : ℕ} {es : List Form} → Agrees S n es → NoneBroken capacity es → (x : Line) →
-    Judged capacity es x (turn (min 512 capacity) S n x)
+judge : (capacity : ℕ) {S : ParserState} {n : ℕ} {es : List Form} → Agrees S n es → NoneBroken capacity es → (x : Line) →
+    Judged capacity es x (line-turn (min 512 capacity) S n x)
 judge capacity a h no-form = stops no-line (λ i g b. omega (arith, breaks-rule b))
 judge capacity {S} {n} {es} a h (form f) = here (next S n f) refl (fault (min 512 capacity) (brackets S) (level S) n (heights [] (functions-of S)) f) refl
   where
     here : (x : Next) → next S n f ≡ x → (k : ℕ) → fault (min 512 capacity) (brackets S) (level S) n (heights [] (functions-of S)) f ≡ k →
-        Judged capacity es (form f) (judged x k (counted n f))
+        Judged capacity es (form f) (form-first x k (counted n f))
     here stuck q k r =
         stops (nesting (stuck-begins (reverse es) S (a .nested) f (ap (λ m. next S m f) (a .leaves-read) ∙ q))) (λ i g b. omega (arith, breaks-rule b))
     here (to S′) q k r = by k r
@@ -96,25 +96,25 @@ judge capacity {S} {n} {es} a h (form f) = here (next S n f) refl (fault (min 51
         ruled = ruling capacity es f (brackets S) (level S) n (heights [] (functions-of S)) begun h (values a s)
 
         by : (k : ℕ) → fault (min 512 capacity) (brackets S) (level S) n (heights [] (functions-of S)) f ≡ k →
-            Judged capacity es (form f) (judged (to S′) k (counted n f))
+            Judged capacity es (form f) (form-first (to S′) k (counted n f))
         by zero r =
             let c : Allowed (min 512 capacity) (brackets S) (level S) n (heights [] (functions-of S)) f = allowed _ _ _ _ _ f r in
             goes (subst (λ k. Ruling capacity es f k) r ruled) (agrees-step a q (names (min 512 capacity) (brackets S) (level S) n S f c))
         by (suc k) r = let (b, c) = subst (λ k. Ruling capacity es f k) r ruled in stops b c
 
 -- ALL LINES, as what the grammar makes of them
-unfoldable through : ℕ → State → ℕ → ℕ → List Line → Outcome
+unfoldable through : ℕ → ParserState → ℕ → ℕ → List Line → Outcome
 through room S n i [] = finish S i
-through room S n i (x ∷ xs) = onwards (turn room S n x) i (λ S′ n′. through room S′ n′ (i + 1) xs)
+through room S n i (x ∷ xs) = onwards (line-turn room S n x) i (λ S′ n′. through room S′ n′ (i + 1) xs)
 
-onwards-same : (t : Turn) (i : ℕ) (f g : State → ℕ → Outcome) → ((S : State) (n : ℕ) → f S n ≡ g S n) → onwards t i f ≡ onwards t i g
+onwards-same : (t : Turn) (i : ℕ) (f g : ParserState → ℕ → Outcome) → ((S : ParserState) (n : ℕ) → f S n ≡ g S n) → onwards t i f ≡ onwards t i g
 onwards-same (stop k) i f g h = refl
 onwards-same (go S n) i f g h = h S n
 
-run-through : (room : ℕ) (ls : List (List ℕ)) (S : State) (n i : ℕ) → run room S n i ls ≡ through room S n i (map line-form ls)
+run-through : (room : ℕ) (ls : List (List ℕ)) (S : ParserState) (n i : ℕ) → run room S n i ls ≡ through room S n i (map line-form ls)
 unfolding run through
 run-through room [] S n i = refl
-run-through room (l ∷ ls) S n i = onwards-same (turn room S n (line-form l)) i _ _ (λ S′ n′. run-through room ls S′ n′ (i + 1))
+run-through room (l ∷ ls) S n i = onwards-same (line-turn room S n (line-form l)) i _ _ (λ S′ n′. run-through room ls S′ n′ (i + 1))
 
 same-refusal : {k k′ j j′ : ℕ} → refused k j ≡ refused k′ j′ → (k ≡ k′) × (j ≡ j′)
 same-refusal e = (cc, cc)
@@ -131,7 +131,7 @@ snoc-lines es f xs = ap (λ fs. map form fs ++ xs) (reverse-cons f es) ∙ onto 
     onto (g ∷ fs) = ap (λ ys. form g ∷ ys) (onto fs)
 
 -- The end of the text: the task is closed, or the end is refused by 2.
-ending : (S : State) → ((p : Plan) × (S ≡ done p)) ⊎ (((i : ℕ) → finish S i ≡ refused 2 i) × ((p : Plan) → S ≡ done p → ⊥))
+ending : (S : ParserState) → ((p : Plan) × (S ≡ done p)) ⊎ (((i : ℕ) → finish S i ≡ refused 2 i) × ((p : Plan) → S ≡ done p → ⊥))
 ending start = inr ((λ i. refl), λ p q. let z : _≡_ {A = ℕ} 0 1 = cc in omega arith)
 ending (task r) = inr ((λ i. refl), λ p q. let z : _≡_ {A = ℕ} 0 1 = cc in omega arith)
 ending (body r K fs) = inr ((λ i. refl), λ p q. let z : _≡_ {A = ℕ} 0 1 = cc in omega arith)
@@ -152,7 +152,7 @@ module _ (capacity : ℕ) (text : List ℕ) where
       let (x, y) = same-refusal e in
       subst (λ i. RefusedAt capacity text k′ i) y (subst (λ i. RefusedAt capacity text i j) x r)
 
-  found : (xs : List Line) (S : State) (n : ℕ) (es : List Form) → Agrees S n es → NoneBroken capacity es →
+  found : (xs : List Line) (S : ParserState) (n : ℕ) (es : List Form) → Agrees S n es → NoneBroken capacity es →
       map line-form (lines text) ≡ map form (reverse es) ++ xs → (k j : ℕ) → through (min 512 capacity) S n (length es + 1) xs ≡ refused k j →
       RefusedAt capacity text k j
   unfolding through
@@ -163,11 +163,11 @@ module _ (capacity : ℕ) (text : List ℕ) where
       by (inr (f, o)) =
           refused-as (sym (f (length es + 1)) ∙ e)
           (at-end es (q ∙ append-nil (map form (reverse es))) h (λ w. let (p, z) = whole-done (reverse es) S (a .nested) w in o p z))
-  found (x ∷ xs) S n es a h q k j e = by x (turn (min 512 capacity) S n x) q (judge capacity a h x) e (found xs)
+  found (x ∷ xs) S n es a h q k j e = by x (line-turn (min 512 capacity) S n x) q (judge capacity a h x) e (found xs)
     where
       by : (x : Line) (t : Turn) → map line-form (lines text) ≡ map form (reverse es) ++ (x ∷ xs) → Judged capacity es x t →
           onwards t (length es + 1) (λ S′ n′. through (min 512 capacity) S′ n′ (length es + 1 + 1) xs) ≡ refused k j →
-          ((S : State) (n : ℕ) (es : List Form) → Agrees S n es → NoneBroken capacity es → map line-form (lines text) ≡ map form (reverse es) ++ xs →
+          ((S : ParserState) (n : ℕ) (es : List Form) → Agrees S n es → NoneBroken capacity es → map line-form (lines text) ≡ map form (reverse es) ++ xs →
           (k j : ℕ) → through (min 512 capacity) S n (length es + 1) xs ≡ refused k j → RefusedAt capacity text k j) → RefusedAt capacity text k j
       by x t q (goes {f = f} {S = S′} {n = n′} c b) e ih =
           let z : suc (length es) + 1 ≡ length es + 1 + 1 = omega arith in
@@ -178,21 +178,21 @@ module _ (capacity : ℕ) (text : List ℕ) where
 
 -- Some lines lead the machine from the start to a state that agrees with them, whatever follows.
 record Led (capacity : ℕ) (es : List Form) : Type 0 where
-  pub state : State
+  pub state : ParserState
   pub leaves : ℕ
   pub agrees : Agrees state leaves es
   pub led : (xs : List Line) → through (min 512 capacity) start 0 1 (map form (reverse es) ++ xs) ≡ through (min 512 capacity) state leaves (length es + 1) xs
 
-through-go : (room : ℕ) (S : State) (n i : ℕ) (x : Line) (xs : List Line) (S′ : State) (n′ : ℕ) → turn room S n x ≡ go S′ n′ →
+through-go : (room : ℕ) (S : ParserState) (n i : ℕ) (x : Line) (xs : List Line) (S′ : ParserState) (n′ : ℕ) → line-turn room S n x ≡ go S′ n′ →
     through room S n i (x ∷ xs) ≡ through room S′ n′ (i + 1) xs
 unfolding through
 through-go room S n i x xs S′ n′ e = rw e
 
 leads-on : (capacity : ℕ) (es : List Form) (f : Form) → Led capacity es → NoneBroken capacity es → ((i : ℕ) → ¬ Breaks capacity es (form f) i) →
     Led capacity (f ∷ es)
-leads-on capacity es f r h c = by (turn (min 512 capacity) (r .state) (r .leaves) (form f)) refl (judge capacity (r .agrees) h (form f))
+leads-on capacity es f r h c = by (line-turn (min 512 capacity) (r .state) (r .leaves) (form f)) refl (judge capacity (r .agrees) h (form f))
   where
-    by : (t : Turn) → turn (min 512 capacity) (r .state) (r .leaves) (form f) ≡ t → Judged capacity es (form f) t → Led capacity (f ∷ es)
+    by : (t : Turn) → line-turn (min 512 capacity) (r .state) (r .leaves) (form f) ≡ t → Judged capacity es (form f) t → Led capacity (f ∷ es)
     by t q (goes {S = S} {n = n} d a) = record {
       state = S;
       leaves = n;
@@ -211,10 +211,10 @@ leads capacity [] h = record { state = start; leaves = 0; agrees = agrees-start;
 leads capacity (f ∷ es) (h, c) = leads-on capacity es f (leads capacity es h) h c
 
 -- The machine stops at the first rule that a line breaks, and at the end of lines that are not those of a plan.
-stops-line : (capacity : ℕ) {S : State} {n : ℕ} {es : List Form} {k : ℕ} (x : Line) (i : ℕ) (xs : List Line) → Agrees S n es → NoneBroken capacity es →
+stops-line : (capacity : ℕ) {S : ParserState} {n : ℕ} {es : List Form} {k : ℕ} (x : Line) (i : ℕ) (xs : List Line) → Agrees S n es → NoneBroken capacity es →
     Breaks capacity es x k → ((i : ℕ) → i < k → ¬ Breaks capacity es x i) → through (min 512 capacity) S n i (x ∷ xs) ≡ refused k i
 unfolding through
-stops-line capacity {S} {n} {es} {k} x i xs a h b c = by x (turn (min 512 capacity) S n x) b c (judge capacity a h x)
+stops-line capacity {S} {n} {es} {k} x i xs a h b c = by x (line-turn (min 512 capacity) S n x) b c (judge capacity a h x)
   where
     by : (x : Line) (t : Turn) → Breaks capacity es x k → ((i : ℕ) → i < k → ¬ Breaks capacity es x i) → Judged capacity es x t →
         onwards t i (λ S′ n′. through (min 512 capacity) S′ n′ (i + 1) xs) ≡ refused k i
@@ -228,7 +228,7 @@ stops-line capacity {S} {n} {es} {k} x i xs a h b c = by x (turn (min 512 capaci
           | no h ↦ absurd (c k′ (omega arith) d)
         ]
 
-stops-end : (capacity : ℕ) {S : State} {n : ℕ} {es : List Form} (i : ℕ) → Agrees S n es → ¬ PlanLines (reverse es) →
+stops-end : (capacity : ℕ) {S : ParserState} {n : ℕ} {es : List Form} (i : ℕ) → Agrees S n es → ¬ PlanLines (reverse es) →
     through (min 512 capacity) S n i [] ≡ refused 2 i
 unfolding through
 stops-end capacity {S} {n} {es} i a o = by (ending S)

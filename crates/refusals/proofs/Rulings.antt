@@ -14,7 +14,7 @@ use Rattle.model.specs.Places.{pick}
 use Rattle.text.specs.declared.Form.{Form}
 use Rattle.text.specs.declared.Form.the-variants.{Task, Fun, Then, Else, Close, Leaf, Call, Loop, If}
 use Rattle.text.specs.Grammar.{Line, form}
-use Rattle.reader.specs.Machine.{unless, fault}
+use Rattle.reader.specs.Machine.{refuse-unless, fault}
 use Rattle.refusals.specs.Refusal.{PlanLines, LeafLine, of-leaf, of-call, of-loop, of-if, leaves-among, functions-among, own-function, innermost, open-brackets, LevelAt, own-level, called-level, Breaks, no-line, nesting, deadline-range, switch-range, cost-range, target-range, bound-range, leaf-count, row-count, function-count, load, target, bracket-depth, level-depth, NoneBroken}
 use Rattle.refusals.proofs.Measures.{highest, height-of, height-bounds, height-met}
 
@@ -95,20 +95,20 @@ test-7 d L hs (If k c m) = leb L 32 && ltb d 64
 
 -- The number of the first of five tests that fails, 0 if none does; and how the machine's tests of each kind of line make up such a chain.
 abbrev chain : Bool → Bool → Bool → Bool → Bool → ℕ
-chain a b c d e = unless a 3 (unless b 4 (unless c 5 (unless d 6 (unless e 7 0))))
+chain a b c d e = refuse-unless a 3 (refuse-unless b 4 (refuse-unless c 5 (refuse-unless d 6 (refuse-unless e 7 0))))
 
-three : (a b c y : Bool) → unless a 3 (unless b 3 (unless c 3 (unless y 7 0))) ≡ chain (a && (b && c)) true true true y
+three : (a b c y : Bool) → refuse-unless a 3 (refuse-unless b 3 (refuse-unless c 3 (refuse-unless y 7 0))) ≡ chain (a && (b && c)) true true true y
 three false b c y = refl
 three true false c y = refl
 three true true false y = refl
 three true true true y = refl
 
-two : (a b e g h x : Bool) → unless a 3 (unless b 3 (unless e 4 (unless g 5 (unless h 6 (unless x 7 0))))) ≡ chain (a && b) e g h x
+two : (a b e g h x : Bool) → refuse-unless a 3 (refuse-unless b 3 (refuse-unless e 4 (refuse-unless g 5 (refuse-unless h 6 (refuse-unless x 7 0))))) ≡ chain (a && b) e g h x
 two false b e g h x = refl
 two true false e g h x = refl
 two true true e g h x = refl
 
-twice : (a b e g x y : Bool) → unless a 3 (unless b 3 (unless e 4 (unless g 5 (unless x 7 (unless y 7 0))))) ≡ chain (a && b) e g true (x && y)
+twice : (a b e g x y : Bool) → refuse-unless a 3 (refuse-unless b 3 (refuse-unless e 4 (refuse-unless g 5 (refuse-unless x 7 (refuse-unless y 7 0))))) ≡ chain (a && b) e g true (x && y)
 twice false b e g x y = refl
 twice true false e g x y = refl
 twice true true e g true y = refl
@@ -116,7 +116,7 @@ twice true true false g false y = refl
 twice true true true false false y = refl
 twice true true true true false y = refl
 
-in-front : (a b e g h x : Bool) → unless a 3 (chain b e g h x) ≡ chain (a && b) e g h x
+in-front : (a b e g h x : Bool) → refuse-unless a 3 (chain b e g h x) ≡ chain (a && b) e g h x
 in-front true b e g h x = refl
 in-front false b e g h x = refl
 
@@ -131,11 +131,11 @@ fault-chain room d L n hs Else = refl
 fault-chain room d L n hs Close = refl
 fault-chain room d L n hs (Leaf k c m) = two (leb c (2 ^ 20)) (leb m (2 ^ 20)) (ltb n room) (leb c m) true (leb L 32)
 fault-chain room d L n hs (Call k f c m) =
-    ap (unless (leb f 15) 3) (two (leb c (2 ^ 20)) (leb m (2 ^ 20)) (ltb n room) (leb c m) (ltb f (length hs)) (leb (L + getD hs f 0) 32)) ∙
+    ap (refuse-unless (leb f 15) 3) (two (leb c (2 ^ 20)) (leb m (2 ^ 20)) (ltb n room) (leb c m) (ltb f (length hs)) (leb (L + getD hs f 0) 32)) ∙
     in-front (leb f 15) (costs c m) (ltb n room) (leb c m) (ltb f (length hs)) (leb (L + getD hs f 0) 32)
 fault-chain room d L n hs (Loop k b c m) =
-    ap (λ x. unless (leb 1 b) 3 (unless (leb b 65535) 3 x)) (twice (leb c (2 ^ 20)) (leb m (2 ^ 20)) (ltb n room) (leb c m) (leb L 32) (ltb d 64)) ∙
-    (ap (unless (leb 1 b) 3) (in-front (leb b 65535) (costs c m) (ltb n room) (leb c m) true (leb L 32 && ltb d 64)) ∙
+    ap (λ x. refuse-unless (leb 1 b) 3 (refuse-unless (leb b 65535) 3 x)) (twice (leb c (2 ^ 20)) (leb m (2 ^ 20)) (ltb n room) (leb c m) (leb L 32) (ltb d 64)) ∙
+    (ap (refuse-unless (leb 1 b) 3) (in-front (leb b 65535) (costs c m) (ltb n room) (leb c m) true (leb L 32 && ltb d 64)) ∙
     in-front (leb 1 b) (leb b 65535 && costs c m) (ltb n room) (leb c m) true (leb L 32 && ltb d 64))
 fault-chain room d L n hs (If k c m) = twice (leb c (2 ^ 20)) (leb m (2 ^ 20)) (ltb n room) (leb c m) (leb L 32) (ltb d 64)
 

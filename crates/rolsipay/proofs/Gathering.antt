@@ -12,54 +12,46 @@ use Rattle.model.specs.declared.Call.{Call}
 use Rattle.table.specs.declared.Head.{Head}
 use Rattle.table.specs.Table.{Table, table-at}
 use Rattle.control.specs.declared.State as control
+use Rattle.control.specs.declared.Step.{Step}
 use Rattle.control.specs.Calls.{call-on, as-step}
 use Rattle.rolsipay.specs.declared.Leaf.{Leaf}
 use Rattle.rolsipay.specs.declared.State.{State}
 use Rattle.rolsipay.specs.declared.Moved.{Moved}
 use Rattle.rolsipay.specs.Lent.{fields, numbers, table-with}
-use Rattle.rolsipay.specs.Private.{no-leaf, with-record, with-leaf, gathered, table-on}
-use Rattle.rolsipay.specs.Calling.{call-with, called}
+use Rattle.rolsipay.specs.Private.{blank-leaf, with-leaf, gathered, table-on}
+use Rattle.rolsipay.specs.Calling.{state-of, moved, call-with, called}
 use Rattle.rolsipay.proofs.Steps.{length-gathered}
 
 -- A call on parts of the array is one on its table.
-pub same-call : (room : ℕ) (xs : List ℕ) (n : ℕ) (h : Head) (s t : control.State) (c d : Call) → t ≡ s → d ≡ c
-    → as-step (call-on (table-at (take (n * 8) xs) (take (room * 8 + n - room * 8) (drop (room * 8) xs)) (take (room * 8 + room + n - (room * 8 + room)) (drop (room * 8 + room) xs))
-    (take (room * 8 + room + room + n - (room * 8 + room + room)) (drop (room * 8 + room + room) xs)) h) t d) ≡ as-step (call-on (table-on room xs n h) s c)
-same-call room xs n h s t c d e f =
+pub same-call :
+    (room : ℕ) (xs : List ℕ) (n : ℕ) (h : Head) (s : State) (c : Call) {t : control.State} {d : Call} {step : Step} {m : Moved}
+    → t ≡ state-of s → d ≡ c
+    → step ≡ as-step (call-on (table-at (take (n * 8) xs) (take (room * 8 + n - room * 8) (drop (room * 8) xs))
+    (take (room * 8 + room + n - (room * 8 + room)) (drop (room * 8 + room) xs))
+    (take (room * 8 + room + room + n - (room * 8 + room + room)) (drop (room * 8 + room + room) xs)) h) t d)
+    → m ≡ moved s step → m ≡ call-with (table-on room xs n h) s c
+same-call room xs n h s c e f g z =
     let k : room * 8 + n - room * 8 ≡ n = omega arith in
     let l : room * 8 + room + n - (room * 8 + room) ≡ n = omega arith in
-    let m : room * 8 + room + room + n - (room * 8 + room + room) ≡ n = omega arith in
-    rw (k, l, m, e, f) refl
-
--- Writing a raw record is storing its eight numbers.
-record-stored : (xs : List ℕ) (k : ℕ) (l : Leaf) → with-record xs k l ≡ sets xs k (fields l)
-record-stored xs k l =
-    let e₀ : k + 0 ≡ k = omega arith in
-    let e₁ : k + 1 ≡ suc k = omega arith in
-    let e₂ : k + 2 ≡ suc (suc k) = omega arith in
-    let e₃ : k + 3 ≡ suc (suc (suc k)) = omega arith in
-    let e₄ : k + 4 ≡ suc (suc (suc (suc k))) = omega arith in
-    let e₅ : k + 5 ≡ suc (suc (suc (suc (suc k)))) = omega arith in
-    let e₆ : k + 6 ≡ suc (suc (suc (suc (suc (suc k))))) = omega arith in
-    let e₇ : k + 7 ≡ suc (suc (suc (suc (suc (suc (suc k)))))) = omega arith in
-    rw (e₀, e₁, e₂, e₃, e₄, e₅, e₆, e₇) refl
+    let o : room * 8 + room + room + n - (room * 8 + room + room) ≡ n = omega arith in
+    z ∙ ap (λ (r : Step). moved s r) (rw (k, l, o, e, f) at g)
 
 -- One leaf more in the raw row.
 rows-next : (room : ℕ) (xs : List ℕ) (k : ℕ) (l : Leaf) → k < room → length xs ≡ room * 11 → take (suc k * 8) (with-leaf room xs k l) ≡ take (k * 8) xs ++ fields l
 rows-next room xs k l h w =
-    let r : List ℕ = with-record xs (k * 8) l in
+    let r : List ℕ = sets xs (k * 8) (fields l) in
     let a : List ℕ = set r (room * 8 + k) (l .turn) in
     let b : List ℕ = set a (room * 8 + room + k) (l .tail) in
     let front : List ℕ = take (k * 8) xs ++ fields l in
     let size : length front ≡ suc k * 8 = omega (arith, length-append (take (k * 8) xs) (fields l), length-take-le (k * 8) xs (omega arith)) in
     take-set-le (suc k * 8) b (room * 8 + room + room + k) (l .stretch) (omega arith) ∙ (take-set-le (suc k * 8) a (room * 8 + room + k) (l .tail) (omega arith) ∙
     (take-set-le (suc k * 8) r (room * 8 + k) (l .turn) (omega arith) ∙
-    (ap (λ (z : List ℕ). take (suc k * 8) z) (record-stored xs (k * 8) l ∙ sets-eq (fields l) xs (k * 8) (omega arith)) ∙
+    (ap (λ (z : List ℕ). take (suc k * 8) z) (sets-eq (fields l) xs (k * 8) (omega arith)) ∙
     take-at front (drop (k * 8 + 8) xs) (suc k * 8) size)))
 
 -- One leaf more in each column.
-record-apart : (xs : List ℕ) (k : ℕ) (l : Leaf) (n : ℕ) → k * 8 + 8 ≤ n → drop n (with-record xs (k * 8) l) ≡ drop n xs
-record-apart xs k l n h = ap (λ (z : List ℕ). drop n z) (record-stored xs (k * 8) l) ∙ apart (fields l) xs (k * 8) (omega arith)
+record-apart : (xs : List ℕ) (k : ℕ) (l : Leaf) (n : ℕ) → k * 8 + 8 ≤ n → drop n (sets xs (k * 8) (fields l)) ≡ drop n xs
+record-apart xs k l n h = apart (fields l) xs (k * 8) (omega arith)
   where
     apart : (ys zs : List ℕ) (j : ℕ) → j + length ys ≤ n → drop n (sets zs j ys) ≡ drop n zs
     apart [] zs j r = refl
@@ -86,7 +78,7 @@ module _ (room : ℕ) (xs : List ℕ) (k : ℕ) (l : Leaf) (h : k < room) (w : l
   stretches = room * 8 + room + room
 
   abbrev raws : List ℕ
-  raws = with-record xs (k * 8) l
+  raws = sets xs (k * 8) (fields l)
 
   abbrev with-turn : List ℕ
   with-turn = set raws (turns + k) (l .turn)
@@ -95,7 +87,7 @@ module _ (room : ℕ) (xs : List ℕ) (k : ℕ) (l : Leaf) (h : k < room) (w : l
   with-tail = set with-turn (tails + k) (l .tail)
 
   raws-wide : length raws ≡ room * 11
-  raws-wide = ap length (record-stored xs (k * 8) l) ∙ (length-sets xs (k * 8) (fields l) ∙ w)
+  raws-wide = length-sets xs (k * 8) (fields l) ∙ w
 
   turns-next : take (suc k) (drop turns (with-leaf room xs k l)) ≡ take k (drop turns xs) ++ (l .turn ∷ [])
   turns-next =
@@ -127,18 +119,18 @@ module _ (room : ℕ) (ls : List Leaf) where
   rows-are : (k : ℕ) (xs : List ℕ) → k ≤ length ls → k ≤ room → length xs ≡ room * 11 → take (k * 8) (gathered room ls k xs) ≡ numbers (take k ls)
   rows-are zero xs h r w = refl
   rows-are (suc k) xs h r w =
-      let l : Leaf = getD ls k no-leaf in
+      let l : Leaf = getD ls k blank-leaf in
       rows-next room (gathered room ls k xs) k l (omega arith) (length-gathered room ls k xs ∙ w) ∙ (ap (λ (u : List ℕ). u ++ fields l) (rows-are k xs (le-of-lt h) (le-of-lt r) w) ∙
-      (sym (numbers-append (take k ls) (l ∷ [])) ∙ ap (λ (u : List Leaf). numbers u) (sym (take-suc ls k no-leaf h))))
+      (sym (numbers-append (take k ls) (l ∷ [])) ∙ ap (λ (u : List Leaf). numbers u) (sym (take-suc ls k blank-leaf h))))
 
   -- A column after n leaves, given what one leaf more does to it.
   column-is : (base : ℕ) (part : Leaf → ℕ) → ((xs : List ℕ) (k : ℕ) (l : Leaf) → k < room → length xs ≡ room * 11 → take (suc k) (drop base (with-leaf room xs k l)) ≡ take k (drop base xs) ++ (part l ∷ []))
       → (k : ℕ) (xs : List ℕ) → k ≤ length ls → k ≤ room → length xs ≡ room * 11 → take k (drop base (gathered room ls k xs)) ≡ map part (take k ls)
   column-is base part next zero xs h r w = refl
   column-is base part next (suc k) xs h r w =
-      let l : Leaf = getD ls k no-leaf in
+      let l : Leaf = getD ls k blank-leaf in
       next (gathered room ls k xs) k l (omega arith) (length-gathered room ls k xs ∙ w) ∙ (ap (λ (u : List ℕ). u ++ (part l ∷ [])) (column-is base part next k xs (le-of-lt h) (le-of-lt r) w) ∙
-      (sym (map-append part (take k ls) (l ∷ [])) ∙ ap (λ (u : List Leaf). map part u) (sym (take-suc ls k no-leaf h))))
+      (sym (map-append part (take k ls) (l ∷ [])) ∙ ap (λ (u : List Leaf). map part u) (sym (take-suc ls k blank-leaf h))))
 
   -- The table in the array is the one of the first n leaves.
   pub table-gathered : (n : ℕ) (xs : List ℕ) (h : Head) → n ≤ length ls → n ≤ room → length xs ≡ room * 11 → table-on room (gathered room ls n xs) n h ≡ table-with (take n ls) h

@@ -1,4 +1,5 @@
 pub mod Steps
+pub mod Freeing
 pub mod Lending
 pub mod Local
 pub mod Sized

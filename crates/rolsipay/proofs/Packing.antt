@@ -21,7 +21,7 @@ use Rattle.table.proofs.Writing.{leaves-are, row-taken}
 use Rattle.table.proofs.Written.{turns-size, tails-size, stretches-size}
 use Rattle.table.proofs.Theorems.{read-as-plan}
 use Rattle.rolsipay.specs.Lent.{leaf-of}
-use Rattle.rolsipay.specs.Private.{leaf-in, filled, counted, Holds}
+use Rattle.rolsipay.specs.Private.{leaf-in, filled, filled-of, Holds}
 use Rattle.rolsipay.proofs.Stored.{stored-in}
 
 -- The first n leaves' numbers of the four lists, one behind the other.
@@ -138,9 +138,9 @@ told-few o h {raw} e = by-outcome (after-lines o) refl
     by-outcome (refused k j) q = omega arith
 
 -- Answer and head with the number of leaves, from the verdict.
-pub counted-is : (o : Outcome) (h : Head) → counted (verdict-of o h) ≡ filled o h
-counted-is (plan p) h = refl
-counted-is (refused k j) h = refl
+pub filled-of-is : (o : Outcome) (h : Head) → filled-of (verdict-of o h) ≡ filled o h
+filled-of-is (plan p) h = refl
+filled-of-is (refused k j) h = refl
 
 -- The leaves have room in the lent row, and are at most 512.
 pub room-for : (capacity : ℕ) (text : List ℕ) (h : Head) → (filled (verdict capacity text) h .leaves ≤ capacity) × (filled (verdict capacity text) h .leaves ≤ 512)

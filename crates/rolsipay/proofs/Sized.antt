@@ -54,6 +54,7 @@ use Rattle.rolsipay.specs.Lent.{table-with}
 use Rattle.control.specs.Calls.{call-of}
 use Rattle.rolsipay.specs.Private.{gathered, table-on}
 use Rattle.rolsipay.specs.Calling.{call-with}
+use Rattle.rolsipay.proofs.Freeing.{free-at}
 use Rattle.rolsipay.proofs.Local.{as-row, to-parts, to-cell}
 use Rattle.rolsipay.proofs.Gathering.{table-gathered}
 use Rattle.rolsipay.proofs.Leaf as F
@@ -257,9 +258,9 @@ module _ {M : Type 1} (𝓤 : URA M) (H : Heap 𝓤) (A : Atoms 𝓤) (W : Given
           move ! (1 ∷ []) $ split ! $ lft-end ! tt $ move ! (0 ∷ 3 ∷ []) $ lent-back ! tt $ rewrite ! 0 (λ (k : ℕ). ‵ (arr-parts (shares u64) k .part fullShare (ws .1 .0) l₈ 0)) (len ∙ size-is) refl $
           use1 W (some (λ (av : Val). ‵ (fat fullShare (tyArray (tyInt w64) size) l₈ 0 av))) (to-cell 𝓤 H A W size l₈ (ws .1 .0)) $ pick ! (λ av.
           -- [_8; true; what the result owns; the row's token; what the row owns; _13; …; _9; that _8 dies; _7; …; _0]
-          returns ! (look ! 30 refl) $ forget ! 0 refl $ forget ! 5 refl $ forget ! 7 refl $ forget ! 9 refl $ forget ! 11 refl $ forget ! 13 refl $ forget ! 16 refl $ forget ! 18 refl $ forget ! 20 refl $ forget ! 22 refl $ forget ! 24 refl $ forget ! 26 refl $ forget ! 28 refl $ forget ! 30 refl $
-          move ! (30 ∷ 31 ∷ []) $ free1 ! $ move ! (28 ∷ 29 ∷ []) $ free1 ! $ move ! (26 ∷ 27 ∷ []) $ free1 ! $ move ! (24 ∷ 25 ∷ []) $ free1 ! $ move ! (22 ∷ 23 ∷ []) $ free1 ! $ move ! (20 ∷ 21 ∷ []) $ free1 ! $ move ! (18 ∷ 19 ∷ []) $ free1 ! $ move ! (16 ∷ 17 ∷ []) $ free1 ! $
-          move ! (0 ∷ 15 ∷ []) $ free1 ! $ move ! (12 ∷ 13 ∷ []) $ free1 ! $ move ! (10 ∷ 11 ∷ []) $ free1 ! $ move ! (8 ∷ 9 ∷ []) $ free1 ! $ move ! (6 ∷ 7 ∷ []) $ free1 ! $ move ! (4 ∷ 5 ∷ []) $ free1 ! $ free0 ! $
+          returns ! (look ! 30 refl) $ forget ! 0 refl $ free-at ! 30 refl refl $ free-at ! 28 refl refl $ free-at ! 26 refl refl $ free-at ! 24 refl refl $
+          free-at ! 22 refl refl $ free-at ! 20 refl refl $ free-at ! 18 refl refl $ free-at ! 16 refl refl $ move ! (0 ∷ 15 ∷ []) $ free1 ! $
+          free-at ! 12 refl refl $ free-at ! 10 refl refl $ free-at ! 8 refl refl $ free-at ! 6 refl refl $ free-at ! 4 refl refl $ free0 ! $
           nothing ! $ owned ! u64 (Is u64) (uint-makes 𝓤 H A W w64) reading _ (refl, reading-fits) $ fjoin ! $ owned ! u64 (Is u64) (uint-makes 𝓤 H A W w64) point _ (refl, point-fits) $ fjoin ! $ owned ! u64 (Is u64) (uint-makes 𝓤 H A W w64) kind _ (refl, kind-fits) $ fjoin ! $
           owned ! S.the-row (Is S.the-row) (LL.makes S.the-type S′.the-plain 𝓤 H A) s _ s-is $ fjoin ! $ owned ! T.the-row (Is T.the-row) (LL.makes T.the-type T′.the-plain 𝓤 H A) h _ h-is $ fjoin ! $
           owned ! usize (Is usize) (uint-makes 𝓤 H A W w64) n _ (refl, n-fits) $ fjoin ! $ move ! (4 ∷ 0 ∷ []) $ fjoin ! $ move ! (3 ∷ 1 ∷ 0 ∷ 2 ∷ []) $ join ! $ by ! (exits t v (e₂ ∙ ap (λ (u : Table). call-with u s (call-of kind point reading)) (ap (λ (l : List ℕ). table-on room l n h) e ∙ table-gathered room ys n zeros h within few (size-is ∙ wide))))))))))))))))))))))))))))))))))

@@ -14,7 +14,7 @@ use Rattle.table.specs.Reading.{verdict, verdict-of}
 use Rattle.rolsipay.specs.declared.Leaf.{Leaf}
 use Rattle.rolsipay.specs.declared.Filled.{Filled}
 use Rattle.rolsipay.specs.Lent.{leaf-of, leaves-from}
-use Rattle.rolsipay.specs.Private.{no-leaf, leaf-in, spread-over, filled, Holds}
+use Rattle.rolsipay.specs.Private.{blank-leaf, leaf-in, spread-over, filled, Holds}
 use Rattle.rolsipay.specs.Reading.{row-after}
 use Rattle.rolsipay.proofs.Packing.{room-for}
 
@@ -36,8 +36,8 @@ spread-is xs t zero ls h f = refl
 spread-is xs t (suc n) ls h f =
     let before : List Leaf = leaves-from t 0 n in
     let z : 0 + n ≡ n = omega arith in
-    ap (λ (r : List Leaf). set r n (leaf-in xs n)) (spread-is xs t n ls (le-of-lt h) (λ i k. f i (omega arith)) ∙ ap (λ (r : List Leaf). before ++ r) (drop-cons ls n no-leaf h))
-    ∙ (set-at before (getD ls n no-leaf) (drop (suc n) ls) (leaf-in xs n) n (length-leaves t 0 n)
+    ap (λ (r : List Leaf). set r n (leaf-in xs n)) (spread-is xs t n ls (le-of-lt h) (λ i k. f i (omega arith)) ∙ ap (λ (r : List Leaf). before ++ r) (drop-cons ls n blank-leaf h))
+    ∙ (set-at before (getD ls n blank-leaf) (drop (suc n) ls) (leaf-in xs n) n (length-leaves t 0 n)
     ∙ (ap (λ (l : Leaf). before ++ (l ∷ drop (suc n) ls)) (f n (omega arith))
     ∙ (sym (append-snoc before (leaf-of t n) (drop (suc n) ls))
     ∙ ap (λ (r : List Leaf). r ++ drop (suc n) ls) (ap (λ (k : ℕ). before ++ (leaf-of t k ∷ [])) (sym z) ∙ sym (leaves-snoc t 0 n)))))

@@ -7,7 +7,7 @@ use Prim.Native.Nat.{ℕ, zero, suc}
 use lib.Dec.{T}
 use lib.ListN.{length, getD, length-set}
 use Rattle.rolsipay.specs.declared.Leaf.{Leaf}
-use Rattle.rolsipay.specs.Private.{no-leaf, with-leaf, leaf-in, gathered, spread-over}
+use Rattle.rolsipay.specs.Private.{blank-leaf, with-leaf, leaf-in, gathered, spread-over}
 
 -- A test that holds is true, and one that does not is false.
 pub holds : (t : Bool) → T t → t ≡ true
@@ -25,7 +25,7 @@ length-with-leaf room xs i l = simp length-set refl
 -- So does writing those of the first leaves, and making the first leaves those of the numbers.
 pub length-gathered : (room : ℕ) (ls : List Leaf) (i : ℕ) (xs : List ℕ) → length (gathered room ls i xs) ≡ length xs
 length-gathered room ls zero xs = refl
-length-gathered room ls (suc i) xs = length-with-leaf room (gathered room ls i xs) i (getD ls i no-leaf) ∙ length-gathered room ls i xs
+length-gathered room ls (suc i) xs = length-with-leaf room (gathered room ls i xs) i (getD ls i blank-leaf) ∙ length-gathered room ls i xs
 
 pub length-spread : (xs : List ℕ) (i : ℕ) (ls : List Leaf) → length (spread-over xs i ls) ≡ length ls
 length-spread xs zero ls = refl

@@ -3,11 +3,12 @@
 use mathlib.Core.List.{List}
 use Prim.Native.Nat.{ℕ, zero, suc, _+_, _*_, _<_}
 use lib.ListN.{getD, take, set, length, drop}
+use lib.Seq.{sets}
 use Rattle.rows.specs.Rows.{kind-at, point-at, isolated-at, max-load-at, detail-at, other-at, after-at, level-at}
 use Rattle.table.specs.declared.Head.{Head}
 use Rattle.table.specs.Table.{Table, table-at, head-of, table-of}
 use Rattle.rolsipay.specs.declared.Leaf.{Leaf}
-use Rattle.rolsipay.specs.Lent.{leaf-of}
+use Rattle.rolsipay.specs.Lent.{fields, leaf-of}
 use mathlib.Core.Path.{_≡_}
 use Rattle.model.specs.Plan.{Plan}
 use Rattle.model.specs.Acceptance.{sizes}
@@ -16,13 +17,10 @@ use Rattle.reader.specs.declared.Answer.the-variants.{Accepted, Refused}
 use Rattle.reader.specs.Outcome.{Outcome, plan, refused}
 use Rattle.table.specs.declared.Verdict.{Verdict}
 use Rattle.rolsipay.specs.declared.Filled.{Filled}
-use lib.Dec.{eqb}
-use Rattle.model.specs.Places.{pick}
-use Rattle.control.specs.declared.State as control
 
 -- What is taken for a leaf past the end of a row.
-abbrev pub no-leaf : Leaf
-no-leaf =
+abbrev pub blank-leaf : Leaf
+blank-leaf =
     record {
       kind = 0;
       point = 0;
@@ -38,15 +36,9 @@ no-leaf =
     }
 
 -- The numbers once the leaf's are written at its place i: its raw record, and its entry in each column.
-abbrev with-half : List ℕ → ℕ → Leaf → List ℕ
-with-half xs k l = set (set (set (set xs (k + 0) (l .kind)) (k + 1) (l .point)) (k + 2) (l .isolated)) (k + 3) (l .«max_load»)
-
-abbrev pub with-record : List ℕ → ℕ → Leaf → List ℕ
-with-record xs k l = set (set (set (set (with-half xs k l) (k + 4) (l .detail)) (k + 5) (l .other)) (k + 6) (l .after)) (k + 7) (l .level)
-
 abbrev pub with-leaf : ℕ → List ℕ → ℕ → Leaf → List ℕ
 with-leaf room xs i l =
-    set (set (set (with-record xs (i * 8) l) (room * 8 + i) (l .turn)) (room * 8 + room + i) (l .tail)) (room * 8 + room + room + i) (l .stretch)
+    set (set (set (sets xs (i * 8) (fields l)) (room * 8 + i) (l .turn)) (room * 8 + room + i) (l .tail)) (room * 8 + room + room + i) (l .stretch)
 
 -- The leaf whose numbers stand at the place i, of 512.
 abbrev pub leaf-in : List ℕ → ℕ → Leaf
@@ -68,7 +60,7 @@ leaf-in xs i =
 -- The numbers once those of the first n leaves are written.
 abbrev pub gathered : ℕ → List Leaf → ℕ → List ℕ → List ℕ
 gathered room ls zero xs = xs
-gathered room ls (suc i) xs = with-leaf room (gathered room ls i xs) i (getD ls i no-leaf)
+gathered room ls (suc i) xs = with-leaf room (gathered room ls i xs) i (getD ls i blank-leaf)
 
 -- The leaves once the first n are those of the numbers.
 abbrev pub spread-over : List ℕ → ℕ → List Leaf → List Leaf
@@ -85,8 +77,8 @@ abbrev pub count-of : Answer → Head → Filled
 count-of Accepted h = record { answer = Accepted; head = h; leaves = h .leaves }
 count-of (Refused k j) h = record { answer = Refused k j; head = h; leaves = 0 }
 
-abbrev pub counted : Verdict → Filled
-counted v = count-of (v .answer) (v .head)
+abbrev pub filled-of : Verdict → Filled
+filled-of v = count-of (v .answer) (v .head)
 
 -- An array of all numbers holds the leaves of the plan that was read, if one was.
 pub record Holds (o : Outcome) (xs : List ℕ) : Type 0 where

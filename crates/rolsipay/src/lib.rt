@@ -5,7 +5,7 @@ ghost use lib.ListN.{length, take};
 ghost use lib.Seq.{sets};
 ghost use Rattle.table.specs.Reading.{verdict, verdict-of};
 ghost use Rattle.control.specs.Calls.{call-of};
-ghost use Rattle.rolsipay.specs.Private.{with-leaf, leaf-in, gathered, spread-over, table-on, filled, counted, Holds};
+ghost use Rattle.rolsipay.specs.Private.{with-leaf, leaf-in, gathered, spread-over, table-on, filled, filled-of, Holds};
 ghost use Rattle.model.specs.Places.{bit};
 ghost use Rattle.model.specs.declared.Call.the-variants.{Release, Report, End};
 ghost use Rattle.rolsipay.specs.Lent.{table-with};
@@ -107,6 +107,11 @@ const TAILS: usize = TURNS + MAX_LEAVES;
 
 const STRETCHES: usize = TAILS + MAX_LEAVES;
 
+// The numbers of an array for the most leaves, and of a small one: for each leaf its record and an entry in each of the three columns.
+const NUMBERS: usize = STRETCHES + MAX_LEAVES;
+
+const FEW_NUMBERS: usize = FEW * (STRIDE + 3);
+
 // The lesser of two.
 fn least(a: usize, b: usize) -> usize
     ensures { λ r. ⌜ r ≡ min a b ⌝ }
@@ -122,30 +127,44 @@ fn used(records: usize, head: Head) -> usize
     least(most, head.leaves)
 }
 
+// Writes the numbers from this place on.
+fn store_at(numbers: &[u64], out: &mut [u64], from: usize)
+    requires { ⌜ from + length (now numbers) ≤ length (now out) ⌝ }
+    ensures { λ _. ⌜ now (out .exit) ≡ sets (now (out .entry)) from (now (numbers .entry)) ⌝ }
+{
+    let mut i = 0;
+    while i < numbers.len() {
+        out[from + i] = numbers[i];
+        i += 1;
+    }
+}
+
 // Writes the numbers of a leaf at its place, in an array with room for so many leaves: the raw row, then the columns.
 fn put(out: &mut [u64], room: usize, i: usize, leaf: Leaf)
     requires { ⌜ (i < room) × (room ≤ 512) × (length (now out) ≡ room * 11) ⌝ }
     ensures { λ _. ⌜ now (out .exit) ≡ with-leaf room (now (out .entry)) i leaf ⌝ }
 {
-    let k = i * STRIDE;
+    let record = [
+        leaf.kind,
+        leaf.point,
+        leaf.isolated,
+        leaf.max_load,
+        leaf.detail,
+        leaf.other,
+        leaf.after,
+        leaf.level,
+    ];
+    store_at(&record, out, i * STRIDE);
     let turns = room * STRIDE;
     let tails = turns + room;
     let stretches = tails + room;
-    out[k + KIND] = leaf.kind;
-    out[k + POINT] = leaf.point;
-    out[k + ISOLATED] = leaf.isolated;
-    out[k + MAX_LOAD] = leaf.max_load;
-    out[k + DETAIL] = leaf.detail;
-    out[k + OTHER] = leaf.other;
-    out[k + AFTER] = leaf.after;
-    out[k + LEVEL] = leaf.level;
     out[turns + i] = leaf.turn;
     out[tails + i] = leaf.tail;
     out[stretches + i] = leaf.stretch;
 }
 
 // The leaf whose numbers stand at this place.
-fn leaf_at(xs: &[u64; 5632], i: usize) -> Leaf
+fn leaf_at(xs: &[u64; NUMBERS], i: usize) -> Leaf
     requires { ⌜ (i < 512) × (length (now xs) ≡ 5632) ⌝ }
     ensures { λ r. ⌜ r ≡ leaf-in (now (xs .entry)) i ⌝ }
 {
@@ -178,7 +197,7 @@ fn gather(row: &[Leaf], out: &mut [u64], room: usize, n: usize)
 }
 
 // Makes the first n leaves those of the numbers; the others keep their values.
-fn spread(row: &mut [Leaf], n: usize, xs: &[u64; 5632])
+fn spread(row: &mut [Leaf], n: usize, xs: &[u64; NUMBERS])
     requires { ⌜ (n ≤ length (now row)) × (n ≤ 512) × (length (now xs) ≡ 5632) ⌝ }
     ensures { λ _. ⌜ now (row .exit) ≡ spread-over (now (xs .entry)) n (now (row .entry)) ⌝ }
 {
@@ -189,21 +208,9 @@ fn spread(row: &mut [Leaf], n: usize, xs: &[u64; 5632])
     }
 }
 
-// Writes the numbers from this place on.
-fn store_at(numbers: &[u64], out: &mut [u64; 5632], from: usize)
-    requires { ⌜ (from + length (now numbers) ≤ 5632) × (length (now out) ≡ 5632) ⌝ }
-    ensures { λ _. ⌜ now (out .exit) ≡ sets (now (out .entry)) from (now (numbers .entry)) ⌝ }
-{
-    let mut i = 0;
-    while i < numbers.len() {
-        out[from + i] = numbers[i];
-        i += 1;
-    }
-}
-
 // Answer and head, with the number of leaves that go into the row.
 fn count(said: Verdict) -> Filled
-    ensures { λ r. ⌜ r ≡ counted said ⌝ }
+    ensures { λ r. ⌜ r ≡ filled-of said ⌝ }
 {
     let answer = said.answer;
     let head = said.head;
@@ -222,7 +229,7 @@ fn count(said: Verdict) -> Filled
 }
 
 // Reads a plan for a row of so many records; the numbers of its leaves are written.
-fn read_numbers(out: &mut [u64; 5632], text: &[u8], capacity: usize, head: Head) -> Filled
+fn read_numbers(out: &mut [u64; NUMBERS], text: &[u8], capacity: usize, head: Head) -> Filled
     requires { ⌜ length (now out) ≡ 5632 ⌝ }
     ensures { λ r. ⌜ (r ≡ filled (verdict capacity (now (text .entry))) head) × Holds (verdict capacity (now (text .entry))) (now (out .exit)) ⌝ }
 {
@@ -256,7 +263,7 @@ pub fn read(text: &[u8], row: &mut [Leaf], head: &mut Head) -> Answer
         × (now (row .exit) ≡ row-after (verdict (length (now (row .entry))) (now (text .entry))) (now (row .entry)))
         × (now (head .exit) ≡ verdict-of (verdict (length (now (row .entry))) (now (text .entry))) (now (head .entry)) .head) ⌝ }
 {
-    let mut numbers = [0u64; 5632];
+    let mut numbers = [0u64; NUMBERS];
     let capacity = row.len();
     let before = *head;
     let told = read_numbers(&mut numbers, text, capacity, before);
@@ -459,7 +466,7 @@ fn call_small(
     requires { ⌜ (n ≤ length (now row)) × (n ≤ 64) ⌝ }
     ensures { λ r. ⌜ r ≡ call-with (table-with (take n (now (row .entry))) head) state (call-of kind point reading) ⌝ }
 {
-    let mut numbers = [0u64; 704];
+    let mut numbers = [0u64; FEW_NUMBERS];
     gather(row, &mut numbers, FEW, n);
     call_on(&numbers, FEW, n, head, state, kind, point, reading)
 }
@@ -477,7 +484,7 @@ fn call_large(
     requires { ⌜ (n ≤ length (now row)) × (n ≤ 512) ⌝ }
     ensures { λ r. ⌜ r ≡ call-with (table-with (take n (now (row .entry))) head) state (call-of kind point reading) ⌝ }
 {
-    let mut numbers = [0u64; 5632];
+    let mut numbers = [0u64; NUMBERS];
     gather(row, &mut numbers, MAX_LEAVES, n);
     call_on(&numbers, MAX_LEAVES, n, head, state, kind, point, reading)
 }

@@ -112,8 +112,8 @@ good t = found (plan-of t)
 -- THE TABLE IN LENT MEMORY
 
 -- A head of zeros.
-abbrev pub zeros : Head
-zeros =
+abbrev pub zero-head : Head
+zero-head =
     record {
       deadline = 0;
       switch = 0;

@@ -7,7 +7,7 @@ ghost use Rattle.model.specs.Plan.{Plan};
 ghost use Rattle.model.specs.Acceptance.{sizes};
 ghost use Rattle.rows.specs.Answers.{Says};
 ghost use Rattle.structure.specs.Plans.{Structured};
-ghost use Rattle.table.specs.Table.{zeros, table-at, good};
+ghost use Rattle.table.specs.Table.{zero-head, table-at, good};
 ghost use Rattle.reader.specs.Outcome.{Outcome, refused};
 ghost use Rattle.table.specs.Reading.{after-lines, verdict, verdict-of, stored, Wide, RawOf, ColumnsWritten};
 ghost use Rattle.table.specs.Private.{HeadRanged, Derives, Agrees, headed};
@@ -53,7 +53,7 @@ pub struct Verdict {
 
 // A head of zeros, to hand in where no plan was read before.
 pub fn no_head() -> Head
-    ensures { λ r. ⌜ r ≡ zeros ⌝ }
+    ensures { λ r. ⌜ r ≡ zero-head ⌝ }
 {
     Head {
         deadline: 0,
@@ -292,7 +292,8 @@ pub fn judge(
 ) -> Verdict
     requires { ⌜ ((o : Outcome) × RawOf o raw (now row)) × Wide (now turns) (now tails) (now stretches) ⌝ }
     ensures { λ r. ⌜ ((o : Outcome) → RawOf o raw (now (row .entry)) → r ≡ verdict-of (after-lines o) head) ⌝ }
-    ensures { λ _. ⌜ ((o : Outcome) → RawOf o raw (now (row .entry)) → ColumnsWritten (after-lines o) (now (turns .exit)) (now (tails .exit)) (now (stretches .exit))) ⌝ }
+    ensures { λ _. ⌜ ((o : Outcome) → RawOf o raw (now (row .entry))
+        → ColumnsWritten (after-lines o) (now (turns .exit)) (now (tails .exit)) (now (stretches .exit))) ⌝ }
     ensures { λ _. ⌜ Wide (now (turns .exit)) (now (tails .exit)) (now (stretches .exit)) ⌝ }
 {
     let answer = raw.answer;

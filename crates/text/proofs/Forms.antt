@@ -3,16 +3,18 @@
 use Prim.Native.Nat.{ℕ, _^_}
 use mathlib.Core.Path.{_≡_, refl}
 use mathlib.Core.List.{List}
-use mathlib.Core.Bool.{true, false}
+use mathlib.Core.Bool.{Bool, true, false}
 use native.Mathlib.Omega.{arith}
 use lib.ListN.{length, getD}
 use Rattle.text.specs.declared.Shown.{Shown}
 use Rattle.text.specs.declared.Form.{Form}
 use Rattle.text.specs.declared.Form.the-variants.{Task, Leaf, Call, Loop, If}
-use Rattle.text.specs.declared.Read.the-variants.{Unread, Line}
+use Rattle.text.specs.declared.Read.{Read}
+use Rattle.text.specs.declared.Read.the-variants.{Line}
 use Rattle.text.specs.Text.{bytes, line-at, line-end}
-use Rattle.text.specs.Patterns.{ShownAt}
-use Rattle.text.specs.Grammar.{nth, form, no-form, line-form, cap-form, read-at}
+use Rattle.text.specs.Patterns.{matched, miss, ShownAt}
+use Rattle.text.specs.Grammar as grammar
+use Rattle.text.specs.Grammar.{nth, or-else, cap-form, answered}
 use Rattle.text.proofs.Filled.{arity, kindless, once, filled}
 use Rattle.text.proofs.Laws.{number-stored}
 
@@ -60,13 +62,13 @@ module _ {s : List ℕ} {at : ℕ} {row row′ : List ℕ} {f : Shown} {e : ℕ}
       let n : length (w .numbers) ≡ 2 = count-of (bytes "(if K C M") refl w in
       rw (number-stored w 0 (omega arith) (omega arith), number-stored w 1 (omega arith) (omega arith))
 
--- What is answered where the line is a form, and where it is none.
-module _ (s : List ℕ) (at : ℕ) where
-  pub answer-form : {f : Form} {e : ℕ} (g : Form) → f ≡ cap-form g → e ≡ line-end s at → line-form (line-at s at) ≡ form g
-      → Line f e ≡ read-at s at
-  unfolding read-at
-  answer-form g p q r = rw (p, q, r)
+-- What is answered where a pattern fits the line; and where it does not, the other patterns decide.
+module _ (s : List ℕ) (at : ℕ) (p : List ℕ) (F : Bool → List ℕ → Form) (other : grammar.Line) where
+  pub answer-fit : {limit : ℕ} {row row′ : List ℕ} {f : Shown} {e : ℕ} {g : Form} (w : ShownAt limit s at p row row′ f e)
+      → g ≡ cap-form (F (f .kind) (w .numbers))
+      → Line g e ≡ answered (line-end s at) (or-else (matched p false (line-at s at)) F other)
+  answer-fit w h = rw (h, w .after, w .fits)
 
-  pub answer-none : line-form (line-at s at) ≡ no-form → Unread ≡ read-at s at
-  unfolding read-at
-  answer-none r = rw r
+  pub answer-miss : {r : Read} → matched p false (line-at s at) ≡ miss → r ≡ answered (line-end s at) other
+      → r ≡ answered (line-end s at) (or-else (matched p false (line-at s at)) F other)
+  answer-miss w h = rw w h

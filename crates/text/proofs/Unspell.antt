@@ -25,11 +25,11 @@ pub spells-read : (l : List ℕ) (g : Form) → line-form l ≡ form g → l ≡
 unfolding line-form spell spelled once kindless
 spells-read l g e =
     try _ _ _ g l e (λ k v h. filled (bytes "(task D T") false l k v refl h .text) λ e.
-    try _ _ _ g l e (λ k v h. filled (bytes "(fun") false l k v refl h .text) λ e.
     try _ _ _ g l e (λ k v h. filled (bytes "(leaf K C M)") false l k v refl h .text) λ e.
     try _ _ _ g l e (λ k v h. filled (bytes "(call K F C M)") false l k v refl h .text) λ e.
     try _ _ _ g l e (λ k v h. filled (bytes "(loop K B C M") false l k v refl h .text) λ e.
     try _ _ _ g l e (λ k v h. filled (bytes "(if K C M") false l k v refl h .text) λ e.
+    try _ _ _ g l e (λ k v h. filled (bytes "(fun") false l k v refl h .text) λ e.
     try _ _ _ g l e (λ k v h. filled (bytes "(then") false l k v refl h .text) λ e.
     try _ _ _ g l e (λ k v h. filled (bytes "(else") false l k v refl h .text) λ e.
     try _ _ _ g l e (λ k v h. filled (bytes ")") false l k v refl h .text) λ e. never-form e

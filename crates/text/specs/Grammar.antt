@@ -30,18 +30,25 @@ like pattern l = or-else (matched (bytes pattern) false l)
 abbrev pub nth : List ℕ → ℕ → ℕ
 nth v i = getD v i 0
 
-unfoldable pub line-form : List ℕ → Line
-line-form l =
-    like "(task D T" l (λ k v. Task (nth v 0) (nth v 1))
-    (like "(fun" l (λ k v. Fun)
-    (like "(leaf K C M)" l (λ k v. Leaf k (nth v 0) (nth v 1))
-    (like "(call K F C M)" l (λ k v. Call k (nth v 0) (nth v 1) (nth v 2))
-    (like "(loop K B C M" l (λ k v. Loop k (nth v 0) (nth v 1) (nth v 2))
-    (like "(if K C M" l (λ k v. If k (nth v 0) (nth v 1))
+-- A line without numbers, or none of the forms.
+abbrev pub plain-form : List ℕ → Line
+plain-form l =
+    like "(fun" l (λ k v. Fun)
     (like "(then" l (λ k v. Then)
     (like "(else" l (λ k v. Else)
-    (like ")" l (λ k v. Close)
-    no-form))))))))
+    (like ")" l (λ k v. Close) no-form)))
+
+-- The line of a leaf (01: leaf, call, loop and if lines are leaves), with its kind and costs; or one without numbers, or none of the forms.
+abbrev pub block-form : List ℕ → Line
+block-form l =
+    like "(leaf K C M)" l (λ k v. Leaf k (nth v 0) (nth v 1))
+    (like "(call K F C M)" l (λ k v. Call k (nth v 0) (nth v 1) (nth v 2))
+    (like "(loop K B C M" l (λ k v. Loop k (nth v 0) (nth v 1) (nth v 2))
+    (like "(if K C M" l (λ k v. If k (nth v 0) (nth v 1)) (plain-form l))))
+
+-- Any line: the task's, a leaf's, or one without numbers; or none of the forms.
+unfoldable pub line-form : List ℕ → Line
+line-form l = like "(task D T" l (λ k v. Task (nth v 0) (nth v 1)) (block-form l)
 
 -- A form with its numbers held at 2^41: no range of 01 goes so far.
 abbrev cap : ℕ → ℕ

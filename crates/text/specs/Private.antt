@@ -12,8 +12,10 @@ use Rattle.text.specs.declared.Num.the-variants.{No, Over, At}
 use Rattle.text.specs.declared.Shown.{Shown}
 use Rattle.text.specs.declared.Fitted.{Fitted}
 use Rattle.text.specs.declared.Fitted.the-variants.{Misfit, Fit}
+use Rattle.text.specs.declared.Read.{Read}
 use Rattle.text.specs.Text.{line-at, line-end}
 use Rattle.text.specs.Patterns.{class-of, is-upper, digits, number, none, some, misfit, fit, fit-kind, fit-number, item, capped}
+use Rattle.text.specs.Grammar.{plain-form, block-form, answered}
 
 -- The table of classes has the class of each byte.
 pub record Classed (t : List ℕ) : Type 0 where
@@ -66,7 +68,15 @@ CapitalAt limit s at t row row′ f Misfit = (item t (line-at s at) ≡ misfit) 
 CapitalAt limit s at t row row′ f (Fit g e) = Onward s at e × (KindTaken s at t row row′ f g e ⊎ NumberTaken limit s at t row row′ f g e)
 
 -- A pattern whose first two signs stand for themselves.
-pub record Worded (p : List ℕ) : Type 0 where
+pub record LiteralStart (p : List ℕ) : Type 0 where
   pub long : 2 ≤ length p
   pub bracket : is-upper (getD p 0 0) ≡ false
   pub letter : is-upper (getD p 1 0) ≡ false
+
+-- What reading a line without numbers at a place answers.
+unfoldable pub plain-line-at : List ℕ → ℕ → Read
+plain-line-at s at = answered (line-end s at) (plain-form (line-at s at))
+
+-- The same of the line of a leaf, or one without numbers.
+unfoldable pub block-line-at : List ℕ → ℕ → Read
+block-line-at s at = answered (line-end s at) (block-form (line-at s at))

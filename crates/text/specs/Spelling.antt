@@ -2,7 +2,7 @@
 -- Assumes nothing: these are definitions.
 use Prim.Native.Nat.{ℕ, zero, suc, _+_, _/_, _%_}
 use mathlib.Core.List.{List, [], _∷_, _++_}
-use mathlib.Core.Bool.{Bool, true, false, cond as pick}
+use mathlib.Core.Bool.{Bool, cond as pick}
 use lib.Dec.{ltb}
 use Rattle.text.specs.declared.Form.{Form}
 use Rattle.text.specs.declared.Form.the-variants.{Task, Fun, Then, Else, Close, Leaf, Call, Loop, If}
@@ -12,16 +12,14 @@ use Rattle.text.specs.Text.{bytes}
 unfoldable pub numerals : ℕ → ℕ → List ℕ
 numerals zero n = []
 numerals (suc k) n =
-    let more = numerals k (n / 10) ++ ((n % 10 + 48) ∷ []) in
-    pick (ltb n 10) ((n + 48) ∷ []) more
+    let more = numerals k (n / 10) ++ ((n % 10 + 48) ∷ []) in pick (ltb n 10) ((n + 48) ∷ []) more
 
 unfoldable pub decimal : ℕ → List ℕ
 decimal n = numerals (suc n) n
 
 -- The text of a line, with its line feed.
 abbrev pub kind-text : Bool → List ℕ
-kind-text true = bytes "p"
-kind-text false = bytes "s"
+kind-text k = pick k (bytes "p") (bytes "s")
 
 unfoldable pub spell : Form → List ℕ
 spell (Task d t) = bytes "(task " ++ (decimal d ++ (bytes " " ++ (decimal t ++ bytes "\n")))

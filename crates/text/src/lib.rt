@@ -7,7 +7,7 @@ ghost use lib.ListN.{set};
 ghost use lib.Dec.{ltb};
 ghost use Rattle.text.specs.Patterns.{class-of, is-upper, MatchAt};
 ghost use Rattle.text.specs.Grammar.{read-at};
-ghost use Rattle.text.specs.Private.{Classed, DigitsTo, NumberAt, StandsAt, CapitalAt, Worded};
+ghost use Rattle.text.specs.Private.{Classed, DigitsTo, NumberAt, StandsAt, CapitalAt, LiteralStart, plain-line-at, block-line-at};
 
 // The lines of the grammar. The kind K is true for p, a point, and false for s, silent. Numbers over 2^41 are held at 2^41.
 pub enum Form {
@@ -450,7 +450,7 @@ fn kinded(f: Shown, k: bool) -> Shown
 }
 
 // Adds a number to what a line has shown.
-fn counted(f: Shown, over: bool) -> Shown
+fn numbered(f: Shown, over: bool) -> Shown
     requires { ⌜ f .count < 18446744073709551615 ⌝ }
     ensures { λ r. ⌜ r ≡ record { kind = f .kind; over = over; count = f .count + 1 } ⌝ }
 {
@@ -491,11 +491,11 @@ fn capital(
         Num::No => Fitted::Misfit,
         Num::Over(e) => {
             store(row, f.count, limit);
-            Fitted::Fit(counted(f, true), e)
+            Fitted::Fit(numbered(f, true), e)
         }
         Num::At(v, e) => {
             store(row, f.count, v);
-            Fitted::Fit(counted(f, f.over), e)
+            Fitted::Fit(numbered(f, f.over), e)
         }
     }
 }
@@ -579,7 +579,7 @@ fn matches_word(
     limit: u64,
     row: &mut [u64],
 ) -> Fitted
-    requires { ⌜ Classed (now table) × Worded (now pattern) ⌝ }
+    requires { ⌜ Classed (now table) × LiteralStart (now pattern) ⌝ }
     ensures { λ r. ⌜ MatchAt limit (now (text .entry)) at (now (pattern .entry)) (now (row .entry)) (now (row .exit)) r ⌝ }
 {
     if !stands(text, at, pattern[0]) {
@@ -591,18 +591,33 @@ fn matches_word(
     matches_by(table, text, at, pattern, limit, row)
 }
 
-// Reads the line at a place, with the table of classes.
-fn line_by(table: &Classes, text: &[u8], at: usize) -> Read
+// Reads a line without numbers at a place, with the table of classes. Its row has no places.
+fn plain_line(table: &Classes, text: &[u8], at: usize) -> Read
     requires { ⌜ Classed (now table) ⌝ }
-    ensures { λ r. ⌜ r ≡ read-at (now (text .entry)) at ⌝ }
+    ensures { λ r. ⌜ r ≡ plain-line-at (now (text .entry)) at ⌝ }
 {
-    let mut n = [0; ROOM];
-    if let Fitted::Fit(_, e) = matches_word(table, text, at, b"(task D T", LIMIT, &mut n) {
-        return Read::Line(Form::Task(n[0], n[1]), e);
-    }
-    if let Fitted::Fit(_, e) = matches_word(table, text, at, b"(fun", LIMIT, &mut n) {
+    let mut none = [0; 0];
+    if let Fitted::Fit(_, e) = matches_word(table, text, at, b"(fun", LIMIT, &mut none) {
         return Read::Line(Form::Fun, e);
     }
+    if let Fitted::Fit(_, e) = matches_word(table, text, at, b"(then", LIMIT, &mut none) {
+        return Read::Line(Form::Then, e);
+    }
+    if let Fitted::Fit(_, e) = matches_word(table, text, at, b"(else", LIMIT, &mut none) {
+        return Read::Line(Form::Else, e);
+    }
+    if let Fitted::Fit(_, e) = matches_by(table, text, at, b")", LIMIT, &mut none) {
+        return Read::Line(Form::Close, e);
+    }
+    Read::Unread
+}
+
+// Reads the line of a leaf, with its kind and costs, or one without numbers at a place, with the table of classes.
+fn block_line(table: &Classes, text: &[u8], at: usize) -> Read
+    requires { ⌜ Classed (now table) ⌝ }
+    ensures { λ r. ⌜ r ≡ block-line-at (now (text .entry)) at ⌝ }
+{
+    let mut n = [0; ROOM];
     if let Fitted::Fit(f, e) = matches_word(table, text, at, b"(leaf K C M)", LIMIT, &mut n) {
         return Read::Line(Form::Leaf(f.kind, n[0], n[1]), e);
     }
@@ -615,16 +630,19 @@ fn line_by(table: &Classes, text: &[u8], at: usize) -> Read
     if let Fitted::Fit(f, e) = matches_word(table, text, at, b"(if K C M", LIMIT, &mut n) {
         return Read::Line(Form::If(f.kind, n[0], n[1]), e);
     }
-    if let Fitted::Fit(_, e) = matches_word(table, text, at, b"(then", LIMIT, &mut n) {
-        return Read::Line(Form::Then, e);
+    plain_line(table, text, at)
+}
+
+// Reads the line at a place, with the table of classes.
+fn line_by(table: &Classes, text: &[u8], at: usize) -> Read
+    requires { ⌜ Classed (now table) ⌝ }
+    ensures { λ r. ⌜ r ≡ read-at (now (text .entry)) at ⌝ }
+{
+    let mut n = [0; ROOM];
+    if let Fitted::Fit(_, e) = matches_word(table, text, at, b"(task D T", LIMIT, &mut n) {
+        return Read::Line(Form::Task(n[0], n[1]), e);
     }
-    if let Fitted::Fit(_, e) = matches_word(table, text, at, b"(else", LIMIT, &mut n) {
-        return Read::Line(Form::Else, e);
-    }
-    if let Fitted::Fit(_, e) = matches_by(table, text, at, b")", LIMIT, &mut n) {
-        return Read::Line(Form::Close, e);
-    }
-    Read::Unread
+    block_line(table, text, at)
 }
 
 // Reads the line at a place: its form and where the next line begins, or that it is no line of the grammar, as past the end of the text.

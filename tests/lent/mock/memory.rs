@@ -8,8 +8,8 @@ use reference::plan::Refusal;
 use reference::records::{Record, RECORD, STRETCH, TURN};
 use reference::table::{Head, Table, HEAD};
 
+use super::super::answers::Ruling;
 use super::super::calls::{Call, Reply};
-use super::super::delivered::Ruling;
 use super::super::memory::MOST_THERE;
 use super::super::state::{Numbers, State, STATE};
 use super::planted::planted;

@@ -1,17 +1,17 @@
 -- `columns::sum_block` and `columns::sum_form`, which call each other, meet their contracts. Assumes nothing.
 use Rattle.columns.proofs.Summing.{leaf-turn, call-turn, if-turn, leaf-sum, call-sum, loop-sum, if-sum, loop-note, Passed, pass, passed-all}
-use Rattle.columns.proofs.Fronts.{leaf-front, call-front, loop-front, if-front}
-use Rattle.columns.proofs.Sizes.{body-part, then-part, else-part}
+use Rattle.columns.proofs.Fronts.{leaf-front, call-front, loop-front, front-if}
+use Rattle.columns.proofs.Sizes.{body-part, then-part, else-part, kind-low, if-three}
 use Rattle.columns.proofs.Capped.{cost-le}
 use Rattle.columns.specs.Columns.{turn-rule, turns}
 use Rattle.columns.specs.Sums.{ceiling, cost-in}
-use Rattle.rows.proofs.Shape.{leaf-at, call-at, loop-at, if-at, ends, parts, flat-end}
+use Rattle.rows.proofs.Shape.{leaf-at, call-at, loop-at, ends, parts, flat-end}
 use Rattle.rows.specs.Rows.{block-at, Piece}
 use Rattle.model.specs.Total.{tally}
 use lib.Seq.{sets}
 use lib.ListN.{getD}
 use Prim.Native.Nat.{_+_, _-_, _≤_}
-use mathlib.Core.Path.{refl, ap}
+use mathlib.Core.Path.{_≡_, refl, ap}
 use borrow.Author.Needs.{needs}
 use native.Mathlib.Omega.{arith}
 use Prim.Native.Nat.{ℕ, _<_}
@@ -117,7 +117,7 @@ sum-block-returns t c =
     )
 
 abbrev sum-form-calls : ℕ → sum-form-lts.Claims
-sum-form-calls t = (get-reads.Asked, get-reads.Learnt, cost-reads.Asked, cost-reads.Learnt, index-reads.Asked, index-reads.Learnt, clip-reads.Asked, clip-reads.Learnt, sum-block-below t, sum-block.Post, looped-reads.Asked, looped-reads.Learnt, larger-reads.Asked, larger-reads.Learnt)
+sum-form-calls t = (get-reads.Asked, get-reads.Learnt, cost-reads.Asked, cost-reads.Learnt, index-reads.Asked, index-reads.Learnt, sum-block-below t, sum-block.Post, looped-reads.Asked, looped-reads.Learnt, larger-reads.Asked, larger-reads.Learnt, clip-reads.Asked, clip-reads.Learnt)
 
 sum-form-get-requires : (t : ℕ) → sum-form-lts.Need-get-requires (sum-form-calls t) (sum-form-at t) sum-form.Post
 sum-form-get-requires t c κs = search needs
@@ -125,28 +125,69 @@ sum-form-get-requires t c κs = search needs
 sum-form-cost-requires : (t : ℕ) → sum-form-lts.Need-cost-requires (sum-form-calls t) (sum-form-at t) sum-form.Post
 sum-form-cost-requires t c κs = search needs
 
+sum-form-index-requires : (t : ℕ) → sum-form-lts.Need-index-requires (sum-form-calls t) (sum-form-at t) sum-form.Post
+sum-form-index-requires t c κs = search needs
+
+sum-form-add-sum-block : (t : ℕ) → sum-form-lts.Need-add-sum-block (sum-form-calls t) (sum-form-at t) sum-form.Post
+sum-form-add-sum-block t c = search needs
+
+sum-form-sub-sum-block : (t : ℕ) → sum-form-lts.Need-sub-sum-block (sum-form-calls t) (sum-form-at t) sum-form.Post
+sum-form-sub-sum-block t c =
+    let s = c .before .before .before .before .before in
+    let lt = s .pre .1 .0 in
+    let z = s .pre .1 .1 .1 in
+    let h = loop-at lt (z .part) (c .before .before .before .get .ensures) (c .before .if1 .taken) in
+    h .opens
+
+sum-form-sum-block-requires : (t : ℕ) → sum-form-lts.Need-sum-block-requires (sum-form-calls t) (sum-form-at t) sum-form.Post
+sum-form-sum-block-requires t c κs =
+    let s = c .before .before .before .before .before .before in
+    let lt = s .pre .1 .0 in
+    let z = s .pre .1 .1 .1 in
+    let h = loop-at lt (z .part) (c .before .before .before .before .get .ensures) (c .before .before .if1 .taken) in
+    let e = ends lt (z .part) in
+    let he = c .before .index .ensures in
+    (omega (arith, h .opens), ((omega (arith, e, he, s .pre .1 .1 .0 .0), omega (arith, e, he, s .pre .1 .1 .0 .1), s .pre .1 .1 .0 .2, s .pre .1 .1 .0 .3), body-part he h))
+
+sum-form-add-turn : (t : ℕ) → sum-form-lts.Need-add-turn (sum-form-calls t) (sum-form-at t) sum-form.Post
+sum-form-add-turn t c =
+    let s = c .before .before .before .before .before .before .before in
+    let lt = s .pre .1 .0 in
+    let z = s .pre .1 .1 .1 in
+    let h = loop-at lt (z .part) (c .before .before .before .before .before .get .ensures) (c .before .before .before .if1 .taken) in
+    omega (arith, cost-le (s .args .column) (block-at (s .args .row .now) (s .args .i)) (h .costs), c .before .before .before .before .cost .ensures, c .sum-block .ensures .0)
+
 sum-form-mul-turn : (t : ℕ) → sum-form-lts.Need-mul-turn (sum-form-calls t) (sum-form-at t) sum-form.Post
 sum-form-mul-turn t c = search needs
 
 sum-form-element-write-turn : (t : ℕ) → sum-form-lts.Need-element-write-turn (sum-form-calls t) (sum-form-at t) sum-form.Post
 sum-form-element-write-turn t c = search needs
 
-sum-form-returns : (t : ℕ) → sum-form-lts.Need-returns (sum-form-calls t) (sum-form-at t) sum-form.Post
-sum-form-returns t c =
-    let s = c .before .before .before .before in
+sum-form-get-requires-2 : (t : ℕ) → sum-form-lts.Need-get-requires-2 (sum-form-calls t) (sum-form-at t) sum-form.Post
+sum-form-get-requires-2 t c κs = search needs
+
+sum-form-looped-requires : (t : ℕ) → sum-form-lts.Need-looped-requires (sum-form-calls t) (sum-form-at t) sum-form.Post
+sum-form-looped-requires t c κs =
+    let s = c .before .before .before .before .before .before .before .before in
     let lt = s .pre .1 .0 in
     let z = s .pre .1 .1 .1 in
-    let l = s .args .column in
+    let h = loop-at lt (z .part) (c .before .before .before .before .before .before .get .ensures) (c .before .before .before .before .if1 .taken) in
+    (omega (arith, cost-le (s .args .column) (block-at (s .args .row .now) (s .args .i)) (h .costs), c .before .before .before .before .before .cost .ensures), omega (arith, h .bound, c .get2 .ensures), c .before .sum-block .ensures .0)
+
+sum-form-returns : (t : ℕ) → sum-form-lts.Need-returns (sum-form-calls t) (sum-form-at t) sum-form.Post
+sum-form-returns t c =
+    let s = c .before .before .before .before .before .before .before .before .before in
+    let lt = s .pre .1 .0 in
+    let k = cost-in (s .args .column) in
     let ts = s .args .sums .now in
     let o = s .args .turn .now in
-    let v = c .before .before .get .ensures in (
-      let h = leaf-at lt (z .part) v (c .if1 .taken) in
-          leaf-sum (cost-in l) ts h (cost-le l (block-at (s .args .row .now) (s .args .i)) (h .costs)) (c .before .cost .ensures) .0,
+    let v = c .before .before .before .before .before .before .before .get .ensures in
+    let he = c .before .before .before .before .index .ensures in (
+      omega (arith, c .looped .ensures),
       (
-        (λ p. let h = leaf-at lt (p .part) v (c .if1 .taken) in
-            leaf-sum (cost-in l) ts h (cost-le l (block-at (s .args .row .now) (s .args .i)) (h .costs)) (c .before .cost .ensures) .1),
-        λ p. let h = leaf-at lt (p .part) v (c .if1 .taken) in
-            leaf-front (turn-rule (cost-in l) ts) o 0 h (leaf-turn (cost-in l) ts h),
+        (λ p. loop-sum k ts (loop-at lt (p .part) v (c .before .before .before .before .before .if1 .taken)) (c .before .before .before .before .before .before .cost .ensures) (c .before .get2 .ensures) he (c .before .before .sum-block .ensures .1 .0) (c .looped .ensures)),
+        λ p. let h = loop-at lt (p .part) v (c .before .before .before .before .before .if1 .taken) in
+            loop-front (turn-rule k ts) o 0 h (loop-note k ts h (c .before .before .before .before .before .before .cost .ensures) he (c .before .before .sum-block .ensures .1 .0)) refl (c .before .before .sum-block .ensures .1 .1 (body-part he h)),
       ),
     )
 
@@ -156,209 +197,134 @@ sum-form-mul-turn-2 t c = search needs
 sum-form-element-write-turn-2 : (t : ℕ) → sum-form-lts.Need-element-write-turn-2 (sum-form-calls t) (sum-form-at t) sum-form.Post
 sum-form-element-write-turn-2 t c = search needs
 
-sum-form-index-requires : (t : ℕ) → sum-form-lts.Need-index-requires (sum-form-calls t) (sum-form-at t) sum-form.Post
-sum-form-index-requires t c κs = search needs
+sum-form-index-requires-2 : (t : ℕ) → sum-form-lts.Need-index-requires-2 (sum-form-calls t) (sum-form-at t) sum-form.Post
+sum-form-index-requires-2 t c κs = search needs
 
-sum-form-mul-clip : (t : ℕ) → sum-form-lts.Need-mul-clip (sum-form-calls t) (sum-form-at t) sum-form.Post
-sum-form-mul-clip t c =
-    let s = c .before .before .before .before .before .before in
-    let lt = s .pre .1 .0 in
-    let z = s .pre .1 .1 .1 in
-    let v = c .before .before .before .before .get .ensures in
-    let h = call-at lt (z .part) v (c .before .if2 .taken) in
-    omega (arith, h .target, c .index .ensures)
+sum-form-index-requires-3 : (t : ℕ) → sum-form-lts.Need-index-requires-3 (sum-form-calls t) (sum-form-at t) sum-form.Post
+sum-form-index-requires-3 t c κs = search needs
 
-sum-form-element-copy-out-clip : (t : ℕ) → sum-form-lts.Need-element-copy-out-clip (sum-form-calls t) (sum-form-at t) sum-form.Post
-sum-form-element-copy-out-clip t c =
-    let s = c .before .before .before .before .before .before in
-    let lt = s .pre .1 .0 in
-    let z = s .pre .1 .1 .1 in
-    let v = c .before .before .before .before .get .ensures in
-    let h = call-at lt (z .part) v (c .before .if2 .taken) in
-    omega (arith, h .target, c .index .ensures)
-
-sum-form-add-clip : (t : ℕ) → sum-form-lts.Need-add-clip (sum-form-calls t) (sum-form-at t) sum-form.Post
-sum-form-add-clip t c =
+sum-form-sub-rest : (t : ℕ) → sum-form-lts.Need-sub-rest (sum-form-calls t) (sum-form-at t) sum-form.Post
+sum-form-sub-rest t c =
     let s = c .before .before .before .before .before .before .before in
     let lt = s .pre .1 .0 in
     let z = s .pre .1 .1 .1 in
-    let l = s .args .column in
-    let v = c .before .before .before .before .before .get .ensures in
-    let h = call-at lt (z .part) v (c .before .before .if2 .taken) in
-    omega (arith, cost-le l (block-at (s .args .row .now) (s .args .i)) (h .costs), c .before .before .before .before .cost .ensures, s .pre .1 .1 .0 .2 (c .before .index .result))
+    let h = if-three lt z (c .before .before .before .before .before .get .ensures) (c .before .before .if2 .taken) in
+    h .opens
+
+sum-form-add-sum-block-2 : (t : ℕ) → sum-form-lts.Need-add-sum-block-2 (sum-form-calls t) (sum-form-at t) sum-form.Post
+sum-form-add-sum-block-2 t c = search needs
+
+sum-form-sum-block-requires-2 : (t : ℕ) → sum-form-lts.Need-sum-block-requires-2 (sum-form-calls t) (sum-form-at t) sum-form.Post
+sum-form-sum-block-requires-2 t c κs =
+    let s = c .before .before .before .before .before .before .before .before in
+    let lt = s .pre .1 .0 in
+    let z = s .pre .1 .1 .1 in
+    let h = if-three lt z (c .before .before .before .before .before .before .get .ensures) (c .before .before .before .if2 .taken) in
+    let e = ends lt (z .part) in
+    let he = c .before .before .index2 .ensures in
+    let d = parts (c .before .index3 .ensures) he h in
+    (omega (arith, h .opens), ((omega (arith, e, d, he, s .pre .1 .1 .0 .0), omega (arith, e, d, he, s .pre .1 .1 .0 .1), s .pre .1 .1 .0 .2, s .pre .1 .1 .0 .3), then-part (c .before .index3 .ensures) h))
+
+sum-form-sum-block-requires-3 : (t : ℕ) → sum-form-lts.Need-sum-block-requires-3 (sum-form-calls t) (sum-form-at t) sum-form.Post
+sum-form-sum-block-requires-3 t c κs =
+    let s = c .before .before .before .before .before .before .before .before .before .before in
+    let lt = s .pre .1 .0 in
+    let z = s .pre .1 .1 .1 in
+    let h = if-three lt z (c .before .before .before .before .before .before .before .before .get .ensures) (c .before .before .before .before .before .if2 .taken) in
+    let e = ends lt (z .part) in
+    let he = c .before .before .before .before .index2 .ensures in
+    (omega (arith, h .opens), ((omega (arith, e, he, s .pre .1 .1 .0 .0), omega (arith, e, he, s .pre .1 .1 .0 .1), s .pre .1 .1 .0 .2, s .pre .1 .1 .0 .3), else-part (c .before .before .before .index3 .ensures) he h))
+
+sum-form-larger-requires : (t : ℕ) → sum-form-lts.Need-larger-requires (sum-form-calls t) (sum-form-at t) sum-form.Post
+sum-form-larger-requires t c κs = search needs
+
+sum-form-add-clip : (t : ℕ) → sum-form-lts.Need-add-clip (sum-form-calls t) (sum-form-at t) sum-form.Post
+sum-form-add-clip t c =
+    let s = c .before .before .before .before .before .before .before .before .before .before .before .before in
+    let lt = s .pre .1 .0 in
+    let z = s .pre .1 .1 .1 in
+    let h = if-three lt z (c .before .before .before .before .before .before .before .before .before .before .get .ensures) (c .before .before .before .before .before .before .before .if2 .taken) in
+    omega (arith, cost-le (s .args .column) (block-at (s .args .row .now) (s .args .i)) (h .costs), c .before .before .before .before .before .before .before .before .before .cost .ensures, c .larger .ensures, c .before .before .before .sum-block2 .ensures .0, c .before .sum-block3 .ensures .0)
 
 sum-form-clip-requires : (t : ℕ) → sum-form-lts.Need-clip-requires (sum-form-calls t) (sum-form-at t) sum-form.Post
 sum-form-clip-requires t c κs = search needs
 
 sum-form-returns-2 : (t : ℕ) → sum-form-lts.Need-returns-2 (sum-form-calls t) (sum-form-at t) sum-form.Post
 sum-form-returns-2 t c =
-    let s = c .before .before .before .before .before .before .before .before in
+    let s = c .before .before .before .before .before .before .before .before .before .before .before .before .before in
     let lt = s .pre .1 .0 in
-    let l = s .args .column in
+    let k = cost-in (s .args .column) in
     let ts = s .args .sums .now in
     let o = s .args .turn .now in
-    let v = c .before .before .before .before .before .before .get .ensures in (
+    let v = c .before .before .before .before .before .before .before .before .before .before .before .get .ensures in
+    let he = c .before .before .before .before .before .before .before .index2 .ensures in
+    let hm = c .before .before .before .before .before .before .index3 .ensures in (
       omega (arith, c .clip .ensures),
       (
-        (λ p. let h = call-at lt (p .part) v (c .before .before .before .if2 .taken) in
-            call-sum (cost-in l) ts h (c .before .before .before .before .before .cost .ensures) (ap (λ (y : ℕ). getD ts y 0) (c .before .before .index .ensures)) (c .clip .ensures)),
-        λ p. let h = call-at lt (p .part) v (c .before .before .before .if2 .taken) in
-            call-front (turn-rule (cost-in l) ts) o 0 h (call-turn (cost-in l) ts h),
+        (λ p. if-sum k ts (if-three lt p v (c .before .before .before .before .before .before .before .before .if2 .taken)) (c .before .before .before .before .before .before .before .before .before .before .cost .ensures) hm he (c .before .before .before .before .sum-block2 .ensures .1 .0) (c .before .before .sum-block3 .ensures .1 .0) (c .before .larger .ensures) (c .clip .ensures)),
+        λ p. let h = if-three lt p v (c .before .before .before .before .before .before .before .before .if2 .taken) in
+            front-if (turn-rule k ts) o 0 h hm (if-turn k ts h) (c .before .before .before .before .sum-block2 .ensures .1 .1 (then-part hm h)) (c .before .before .sum-block3 .ensures .1 .1 (else-part hm he h)),
       ),
     )
 
-sum-form-index-requires-2 : (t : ℕ) → sum-form-lts.Need-index-requires-2 (sum-form-calls t) (sum-form-at t) sum-form.Post
-sum-form-index-requires-2 t c κs = search needs
+sum-form-index-requires-4 : (t : ℕ) → sum-form-lts.Need-index-requires-4 (sum-form-calls t) (sum-form-at t) sum-form.Post
+sum-form-index-requires-4 t c κs = search needs
 
-sum-form-add-sum-block : (t : ℕ) → sum-form-lts.Need-add-sum-block (sum-form-calls t) (sum-form-at t) sum-form.Post
-sum-form-add-sum-block t c = search needs
-
-sum-form-sub-sum-block : (t : ℕ) → sum-form-lts.Need-sub-sum-block (sum-form-calls t) (sum-form-at t) sum-form.Post
-sum-form-sub-sum-block t c =
+sum-form-mul-clip : (t : ℕ) → sum-form-lts.Need-mul-clip (sum-form-calls t) (sum-form-at t) sum-form.Post
+sum-form-mul-clip t c =
     let s = c .before .before .before .before .before .before .before in
     let lt = s .pre .1 .0 in
     let z = s .pre .1 .1 .1 in
-    let v = c .before .before .before .before .before .get .ensures in
-    let h = loop-at lt (z .part) v (c .if3 .taken) in
-    h .opens
+    let h = call-at lt (z .part) (c .before .before .before .before .before .get .ensures) (c .before .if3 .taken) in
+    omega (arith, h .target, c .index4 .ensures)
 
-sum-form-sum-block-requires : (t : ℕ) → sum-form-lts.Need-sum-block-requires (sum-form-calls t) (sum-form-at t) sum-form.Post
-sum-form-sum-block-requires t c κs =
-    let s = c .before .before .before .before .before .before .before .before in
+sum-form-element-copy-out-clip : (t : ℕ) → sum-form-lts.Need-element-copy-out-clip (sum-form-calls t) (sum-form-at t) sum-form.Post
+sum-form-element-copy-out-clip t c =
+    let s = c .before .before .before .before .before .before .before in
     let lt = s .pre .1 .0 in
     let z = s .pre .1 .1 .1 in
-    let v = c .before .before .before .before .before .before .get .ensures in
-    let h = loop-at lt (z .part) v (c .before .if3 .taken) in
-    let e = ends lt (z .part) in
-    (omega (arith, h .opens), ((omega (arith, e, c .before .before .index2 .ensures, s .pre .1 .1 .0 .0), omega (arith, e, c .before .before .index2 .ensures, s .pre .1 .1 .0 .1), s .pre .1 .1 .0 .2, s .pre .1 .1 .0 .3), body-part (c .before .before .index2 .ensures) h))
-
-sum-form-add-turn : (t : ℕ) → sum-form-lts.Need-add-turn (sum-form-calls t) (sum-form-at t) sum-form.Post
-sum-form-add-turn t c =
-    let s = c .before .before .before .before .before .before .before .before .before in
-    let lt = s .pre .1 .0 in
-    let z = s .pre .1 .1 .1 in
-    let l = s .args .column in
-    let v = c .before .before .before .before .before .before .before .get .ensures in
-    let h = loop-at lt (z .part) v (c .before .before .if3 .taken) in
-    omega (arith, cost-le l (block-at (s .args .row .now) (s .args .i)) (h .costs), c .before .before .before .before .before .before .cost .ensures, c .sum-block .ensures .0)
-
-sum-form-mul-turn-3 : (t : ℕ) → sum-form-lts.Need-mul-turn-3 (sum-form-calls t) (sum-form-at t) sum-form.Post
-sum-form-mul-turn-3 t c = search needs
-
-sum-form-element-write-turn-3 : (t : ℕ) → sum-form-lts.Need-element-write-turn-3 (sum-form-calls t) (sum-form-at t) sum-form.Post
-sum-form-element-write-turn-3 t c = search needs
-
-sum-form-get-requires-2 : (t : ℕ) → sum-form-lts.Need-get-requires-2 (sum-form-calls t) (sum-form-at t) sum-form.Post
-sum-form-get-requires-2 t c κs = search needs
-
-sum-form-looped-requires : (t : ℕ) → sum-form-lts.Need-looped-requires (sum-form-calls t) (sum-form-at t) sum-form.Post
-sum-form-looped-requires t c κs =
-    let s = c .before .before .before .before .before .before .before .before .before .before in
-    let lt = s .pre .1 .0 in
-    let z = s .pre .1 .1 .1 in
-    let l = s .args .column in
-    let v = c .before .before .before .before .before .before .before .before .get .ensures in
-    let h = loop-at lt (z .part) v (c .before .before .before .if3 .taken) in
-    (omega (arith, cost-le l (block-at (s .args .row .now) (s .args .i)) (h .costs), c .before .before .before .before .before .before .before .cost .ensures), omega (arith, h .bound, c .get2 .ensures), c .before .sum-block .ensures .0)
-
-sum-form-returns-3 : (t : ℕ) → sum-form-lts.Need-returns-3 (sum-form-calls t) (sum-form-at t) sum-form.Post
-sum-form-returns-3 t c =
-    let s = c .before .before .before .before .before .before .before .before .before .before .before in
-    let lt = s .pre .1 .0 in
-    let l = s .args .column in
-    let ts = s .args .sums .now in
-    let o = s .args .turn .now in
-    let v = c .before .before .before .before .before .before .before .before .before .get .ensures in (
-      omega (arith, c .looped .ensures),
-      (
-        (λ p. let h = loop-at lt (p .part) v (c .before .before .before .before .if3 .taken) in
-            loop-sum (cost-in l) ts h (c .before .before .before .before .before .before .before .before .cost .ensures) (c .before .get2 .ensures) (c .before .before .before .before .before .index2 .ensures) (c .before .before .sum-block .ensures .1 .0) (c .looped .ensures)),
-        λ p. let h = loop-at lt (p .part) v (c .before .before .before .before .if3 .taken) in
-            loop-front (turn-rule (cost-in l) ts) o 0 h (loop-note (cost-in l) ts h (c .before .before .before .before .before .before .before .before .cost .ensures) (c .before .before .before .before .before .index2 .ensures) (c .before .before .sum-block .ensures .1 .0)) refl (c .before .before .sum-block .ensures .1 .1 (body-part (c .before .before .before .before .before .index2 .ensures) h)),
-      ),
-    )
-
-sum-form-index-requires-3 : (t : ℕ) → sum-form-lts.Need-index-requires-3 (sum-form-calls t) (sum-form-at t) sum-form.Post
-sum-form-index-requires-3 t c κs = search needs
-
-sum-form-add-sum-block-2 : (t : ℕ) → sum-form-lts.Need-add-sum-block-2 (sum-form-calls t) (sum-form-at t) sum-form.Post
-sum-form-add-sum-block-2 t c = search needs
-
-sum-form-sub-sum-block-2 : (t : ℕ) → sum-form-lts.Need-sub-sum-block-2 (sum-form-calls t) (sum-form-at t) sum-form.Post
-sum-form-sub-sum-block-2 t c =
-    let s = c .before .before .before .before .before .before .before .before in
-    let lt = s .pre .1 .0 in
-    let z = s .pre .1 .1 .1 in
-    let v = c .before .before .before .before .before .before .get .ensures in
-    let h = if-at lt (z .part) v (c .before .before .before .before .if1 .left) (c .before .before .before .if2 .left) (c .before .if3 .left) in
-    h .opens
-
-sum-form-sum-block-requires-2 : (t : ℕ) → sum-form-lts.Need-sum-block-requires-2 (sum-form-calls t) (sum-form-at t) sum-form.Post
-sum-form-sum-block-requires-2 t c κs =
-    let s = c .before .before .before .before .before .before .before .before .before in
-    let lt = s .pre .1 .0 in
-    let z = s .pre .1 .1 .1 in
-    let v = c .before .before .before .before .before .before .before .get .ensures in
-    let h = if-at lt (z .part) v (c .before .before .before .before .before .if1 .left) (c .before .before .before .before .if2 .left) (c .before .before .if3 .left) in
-    let e = ends lt (z .part) in
-    let d = parts (c .before .index3 .ensures) (c .before .before .before .index2 .ensures) h in
-    (omega (arith, h .opens), ((omega (arith, e, d, c .before .before .before .index2 .ensures, s .pre .1 .1 .0 .0), omega (arith, e, d, c .before .before .before .index2 .ensures, s .pre .1 .1 .0 .1), s .pre .1 .1 .0 .2, s .pre .1 .1 .0 .3), then-part (c .before .index3 .ensures) h))
-
-sum-form-sub-sum-block-3 : (t : ℕ) → sum-form-lts.Need-sub-sum-block-3 (sum-form-calls t) (sum-form-at t) sum-form.Post
-sum-form-sub-sum-block-3 t c =
-    let s = c .before .before .before .before .before .before .before .before .before .before in
-    let lt = s .pre .1 .0 in
-    let z = s .pre .1 .1 .1 in
-    let v = c .before .before .before .before .before .before .before .before .get .ensures in
-    let h = if-at lt (z .part) v (c .before .before .before .before .before .before .if1 .left) (c .before .before .before .before .before .if2 .left) (c .before .before .before .if3 .left) in
-    h .opens
-
-sum-form-sum-block-requires-3 : (t : ℕ) → sum-form-lts.Need-sum-block-requires-3 (sum-form-calls t) (sum-form-at t) sum-form.Post
-sum-form-sum-block-requires-3 t c κs =
-    let s = c .before .before .before .before .before .before .before .before .before .before .before in
-    let lt = s .pre .1 .0 in
-    let z = s .pre .1 .1 .1 in
-    let v = c .before .before .before .before .before .before .before .before .before .get .ensures in
-    let h = if-at lt (z .part) v (c .before .before .before .before .before .before .before .if1 .left) (c .before .before .before .before .before .before .if2 .left) (c .before .before .before .before .if3 .left) in
-    let e = ends lt (z .part) in
-    (omega (arith, h .opens), ((omega (arith, e, c .before .before .before .before .before .index2 .ensures, s .pre .1 .1 .0 .0), omega (arith, e, c .before .before .before .before .before .index2 .ensures, s .pre .1 .1 .0 .1), s .pre .1 .1 .0 .2, s .pre .1 .1 .0 .3), else-part (c .before .before .before .index3 .ensures) (c .before .before .before .before .before .index2 .ensures) h))
-
-sum-form-mul-turn-4 : (t : ℕ) → sum-form-lts.Need-mul-turn-4 (sum-form-calls t) (sum-form-at t) sum-form.Post
-sum-form-mul-turn-4 t c = search needs
-
-sum-form-element-write-turn-4 : (t : ℕ) → sum-form-lts.Need-element-write-turn-4 (sum-form-calls t) (sum-form-at t) sum-form.Post
-sum-form-element-write-turn-4 t c = search needs
-
-sum-form-larger-requires : (t : ℕ) → sum-form-lts.Need-larger-requires (sum-form-calls t) (sum-form-at t) sum-form.Post
-sum-form-larger-requires t c κs = search needs
+    let h = call-at lt (z .part) (c .before .before .before .before .before .get .ensures) (c .before .if3 .taken) in
+    omega (arith, h .target, c .index4 .ensures)
 
 sum-form-add-clip-2 : (t : ℕ) → sum-form-lts.Need-add-clip-2 (sum-form-calls t) (sum-form-at t) sum-form.Post
 sum-form-add-clip-2 t c =
-    let s = c .before .before .before .before .before .before .before .before .before .before .before .before .before in
+    let s = c .before .before .before .before .before .before .before .before in
     let lt = s .pre .1 .0 in
     let z = s .pre .1 .1 .1 in
-    let l = s .args .column in
-    let v = c .before .before .before .before .before .before .before .before .before .before .before .get .ensures in
-    let h = if-at lt (z .part) v (c .before .before .before .before .before .before .before .before .before .if1 .left) (c .before .before .before .before .before .before .before .before .if2 .left) (c .before .before .before .before .before .before .if3 .left) in
-    omega (arith, cost-le l (block-at (s .args .row .now) (s .args .i)) (h .costs), c .before .before .before .before .before .before .before .before .before .before .cost .ensures, c .larger .ensures, c .before .before .before .sum-block2 .ensures .0, c .before .sum-block3 .ensures .0)
+    let h = call-at lt (z .part) (c .before .before .before .before .before .before .get .ensures) (c .before .before .if3 .taken) in
+    omega (arith, cost-le (s .args .column) (block-at (s .args .row .now) (s .args .i)) (h .costs), c .before .before .before .before .before .cost .ensures, s .pre .1 .1 .0 .2 (c .before .index4 .result))
 
 sum-form-clip-requires-2 : (t : ℕ) → sum-form-lts.Need-clip-requires-2 (sum-form-calls t) (sum-form-at t) sum-form.Post
 sum-form-clip-requires-2 t c κs = search needs
 
-sum-form-returns-4 : (t : ℕ) → sum-form-lts.Need-returns-4 (sum-form-calls t) (sum-form-at t) sum-form.Post
-sum-form-returns-4 t c =
-    let s = c .before .before .before .before .before .before .before .before .before .before .before .before .before .before in
+sum-form-returns-3 : (t : ℕ) → sum-form-lts.Need-returns-3 (sum-form-calls t) (sum-form-at t) sum-form.Post
+sum-form-returns-3 t c =
+    let s = c .before .before .before .before .before .before .before .before .before in
     let lt = s .pre .1 .0 in
-    let l = s .args .column in
+    let k = cost-in (s .args .column) in
     let ts = s .args .sums .now in
     let o = s .args .turn .now in
-    let v = c .before .before .before .before .before .before .before .before .before .before .before .before .get .ensures in (
+    let v = c .before .before .before .before .before .before .before .get .ensures in (
       omega (arith, c .clip2 .ensures),
       (
-        (λ p. let h = if-at lt (p .part) v (c .before .before .before .before .before .before .before .before .before .before .if1 .left) (c .before .before .before .before .before .before .before .before .before .if2 .left) (c .before .before .before .before .before .before .before .if3 .left) in
-            if-sum (cost-in l) ts h (c .before .before .before .before .before .before .before .before .before .before .before .cost .ensures) (c .before .before .before .before .before .before .index3 .ensures) (c .before .before .before .before .before .before .before .before .index2 .ensures) (c .before .before .before .before .sum-block2 .ensures .1 .0) (c .before .before .sum-block3 .ensures .1 .0) (c .before .larger .ensures) (c .clip2 .ensures)),
-        λ p. let h = if-at lt (p .part) v (c .before .before .before .before .before .before .before .before .before .before .if1 .left) (c .before .before .before .before .before .before .before .before .before .if2 .left) (c .before .before .before .before .before .before .before .if3 .left) in
-            if-front (turn-rule (cost-in l) ts) o 0 h (c .before .before .before .before .before .before .index3 .ensures) (if-turn (cost-in l) ts h) (c .before .before .before .before .sum-block2 .ensures .1 .1 (then-part (c .before .before .before .before .before .before .index3 .ensures) h)) (c .before .before .sum-block3 .ensures .1 .1 (else-part (c .before .before .before .before .before .before .index3 .ensures) (c .before .before .before .before .before .before .before .before .index2 .ensures) h)),
+        (λ p. call-sum k ts (call-at lt (p .part) v (c .before .before .before .if3 .taken)) (c .before .before .before .before .before .before .cost .ensures) (ap (λ (y : ℕ). getD ts y 0) (c .before .before .index4 .ensures)) (c .clip2 .ensures)),
+        λ p. let h = call-at lt (p .part) v (c .before .before .before .if3 .taken) in call-front (turn-rule k ts) o 0 h (call-turn k ts h),
+      ),
+    )
+
+sum-form-returns-4 : (t : ℕ) → sum-form-lts.Need-returns-4 (sum-form-calls t) (sum-form-at t) sum-form.Post
+sum-form-returns-4 t c =
+    let s = c .before .before .before .before .before .before in
+    let lt = s .pre .1 .0 in
+    let k = cost-in (s .args .column) in
+    let ts = s .args .sums .now in
+    let o = s .args .turn .now in
+    let v = c .before .before .before .before .get .ensures in
+    let v0 : c .before .before .before .before .get .result ≡ 0 = omega (arith, kind-low lt (s .pre .1 .1 .1) v (c .before .if2 .left), v, c .before .before .if1 .left, c .if3 .left) in (
+      let h = leaf-at lt (s .pre .1 .1 .1 .part) v v0 in leaf-sum k ts h (cost-le (s .args .column) (block-at (s .args .row .now) (s .args .i)) (h .costs)) (c .before .before .before .cost .ensures) .0,
+      (
+        (λ p. let h = leaf-at lt (p .part) v v0 in leaf-sum k ts h (cost-le (s .args .column) (block-at (s .args .row .now) (s .args .i)) (h .costs)) (c .before .before .before .cost .ensures) .1),
+        λ p. let h = leaf-at lt (p .part) v v0 in leaf-front (turn-rule k ts) o 0 h (leaf-turn k ts h),
       ),
     )
 
@@ -381,36 +347,32 @@ pub +sum-block+sum-form-spec : {M : Type 1} → statement M
     sum-form.Post
     (sum-form-get-requires t)
     (sum-form-cost-requires t)
-    (sum-form-mul-turn t)
-    (sum-form-element-write-turn t)
-    (sum-form-returns t)
-    (sum-form-mul-turn-2 t)
-    (sum-form-element-write-turn-2 t)
     (sum-form-index-requires t)
-    (sum-form-mul-clip t)
-    (sum-form-element-copy-out-clip t)
-    (sum-form-add-clip t)
-    (sum-form-clip-requires t)
-    (sum-form-returns-2 t)
-    (sum-form-index-requires-2 t)
     (sum-form-add-sum-block t)
     (sum-form-sub-sum-block t)
     (sum-form-sum-block-requires t)
     (sum-form-add-turn t)
-    (sum-form-mul-turn-3 t)
-    (sum-form-element-write-turn-3 t)
+    (sum-form-mul-turn t)
+    (sum-form-element-write-turn t)
     (sum-form-get-requires-2 t)
     (sum-form-looped-requires t)
-    (sum-form-returns-3 t)
+    (sum-form-returns t)
+    (sum-form-mul-turn-2 t)
+    (sum-form-element-write-turn-2 t)
+    (sum-form-index-requires-2 t)
     (sum-form-index-requires-3 t)
+    (sum-form-sub-rest t)
     (sum-form-add-sum-block-2 t)
-    (sum-form-sub-sum-block-2 t)
     (sum-form-sum-block-requires-2 t)
-    (sum-form-sub-sum-block-3 t)
     (sum-form-sum-block-requires-3 t)
-    (sum-form-mul-turn-4 t)
-    (sum-form-element-write-turn-4 t)
     (sum-form-larger-requires t)
+    (sum-form-add-clip t)
+    (sum-form-clip-requires t)
+    (sum-form-returns-2 t)
+    (sum-form-index-requires-4 t)
+    (sum-form-mul-clip t)
+    (sum-form-element-copy-out-clip t)
     (sum-form-add-clip-2 t)
     (sum-form-clip-requires-2 t)
+    (sum-form-returns-3 t)
     (sum-form-returns-4 t)

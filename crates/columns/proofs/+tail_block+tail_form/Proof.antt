@@ -2,7 +2,7 @@
 use Rattle.columns.proofs.Tailing.{loop-behind, if-tail, tail-on, tail-le, tail-close}
 use Rattle.columns.proofs.Backing.{kept-all, kept-both, Back, back-start, back-on, back-end, listed-at}
 use Rattle.columns.proofs.Readiness.{body-sized, then-sized, else-sized, ready-zero, later-ready}
-use Rattle.columns.proofs.Fronts.{plain-front, loop-front, if-front}
+use Rattle.columns.proofs.Fronts.{plain-front, front-loop, if-front}
 use Rattle.columns.proofs.Sizes.{kind-low, if-three}
 use Rattle.columns.specs.Private.{sibling, Kept, Sized}
 use Rattle.columns.specs.Columns.{tail-rule}
@@ -165,47 +165,37 @@ tail-form-index-requires t c κs = search needs
 tail-form-index-requires-2 : (t : ℕ) → tail-form-lts.Need-index-requires-2 (tail-form-calls t) (tail-form-at t) tail-form.Post
 tail-form-index-requires-2 t c κs = search needs
 
-tail-form-add-tail-block : (t : ℕ) → tail-form-lts.Need-add-tail-block (tail-form-calls t) (tail-form-at t) tail-form.Post
-tail-form-add-tail-block t c = search needs
-
-tail-form-sub-tail-block : (t : ℕ) → tail-form-lts.Need-sub-tail-block (tail-form-calls t) (tail-form-at t) tail-form.Post
-tail-form-sub-tail-block t c =
+tail-form-sub-rest : (t : ℕ) → tail-form-lts.Need-sub-rest (tail-form-calls t) (tail-form-at t) tail-form.Post
+tail-form-sub-rest t c =
     let s = c .before .before .before .before .before in
     let lt = s .pre .1 .0 in
     let z = s .pre .1 .1 .1 in
-    let v = c .before .before .before .get .ensures in
-    let h = if-three lt (z .forms) v (c .before .before .if1 .taken) in
+    let h = if-three lt (z .forms) (c .before .before .before .get .ensures) (c .before .before .if1 .taken) in
     h .opens
+
+tail-form-add-tail-block : (t : ℕ) → tail-form-lts.Need-add-tail-block (tail-form-calls t) (tail-form-at t) tail-form.Post
+tail-form-add-tail-block t c = search needs
 
 tail-form-tail-block-requires : (t : ℕ) → tail-form-lts.Need-tail-block-requires (tail-form-calls t) (tail-form-at t) tail-form.Post
 tail-form-tail-block-requires t c κs =
     let s = c .before .before .before .before .before .before .before in
     let lt = s .pre .1 .0 in
     let z = s .pre .1 .1 .1 in
-    let v = c .before .before .before .before .before .get .ensures in
-    let h = if-three lt (z .forms) v (c .before .before .before .before .if1 .taken) in
+    let h = if-three lt (z .forms) (c .before .before .before .before .before .get .ensures) (c .before .before .before .before .if1 .taken) in
     let e = ends lt (z .forms .part) in
-    let d = parts (c .before .before .index2 .ensures) (c .before .before .before .index .ensures) h in
-    (omega (arith, h .opens), ((omega (arith, e, d, c .before .before .before .index .ensures, s .pre .1 .1 .0 .0), omega (arith, e, d, c .before .before .before .index .ensures, s .pre .1 .1 .0 .1), s .pre .1 .1 .0 .2), then-sized lt z (c .before .before .index2 .ensures) h))
-
-tail-form-sub-tail-block-2 : (t : ℕ) → tail-form-lts.Need-sub-tail-block-2 (tail-form-calls t) (tail-form-at t) tail-form.Post
-tail-form-sub-tail-block-2 t c =
-    let s = c .before .before .before .before .before .before .before .before in
-    let lt = s .pre .1 .0 in
-    let z = s .pre .1 .1 .1 in
-    let v = c .before .before .before .before .before .before .get .ensures in
-    let h = if-three lt (z .forms) v (c .before .before .before .before .before .if1 .taken) in
-    h .opens
+    let he = c .before .before .before .index .ensures in
+    let d = parts (c .before .before .index2 .ensures) he h in
+    (omega (arith, h .opens), ((omega (arith, e, d, he, s .pre .1 .1 .0 .0), omega (arith, e, d, he, s .pre .1 .1 .0 .1), s .pre .1 .1 .0 .2), then-sized lt z (c .before .before .index2 .ensures) h))
 
 tail-form-tail-block-requires-2 : (t : ℕ) → tail-form-lts.Need-tail-block-requires-2 (tail-form-calls t) (tail-form-at t) tail-form.Post
 tail-form-tail-block-requires-2 t c κs =
     let s = c .before .before .before .before .before .before .before .before .before .before in
     let lt = s .pre .1 .0 in
     let z = s .pre .1 .1 .1 in
-    let v = c .before .before .before .before .before .before .before .before .get .ensures in
-    let h = if-three lt (z .forms) v (c .before .before .before .before .before .before .before .if1 .taken) in
+    let h = if-three lt (z .forms) (c .before .before .before .before .before .before .before .before .get .ensures) (c .before .before .before .before .before .before .before .if1 .taken) in
     let e = ends lt (z .forms .part) in
-    (omega (arith, h .opens), ((omega (arith, e, c .before .before .before .before .before .before .index .ensures, s .pre .1 .1 .0 .0), omega (arith, e, c .before .before .before .before .before .before .index .ensures, s .pre .1 .1 .0 .1), c .before .before .tail-block .ensures .1 .1 .long ∙ s .pre .1 .1 .0 .2), else-sized lt z (c .before .before .before .before .before .index2 .ensures) (c .before .before .before .before .before .before .index .ensures) h))
+    let he = c .before .before .before .before .before .before .index .ensures in
+    (omega (arith, h .opens), ((omega (arith, e, he, s .pre .1 .1 .0 .0), omega (arith, e, he, s .pre .1 .1 .0 .1), c .before .before .tail-block .ensures .1 .1 .long ∙ s .pre .1 .1 .0 .2), else-sized lt z (c .before .before .before .before .before .index2 .ensures) he h))
 
 tail-form-get-requires-2 : (t : ℕ) → tail-form-lts.Need-get-requires-2 (tail-form-calls t) (tail-form-at t) tail-form.Post
 tail-form-get-requires-2 t c κs = search needs
@@ -220,21 +210,19 @@ tail-form-add-t t c =
     let z = s .pre .1 .1 .1 in
     let ts = s .args .sums .now in
     let x = s .args .e in
-    let v = c .before .before .before .before .before .before .before .before .before .before .before .get .ensures in
-    let h = if-three lt (z .forms) v (c .before .before .before .before .before .before .before .before .before .before .if1 .taken) in
-    omega (arith, if-tail ts x h (c .before .get2 .ensures) (c .before .before .before .before .before .tail-block .ensures .0 (then-sized lt z (c .before .before .before .before .before .before .before .before .index2 .ensures) h)) (c .before .before .tail-block2 .ensures .0 (else-sized lt z (c .before .before .before .before .before .before .before .before .index2 .ensures) (c .before .before .before .before .before .before .before .before .before .index .ensures) h)) (c .larger .ensures), z .small)
+    let h = if-three lt (z .forms) (c .before .before .before .before .before .before .before .before .before .before .before .get .ensures) (c .before .before .before .before .before .before .before .before .before .before .if1 .taken) in
+    let hm = c .before .before .before .before .before .before .before .before .index2 .ensures in
+    omega (arith, if-tail ts x h (c .before .get2 .ensures) (c .before .before .before .before .before .tail-block .ensures .0 (then-sized lt z hm h)) (c .before .before .tail-block2 .ensures .0 (else-sized lt z hm (c .before .before .before .before .before .before .before .before .before .index .ensures) h)) (c .larger .ensures), z .small)
 
 tail-form-mul-out : (t : ℕ) → tail-form-lts.Need-mul-out (tail-form-calls t) (tail-form-at t) tail-form.Post
 tail-form-mul-out t c =
     let s = c .before .before .before .before .before .before .before .before .before .before .before .before .before in
-    let lt = s .pre .1 .0 in
-    omega (arith, lt, s .pre .1 .1 .0 .1)
+    omega (arith, s .pre .1 .0, s .pre .1 .1 .0 .1)
 
 tail-form-element-write-out : (t : ℕ) → tail-form-lts.Need-element-write-out (tail-form-calls t) (tail-form-at t) tail-form.Post
 tail-form-element-write-out t c =
     let s = c .before .before .before .before .before .before .before .before .before .before .before .before .before in
-    let lt = s .pre .1 .0 in
-    omega (arith, lt, s .pre .1 .1 .0 .1)
+    omega (arith, s .pre .1 .0, s .pre .1 .1 .0 .1)
 
 tail-form-returns : (t : ℕ) → tail-form-lts.Need-returns (tail-form-calls t) (tail-form-at t) tail-form.Post
 tail-form-returns t c =
@@ -242,17 +230,20 @@ tail-form-returns t c =
     let lt = s .pre .1 .0 in
     let z = s .pre .1 .1 .1 in
     let ts = s .args .sums .now in
-    let o = s .args .out .now in
     let x = s .args .e in
-    let v = c .before .before .before .before .before .before .before .before .before .before .before .get .ensures in (
+    let o = s .args .out .now in
+    let v = c .before .before .before .before .before .before .before .before .before .before .before .get .ensures in
+    let hm = c .before .before .before .before .before .before .before .before .index2 .ensures in
+    let he = c .before .before .before .before .before .before .before .before .before .index .ensures in (
       (λ p. let h = if-three lt (p .forms) v (c .before .before .before .before .before .before .before .before .before .before .if1 .taken) in
-          if-tail ts x h (c .before .get2 .ensures) (c .before .before .before .before .before .tail-block .ensures .0 (then-sized lt p (c .before .before .before .before .before .before .before .before .index2 .ensures) h)) (c .before .before .tail-block2 .ensures .0 (else-sized lt p (c .before .before .before .before .before .before .before .before .index2 .ensures) (c .before .before .before .before .before .before .before .before .before .index .ensures) h)) (c .larger .ensures)),
+          if-tail ts x h (c .before .get2 .ensures) (c .before .before .before .before .before .tail-block .ensures .0 (then-sized lt p hm h)) (c .before .before .tail-block2 .ensures .0 (else-sized lt p hm he h)) (c .larger .ensures)),
       (
         (λ p. let h = if-three lt (p .forms) v (c .before .before .before .before .before .before .before .before .before .before .if1 .taken) in
-            if-front (tail-rule ts) o x h (c .before .before .before .before .before .before .before .before .index2 .ensures) (if-tail ts x h (c .before .get2 .ensures) (c .before .before .before .before .before .tail-block .ensures .0 (then-sized lt p (c .before .before .before .before .before .before .before .before .index2 .ensures) h)) (c .before .before .tail-block2 .ensures .0 (else-sized lt p (c .before .before .before .before .before .before .before .before .index2 .ensures) (c .before .before .before .before .before .before .before .before .before .index .ensures) h)) (c .larger .ensures)) (c .before .before .before .before .before .tail-block .ensures .1 .0 (then-sized lt p (c .before .before .before .before .before .before .before .before .index2 .ensures) h)) (c .before .before .tail-block2 .ensures .1 .0 (else-sized lt p (c .before .before .before .before .before .before .before .before .index2 .ensures) (c .before .before .before .before .before .before .before .before .before .index .ensures) h))),
+            let f = then-sized lt p hm h in
+            let g = else-sized lt p hm he h in
+            if-front (tail-rule ts) o x h hm (if-tail ts x h (c .before .get2 .ensures) (c .before .before .before .before .before .tail-block .ensures .0 f) (c .before .before .tail-block2 .ensures .0 g) (c .larger .ensures)) (c .before .before .before .before .before .tail-block .ensures .1 .0 f) (c .before .before .tail-block2 .ensures .1 .0 g)),
         let h = if-three lt (z .forms) v (c .before .before .before .before .before .before .before .before .before .before .if1 .taken) in
-            let d = parts (c .before .before .before .before .before .before .before .before .index2 .ensures) (c .before .before .before .before .before .before .before .before .before .index .ensures) h in
-            kept-both (c .before .before .before .before .before .tail-block .ensures .1 .1) (c .before .before .tail-block2 .ensures .1 .1) (omega arith) (omega (arith, d)),
+            kept-both (c .before .before .before .before .before .tail-block .ensures .1 .1) (c .before .before .tail-block2 .ensures .1 .1) (omega arith) (omega (arith, parts hm he h)),
       ),
     )
 
@@ -261,8 +252,7 @@ tail-form-weight-requires t c κs =
     let s = c .before .before .before in
     let lt = s .pre .1 .0 in
     let z = s .pre .1 .1 .1 in
-    let v = c .before .get .ensures in
-    ((lt, s .pre .1 .1 .0 .0, s .pre .1 .1 .0 .1, kind-low lt (z .forms) v (c .if1 .left), (omega arith, omega arith)), ready-zero lt z)
+    ((lt, s .pre .1 .1 .0 .0, s .pre .1 .1 .0 .1, kind-low lt (z .forms) (c .before .get .ensures) (c .if1 .left), (omega arith, omega arith)), ready-zero lt z)
 
 tail-form-add-t-2 : (t : ℕ) → tail-form-lts.Need-add-t-2 (tail-form-calls t) (tail-form-at t) tail-form.Post
 tail-form-add-t-2 t c =
@@ -271,19 +261,28 @@ tail-form-add-t-2 t c =
     let z = s .pre .1 .1 .1 in
     omega (arith, c .weight .ensures (ready-zero lt z), z .small)
 
+tail-form-mul-out-2 : (t : ℕ) → tail-form-lts.Need-mul-out-2 (tail-form-calls t) (tail-form-at t) tail-form.Post
+tail-form-mul-out-2 t c =
+    let s = c .before .before .before .before in
+    omega (arith, s .pre .1 .0, s .pre .1 .1 .0 .1)
+
+tail-form-element-write-out-2 : (t : ℕ) → tail-form-lts.Need-element-write-out-2 (tail-form-calls t) (tail-form-at t) tail-form.Post
+tail-form-element-write-out-2 t c =
+    let s = c .before .before .before .before in
+    omega (arith, s .pre .1 .0, s .pre .1 .1 .0 .1)
+
 tail-form-index-requires-3 : (t : ℕ) → tail-form-lts.Need-index-requires-3 (tail-form-calls t) (tail-form-at t) tail-form.Post
 tail-form-index-requires-3 t c κs = search needs
 
 tail-form-add-tail-block-2 : (t : ℕ) → tail-form-lts.Need-add-tail-block-2 (tail-form-calls t) (tail-form-at t) tail-form.Post
 tail-form-add-tail-block-2 t c = search needs
 
-tail-form-sub-tail-block-3 : (t : ℕ) → tail-form-lts.Need-sub-tail-block-3 (tail-form-calls t) (tail-form-at t) tail-form.Post
-tail-form-sub-tail-block-3 t c =
+tail-form-sub-tail-block : (t : ℕ) → tail-form-lts.Need-sub-tail-block (tail-form-calls t) (tail-form-at t) tail-form.Post
+tail-form-sub-tail-block t c =
     let s = c .before .before .before .before .before .before in
     let lt = s .pre .1 .0 in
     let z = s .pre .1 .1 .1 in
-    let v = c .before .before .before .before .get .ensures in
-    let h = loop-at lt (z .forms .part) v (c .before .if2 .taken) in
+    let h = loop-at lt (z .forms .part) (c .before .before .before .before .get .ensures) (c .before .if2 .taken) in
     h .opens
 
 tail-form-mul-tail-block : (t : ℕ) → tail-form-lts.Need-mul-tail-block (tail-form-calls t) (tail-form-at t) tail-form.Post
@@ -292,15 +291,14 @@ tail-form-mul-tail-block t c = search needs
 tail-form-element-copy-out-tail-block : (t : ℕ) → tail-form-lts.Need-element-copy-out-tail-block (tail-form-calls t) (tail-form-at t) tail-form.Post
 tail-form-element-copy-out-tail-block t c = search needs
 
-tail-form-sub-tail-block-4 : (t : ℕ) → tail-form-lts.Need-sub-tail-block-4 (tail-form-calls t) (tail-form-at t) tail-form.Post
-tail-form-sub-tail-block-4 t c =
+tail-form-sub-tail-block-2 : (t : ℕ) → tail-form-lts.Need-sub-tail-block-2 (tail-form-calls t) (tail-form-at t) tail-form.Post
+tail-form-sub-tail-block-2 t c =
     let s = c .before .before .before .before .before .before .before in
     let lt = s .pre .1 .0 in
     let z = s .pre .1 .1 .1 in
     let ts = s .args .sums .now in
     let x = s .args .e in
-    let v = c .before .before .before .before .before .get .ensures in
-    let h = loop-at lt (z .forms .part) v (c .before .before .if2 .taken) in
+    let h = loop-at lt (z .forms .part) (c .before .before .before .before .before .get .ensures) (c .before .before .if2 .taken) in
     let ht : c .before .before .before .weight .result + x ≡ lead C ts (z .forms .part .lines) + x = ap (λ (y : ℕ). y + x) (c .before .before .before .weight .ensures (ready-zero lt z)) in
     loop-behind lt z h ht .2
 
@@ -311,67 +309,39 @@ tail-form-tail-block-requires-3 t c κs =
     let z = s .pre .1 .1 .1 in
     let ts = s .args .sums .now in
     let x = s .args .e in
-    let v = c .before .before .before .before .before .before .before .get .ensures in
-    let h = loop-at lt (z .forms .part) v (c .before .before .before .before .if2 .taken) in
+    let h = loop-at lt (z .forms .part) (c .before .before .before .before .before .before .before .get .ensures) (c .before .before .before .before .if2 .taken) in
     let ht : c .before .before .before .before .before .weight .result + x ≡ lead C ts (z .forms .part .lines) + x = ap (λ (y : ℕ). y + x) (c .before .before .before .before .before .weight .ensures (ready-zero lt z)) in
     let e = ends lt (z .forms .part) in
-    (omega (arith, h .opens), ((omega (arith, e, c .before .before .before .index3 .ensures, s .pre .1 .1 .0 .0), omega (arith, e, c .before .before .before .index3 .ensures, s .pre .1 .1 .0 .1), s .pre .1 .1 .0 .2), body-sized lt z (c .before .before .before .index3 .ensures) h (loop-behind lt z h ht .1)))
-
-tail-form-mul-out-2 : (t : ℕ) → tail-form-lts.Need-mul-out-2 (tail-form-calls t) (tail-form-at t) tail-form.Post
-tail-form-mul-out-2 t c =
-    let s = c .before .before .before .before .before .before .before .before .before .before in
-    let lt = s .pre .1 .0 in
-    omega (arith, lt, s .pre .1 .1 .0 .1)
-
-tail-form-element-write-out-2 : (t : ℕ) → tail-form-lts.Need-element-write-out-2 (tail-form-calls t) (tail-form-at t) tail-form.Post
-tail-form-element-write-out-2 t c =
-    let s = c .before .before .before .before .before .before .before .before .before .before in
-    let lt = s .pre .1 .0 in
-    omega (arith, lt, s .pre .1 .1 .0 .1)
+    let he = c .before .before .before .index3 .ensures in
+    (omega (arith, h .opens), ((omega (arith, e, he, s .pre .1 .1 .0 .0), omega (arith, e, he, s .pre .1 .1 .0 .1), s .pre .1 .1 .0 .2), body-sized lt z he h (loop-behind lt z h ht .1)))
 
 tail-form-returns-2 : (t : ℕ) → tail-form-lts.Need-returns-2 (tail-form-calls t) (tail-form-at t) tail-form.Post
 tail-form-returns-2 t c =
     let s = c .before .before .before .before .before .before .before .before .before .before in
     let lt = s .pre .1 .0 in
     let ts = s .args .sums .now in
-    let o = s .args .out .now in
     let x = s .args .e in
-    let v = c .before .before .before .before .before .before .before .before .get .ensures in (
-      (λ p. let ht : c .before .before .before .before .before .before .weight .result + x ≡ lead C ts (p .forms .part .lines) + x = ap (λ (y : ℕ). y + x) (c .before .before .before .before .before .before .weight .ensures (ready-zero lt p)) in
-          ht),
+    let o = s .args .out .now in (
+      (λ p. ap (λ (y : ℕ). y + x) (c .before .before .before .before .before .before .weight .ensures (ready-zero lt p))),
       (
-        (λ p. let h = loop-at lt (p .forms .part) v (c .before .before .before .before .before .if2 .taken) in
+        (λ p. let h = loop-at lt (p .forms .part) (c .before .before .before .before .before .before .before .before .get .ensures) (c .before .before .before .before .before .if2 .taken) in
             let ht : c .before .before .before .before .before .before .weight .result + x ≡ lead C ts (p .forms .part .lines) + x = ap (λ (y : ℕ). y + x) (c .before .before .before .before .before .before .weight .ensures (ready-zero lt p)) in
-            loop-front (tail-rule ts) o x h ht (loop-behind lt p h ht .0) (c .tail-block3 .ensures .1 .0 (body-sized lt p (c .before .before .before .before .index3 .ensures) h (loop-behind lt p h ht .1)))),
+            front-loop (tail-rule ts) o x h ht (loop-behind lt p h ht .0) (c .tail-block3 .ensures .1 .0 (body-sized lt p (c .before .before .before .before .index3 .ensures) h (loop-behind lt p h ht .1)))),
         c .tail-block3 .ensures .1 .1,
       ),
     )
-
-tail-form-mul-out-3 : (t : ℕ) → tail-form-lts.Need-mul-out-3 (tail-form-calls t) (tail-form-at t) tail-form.Post
-tail-form-mul-out-3 t c =
-    let s = c .before .before .before .before .before in
-    let lt = s .pre .1 .0 in
-    omega (arith, lt, s .pre .1 .1 .0 .1)
-
-tail-form-element-write-out-3 : (t : ℕ) → tail-form-lts.Need-element-write-out-3 (tail-form-calls t) (tail-form-at t) tail-form.Post
-tail-form-element-write-out-3 t c =
-    let s = c .before .before .before .before .before in
-    let lt = s .pre .1 .0 in
-    omega (arith, lt, s .pre .1 .1 .0 .1)
 
 tail-form-returns-3 : (t : ℕ) → tail-form-lts.Need-returns-3 (tail-form-calls t) (tail-form-at t) tail-form.Post
 tail-form-returns-3 t c =
     let s = c .before .before .before .before .before in
     let lt = s .pre .1 .0 in
     let ts = s .args .sums .now in
-    let o = s .args .out .now in
     let x = s .args .e in
-    let v = c .before .before .before .get .ensures in (
-      (λ p. let ht : c .before .weight .result + x ≡ lead C ts (p .forms .part .lines) + x = ap (λ (y : ℕ). y + x) (c .before .weight .ensures (ready-zero lt p)) in
-          ht),
+    let o = s .args .out .now in (
+      (λ p. ap (λ (y : ℕ). y + x) (c .before .weight .ensures (ready-zero lt p))),
       (
         (λ p. let ht : c .before .weight .result + x ≡ lead C ts (p .forms .part .lines) + x = ap (λ (y : ℕ). y + x) (c .before .weight .ensures (ready-zero lt p)) in
-            plain-front (tail-rule ts) o x lt (p .forms) v (c .if2 .left) (c .before .before .if1 .left) ht),
+            plain-front (tail-rule ts) o x lt (p .forms) (c .before .before .before .get .ensures) (c .if2 .left) (c .before .before .if1 .left) ht),
         kept-all (s .args .seq .now),
       ),
     )
@@ -398,10 +368,9 @@ pub +tail-block+tail-form-spec : {M : Type 1} → statement M
     (tail-form-get-requires t)
     (tail-form-index-requires t)
     (tail-form-index-requires-2 t)
+    (tail-form-sub-rest t)
     (tail-form-add-tail-block t)
-    (tail-form-sub-tail-block t)
     (tail-form-tail-block-requires t)
-    (tail-form-sub-tail-block-2 t)
     (tail-form-tail-block-requires-2 t)
     (tail-form-get-requires-2 t)
     (tail-form-larger-requires t)
@@ -411,16 +380,14 @@ pub +tail-block+tail-form-spec : {M : Type 1} → statement M
     (tail-form-returns t)
     (tail-form-weight-requires t)
     (tail-form-add-t-2 t)
-    (tail-form-index-requires-3 t)
-    (tail-form-add-tail-block-2 t)
-    (tail-form-sub-tail-block-3 t)
-    (tail-form-mul-tail-block t)
-    (tail-form-element-copy-out-tail-block t)
-    (tail-form-sub-tail-block-4 t)
-    (tail-form-tail-block-requires-3 t)
     (tail-form-mul-out-2 t)
     (tail-form-element-write-out-2 t)
+    (tail-form-index-requires-3 t)
+    (tail-form-add-tail-block-2 t)
+    (tail-form-sub-tail-block t)
+    (tail-form-mul-tail-block t)
+    (tail-form-element-copy-out-tail-block t)
+    (tail-form-sub-tail-block-2 t)
+    (tail-form-tail-block-requires-3 t)
     (tail-form-returns-2 t)
-    (tail-form-mul-out-3 t)
-    (tail-form-element-write-out-3 t)
     (tail-form-returns-3 t)

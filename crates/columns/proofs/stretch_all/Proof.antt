@@ -13,10 +13,10 @@ use Rattle.columns.proofs.stretch_all.Statement.{statement}
 use Rattle.columns.proofs.stretch_all.Tie as tie
 
 abbrev Inv-loop : tie.InvT-loop
-Inv-loop row starts n column sums turn heads out₀ seq₀ after₀ f₀ out seq after f = (f ≤ n) × (length seq ≡ 512) × ((v : Summed (cost-in column) row starts n sums turn) → Driving (cost-in column) row starts sums turn n (λ g x. silence-of (head-at heads g) x) v f after out out₀)
+Inv-loop row starts n column sums turn heads out₀ seq₀ follows₀ f₀ out seq follows f = (f ≤ n) × (length seq ≡ 512) × ((v : Summed (cost-in column) row starts n sums turn) → Driving (cost-in column) row starts sums turn n (λ g x. silence-of (head-at heads g) x) v f follows out out₀)
 
 abbrev μ-loop : tie.MeasureT-loop
-μ-loop row starts n column sums turn heads out₀ seq₀ after₀ f₀ out seq after f = f
+μ-loop row starts n column sums turn heads out₀ seq₀ follows₀ f₀ out seq follows f = f
 
 loop-holds : tie.Need-loop-holds Inv-loop μ-loop
 loop-holds c = let s = c .before .before in (omega arith, length-replicate {A = ℕ} 512 0, λ v. drive-start v (s .args .out .now))
@@ -65,7 +65,7 @@ stretch-block-requires c κs =
     let v = s .pre .1 in
     let f = a .f - 1 in
     let l : f < s .args .n = omega (arith, a .inv .0, lt) in
-    ((plan-inside (v .plan) f l .0, plan-inside (v .plan) f l .1, a .inv .1, s .pre .0 .2, s .pre .0 .3), fun-sized v f (getD (a .after) f 0) l (drive-fits (a .inv .2 v) f l))
+    ((plan-inside (v .plan) f l .0, plan-inside (v .plan) f l .1, a .inv .1, s .pre .0 .2, s .pre .0 .3), fun-sized v f (getD (a .follows) f 0) l (drive-fits (a .inv .2 v) f l))
 
 loop-less : tie.Need-loop-less Inv-loop μ-loop
 loop-less c = search needs
@@ -78,7 +78,7 @@ loop-again c =
     let v = s .pre .1 in
     let f = a .f - 1 in
     let l : f < s .args .n = omega (arith, a .inv .0, lt) in
-    (omega (arith, a .inv .0), c .stretch-block .ensures .1 .1 .1 .long ∙ a .inv .1, λ v. drive-on lt (a .inv .0) refl (c .stretch-block .ensures .1 .0 (fun-sized v f (getD (a .after) f 0) l (drive-fits (a .inv .2 v) f l))) (c .stretch-block .ensures .1 .1 .0 (fun-sized v f (getD (a .after) f 0) l (drive-fits (a .inv .2 v) f l))) (a .inv .2 v))
+    (omega (arith, a .inv .0), c .stretch-block .ensures .1 .1 .1 .long ∙ a .inv .1, λ v. drive-on lt (a .inv .0) refl (c .stretch-block .ensures .1 .0 (fun-sized v f (getD (a .follows) f 0) l (drive-fits (a .inv .2 v) f l))) (c .stretch-block .ensures .1 .1 .0 (fun-sized v f (getD (a .follows) f 0) l (drive-fits (a .inv .2 v) f l))) (a .inv .2 v))
 
 returns : tie.Need-returns Inv-loop μ-loop
 returns c = λ v. driven (omega (arith, c .loop-test .left)) (c .before .loop .inv .2 v)

@@ -6,14 +6,13 @@ use mathlib.Core.Path.{refl}
 use Prim.Native.Nat.{ℕ, _-_, _≤_, _<_}
 use Rattle.rows.proofs.Answers.{said-true, said-false}
 use Rattle.rows.specs.Plans.{Plan-of, lines-of}
-use Rattle.rows.proofs.Plans.{plan-inside}
-use Rattle.columns.proofs.Functions.{fun-part, fun-order}
-use Rattle.columns.proofs.Fitting.{begins, Right, right-on, derived-right, right-derived}
+use Rattle.columns.specs.Private.{FunctionFits}
+use Rattle.columns.proofs.Fitting.{fits-on, derived-fits, fits-derived}
 use Rattle.columns.proofs.tails_agree.Statement.{statement}
 use Rattle.columns.proofs.tails_agree.Tie as tie
 
 abbrev Inv-loop : tie.InvT-loop
-Inv-loop row starts n sums turn tail f₀ f = (f ≤ n) × ((v : Plan-of row starts n) (g : ℕ) → g < f → Right sums turn tail starts (lines-of v) g)
+Inv-loop row starts n sums turn tail f₀ f = (f ≤ n) × ((v : Plan-of row starts n) (g : ℕ) → g < f → FunctionFits sums turn tail starts (lines-of v) g)
 
 abbrev μ-loop : tie.MeasureT-loop
 μ-loop row starts n sums turn tail f₀ f = n - f
@@ -45,76 +44,20 @@ returns-3 c = λ v l. said-false (c .before .settled .result) (not-true _ (c .if
 loop-holds : tie.Need-loop-holds Inv-loop μ-loop
 loop-holds c = (omega arith, λ v g l. absurd (omega arith))
 
-mul-from : tie.Need-mul-from Inv-loop μ-loop
-mul-from c = search needs
+function-fits-requires : tie.Need-function-fits-requires Inv-loop μ-loop
+function-fits-requires c κs =
+    let s = c .before .before .before .before .before .before .before .before .before .before .before .before in
+    ((c .loop-test .taken, s .pre .0 .0, s .pre .0 .1), ((omega (arith, c .before .before .before .before .before .before .if1 .left), omega (arith, c .before .before .before .before .if2 .left)), s .pre .1))
 
-shared-slice-read-from : tie.Need-shared-slice-read-from Inv-loop μ-loop
-shared-slice-read-from c = search needs
-
-add-to : tie.Need-add-to Inv-loop μ-loop
-add-to c = search needs
-
-mul-to : tie.Need-mul-to Inv-loop μ-loop
-mul-to c = search needs
-
-shared-slice-read-to : tie.Need-shared-slice-read-to Inv-loop μ-loop
-shared-slice-read-to c = search needs
-
-block-fits-requires : tie.Need-block-fits-requires Inv-loop μ-loop
-block-fits-requires c κs =
+returns-4 : tie.Need-returns-4 Inv-loop μ-loop
+returns-4 c =
     let s = c .before .before .before .before .before .before .before .before .before .before .before .before .before .before in
     let ts = s .args .sums .now in
     let o = s .args .turn .now in
     let u = s .args .tail .now in
-    let starts = s .args .starts .now in
+    let w = s .args .starts .now in
     let f = c .before .before .before .loop .f in
-    let lt = c .before .before .loop-test .taken in
-    let v = s .pre .1 in
-    let e = fun-order v f (s .args .n) lt (omega arith) in
-    ((plan-inside v f lt .0, omega (arith, e, c .before .before .before .before .before .before .before .before .if1 .left), omega (arith, e, c .before .before .before .before .before .before .if2 .left), omega arith), fun-part v f lt)
-
-returns-4 : tie.Need-returns-4 Inv-loop μ-loop
-returns-4 c =
-    let s = c .before .before .before .before .before .before .before .before .before .before .before .before .before .before .before .before in
-    let ts = s .args .sums .now in
-    let o = s .args .turn .now in
-    let u = s .args .tail .now in
-    let starts = s .args .starts .now in
-    let f = c .before .before .before .before .before .loop .f in
-    let lt = c .before .before .before .before .loop-test .taken in
-    λ v l. said-false (c .before .block-fits .result) (not-true _ (c .if4 .taken)) (c .before .block-fits .ensures (fun-part v f lt)) (derived-right ts o u starts (lines-of v) l f lt .0)
-
-mul-if5 : tie.Need-mul-if5 Inv-loop μ-loop
-mul-if5 c = search needs
-
-element-copy-out-if5 : tie.Need-element-copy-out-if5 Inv-loop μ-loop
-element-copy-out-if5 c = search needs
-
-start-requires : tie.Need-start-requires Inv-loop μ-loop
-start-requires c κs =
-    let s = c .before .before .before .before .before .before .before .before .before .before .before .before .before .before .before .before .before in
-    let ts = s .args .sums .now in
-    let o = s .args .turn .now in
-    let u = s .args .tail .now in
-    let starts = s .args .starts .now in
-    let f = c .before .before .before .before .before .before .loop .f in
-    let lt = c .before .before .before .before .before .loop-test .taken in
-    let v = s .pre .1 in
-    let e = fun-order v f (s .args .n) lt (omega arith) in
-    omega (arith, e, c .before .before .before .before .before .before .before .before .before .if2 .left)
-
-returns-5 : tie.Need-returns-5 Inv-loop μ-loop
-returns-5 c =
-    let s = c .before .before .before .before .before .before .before .before .before .before .before .before .before .before .before .before .before .before .before in
-    let ts = s .args .sums .now in
-    let o = s .args .turn .now in
-    let u = s .args .tail .now in
-    let starts = s .args .starts .now in
-    let f = c .before .before .before .before .before .before .before .before .loop .f in
-    let lt = c .before .before .before .before .before .before .before .loop-test .taken in
-    λ v l. let fit = said-true (c .before .before .before .before .block-fits .result) (not-false _ (c .before .before .before .if4 .left)) (c .before .before .before .before .block-fits .ensures (fun-part v f lt)) in
-    let y = begins ts o u (c .before .start .ensures) (fun-part v f lt) fit in
-    c .if5 .taken (omega (arith, y, derived-right ts o u starts (lines-of v) l f lt .1))
+    λ v l. said-false {A = FunctionFits ts o u w (lines-of v) f} (c .before .function-fits .result) (not-true _ (c .if4 .taken)) (c .before .function-fits .ensures v) (derived-fits ts o u w (lines-of v) l f (c .before .before .loop-test .taken))
 
 add-f : tie.Need-add-f Inv-loop μ-loop
 add-f c = search needs
@@ -124,27 +67,25 @@ loop-less c = search needs
 
 loop-again : tie.Need-loop-again Inv-loop μ-loop
 loop-again c =
-    let s = c .before .before .before .before .before .before .before .before .before .before .before .before .before .before .before .before .before .before .before in
+    let s = c .before .before .before .before .before .before .before .before .before .before .before .before .before .before in
     let ts = s .args .sums .now in
     let o = s .args .turn .now in
     let u = s .args .tail .now in
-    let starts = s .args .starts .now in
-    let f = c .before .before .before .before .before .before .before .before .loop .f in
-    let lt = c .before .before .before .before .before .before .before .loop-test .taken in (
+    let w = s .args .starts .now in
+    let f = c .before .before .before .loop .f in (
       omega arith,
-      λ v. let fit = said-true (c .before .before .before .before .block-fits .result) (not-false _ (c .before .before .before .if4 .left)) (c .before .before .before .before .block-fits .ensures (fun-part v f lt)) in
-          let y = begins ts o u (c .before .start .ensures) (fun-part v f lt) fit in
-          right-on ts o u starts (lines-of v) (c .before .before .before .before .before .before .before .before .loop .inv .1 v) (fit, omega (arith, y, c .if5 .left)) refl,
+      λ v. fits-on ts o u w (lines-of v) (c .before .before .before .loop .inv .1 v)
+          (said-true {A = FunctionFits ts o u w (lines-of v) f} (c .before .function-fits .result) (not-false _ (c .if4 .left)) (c .before .function-fits .ensures v)) refl,
     )
 
-returns-6 : tie.Need-returns-6 Inv-loop μ-loop
-returns-6 c =
+returns-5 : tie.Need-returns-5 Inv-loop μ-loop
+returns-5 c =
     let s = c .before .before .before .before .before .before .before .before .before .before .before .before in
     let ts = s .args .sums .now in
     let o = s .args .turn .now in
     let u = s .args .tail .now in
-    let starts = s .args .starts .now in
-    λ v. right-derived ts o u starts (lines-of v) (λ g l. c .before .loop .inv .1 v g (omega (arith, l, c .loop-test .left)))
+    let w = s .args .starts .now in
+    λ v. fits-derived ts o u w (lines-of v) (λ g l. c .before .loop .inv .1 v g (omega (arith, l, c .loop-test .left)))
     (said-true (c .before .before .before .settled .result) (not-false _ (c .before .before .if3 .left)) (c .before .before .before .settled .ensures)) (omega (arith, c .before .before .before .before .before .before .if1 .left)) (omega (arith, c .before .before .before .before .if2 .left))
 
 pub tails-agree-spec : {M : Type 1} → statement M
@@ -162,18 +103,9 @@ tails-agree-spec =
     settled-requires
     returns-3
     loop-holds
-    mul-from
-    shared-slice-read-from
-    add-to
-    mul-to
-    shared-slice-read-to
-    block-fits-requires
+    function-fits-requires
     returns-4
-    mul-if5
-    element-copy-out-if5
-    start-requires
-    returns-5
     add-f
     loop-less
     loop-again
-    returns-6)
+    returns-5)

@@ -1,9 +1,9 @@
 -- `reader::forms` and `reader::if_form` and `reader::one_form` meet their contracts: reading forms calls itself on inner forms, the open brackets rising to 64; each way out is one law. Assumes nothing.
 use Rattle.reader.proofs.Bodies.{StepAt, step-means, sign-means, then-found, else-found, close-found, Going, going-start, going-halt, going-out, going-more, refuses, leads-found, form-leaf, form-call, form-loop-stopped, form-loop, form-no-then, form-deep, form-then, form-no-else, form-else, form-no-close, form-if}
-use Rattle.reader.proofs.Faults.{length-first, getD-first}
+use Rattle.reader.proofs.Faults.{length-first, getD-first, stray-fault}
 use Rattle.reader.proofs.Halts.{Amiss}
 use Rattle.reader.proofs.Allowed.{Allowed, allowed}
-use Rattle.reader.specs.Private.{form-of, FormsAt, FormAt}
+use Rattle.reader.specs.Private.{body-fault, FormsAt, FormAt}
 use Rattle.reader.specs.Machine.{fault}
 use Rattle.text.specs.declared.Form.the-variants.{Then, Else, Close, Leaf, Call, Loop, If}
 use Rattle.text.specs.Grammar.{Found}
@@ -85,12 +85,12 @@ at-take : (t : ℕ) (c : forms-lts.After-known-told3 (forms-calls t) (forms-at t
 at-take t c = step-means (c .before .before .before .before .before .before .args .room) (c .before .before .before .before .before .before .args .d) (c .before .before .before .before .before .before .args .level) (c .before .before .before .before .loop .n) (take (c .before .before .before .before .before .before .args .own) (c .before .before .before .before .before .before .args .tall .now)) (c .before .before .before .before .before .before .args .text .now) (c .before .before .before .before .loop .at) (sym (c .before .b .given .1) ∙ c .before .before .before .one-line .ensures)
 
 inner-stopped : (t : ℕ) (c : forms-lts.After-known-told4 (forms-calls t) (forms-at t) forms.Post forms-Inv-loop forms-μ-loop) →
-    FormAt (c .before .before .before .before .before .before .before .before .before .before .before .args .text .now) (c .before .before .before .before .before .before .before .before .before .before .before .args .room) (take (c .before .before .before .before .before .before .before .before .before .before .before .args .own) (c .before .before .before .before .before .before .before .before .before .before .before .args .tall .now)) (c .before .before .before .before .before .before .before .before .before .before .before .args .d) (c .before .before .before .before .before .before .before .before .before .before .before .args .level) (c .before .before .before .before .before .before .b .given .0 .1 .0) (c .before .before .before .before .before .before .before .before .before .loop .i) (c .before .before .before .before .before .before .before .before .before .loop .n) (form-of (c .before .before .before .before .before .before .b .given .0 .0)) (c .before .before .before .before .before .before .before .before .before .loop .row) (c .before .before .before .one-form .last .1 .1 .1 .1 .1 .1 .1 .1 .1 .1 .0) (Stopped (c .before .r .given .0 .0) (c .before .r .given .0 .1 .0))
-inner-stopped t c = subst (FormAt (c .before .before .before .before .before .before .before .before .before .before .before .args .text .now) (c .before .before .before .before .before .before .before .before .before .before .before .args .room) (take (c .before .before .before .before .before .before .before .before .before .before .before .args .own) (c .before .before .before .before .before .before .before .before .before .before .before .args .tall .now)) (c .before .before .before .before .before .before .before .before .before .before .before .args .d) (c .before .before .before .before .before .before .before .before .before .before .before .args .level) (c .before .before .before .before .before .before .b .given .0 .1 .0) (c .before .before .before .before .before .before .before .before .before .loop .i) (c .before .before .before .before .before .before .before .before .before .loop .n) (form-of (c .before .before .before .before .before .before .b .given .0 .0)) (c .before .before .before .before .before .before .before .before .before .loop .row) (c .before .before .before .one-form .last .1 .1 .1 .1 .1 .1 .1 .1 .1 .1 .0)) (c .before .r .given .1) (c .before .before .before .one-form .ensures)
+    FormAt (c .before .before .before .before .before .before .before .before .before .before .before .args .text .now) (c .before .before .before .before .before .before .before .before .before .before .before .args .room) (take (c .before .before .before .before .before .before .before .before .before .before .before .args .own) (c .before .before .before .before .before .before .before .before .before .before .before .args .tall .now)) (c .before .before .before .before .before .before .before .before .before .before .before .args .d) (c .before .before .before .before .before .before .before .before .before .before .before .args .level) (c .before .before .before .before .before .before .b .given .0 .1 .0) (c .before .before .before .before .before .before .before .before .before .loop .i) (c .before .before .before .before .before .before .before .before .before .loop .n) (c .before .before .before .before .before .before .b .given .0 .0) (c .before .before .before .before .before .before .before .before .before .loop .row) (c .before .before .before .one-form .last .1 .1 .1 .1 .1 .1 .1 .1 .1 .1 .0) (Stopped (c .before .r .given .0 .0) (c .before .r .given .0 .1 .0))
+inner-stopped t c = subst (FormAt (c .before .before .before .before .before .before .before .before .before .before .before .args .text .now) (c .before .before .before .before .before .before .before .before .before .before .before .args .room) (take (c .before .before .before .before .before .before .before .before .before .before .before .args .own) (c .before .before .before .before .before .before .before .before .before .before .before .args .tall .now)) (c .before .before .before .before .before .before .before .before .before .before .before .args .d) (c .before .before .before .before .before .before .before .before .before .before .before .args .level) (c .before .before .before .before .before .before .b .given .0 .1 .0) (c .before .before .before .before .before .before .before .before .before .loop .i) (c .before .before .before .before .before .before .before .before .before .loop .n) (c .before .before .before .before .before .before .b .given .0 .0) (c .before .before .before .before .before .before .before .before .before .loop .row) (c .before .before .before .one-form .last .1 .1 .1 .1 .1 .1 .1 .1 .1 .1 .0)) (c .before .r .given .1) (c .before .before .before .one-form .ensures)
 
 inner-closed : (t : ℕ) (c : forms-lts.After-known-told5 (forms-calls t) (forms-at t) forms.Post forms-Inv-loop forms-μ-loop) →
-    FormAt (c .before .before .before .before .before .before .before .before .before .before .before .args .text .now) (c .before .before .before .before .before .before .before .before .before .before .before .args .room) (take (c .before .before .before .before .before .before .before .before .before .before .before .args .own) (c .before .before .before .before .before .before .before .before .before .before .before .args .tall .now)) (c .before .before .before .before .before .before .before .before .before .before .before .args .d) (c .before .before .before .before .before .before .before .before .before .before .before .args .level) (c .before .before .before .before .before .before .b .given .0 .1 .0) (c .before .before .before .before .before .before .before .before .before .loop .i) (c .before .before .before .before .before .before .before .before .before .loop .n) (form-of (c .before .before .before .before .before .before .b .given .0 .0)) (c .before .before .before .before .before .before .before .before .before .loop .row) (c .before .before .before .one-form .last .1 .1 .1 .1 .1 .1 .1 .1 .1 .1 .0) (Closed (c .before .r2 .given .0 .0) (c .before .r2 .given .0 .1 .0) (c .before .r2 .given .0 .1 .1 .0) (c .before .r2 .given .0 .1 .1 .1 .0))
-inner-closed t c = subst (FormAt (c .before .before .before .before .before .before .before .before .before .before .before .args .text .now) (c .before .before .before .before .before .before .before .before .before .before .before .args .room) (take (c .before .before .before .before .before .before .before .before .before .before .before .args .own) (c .before .before .before .before .before .before .before .before .before .before .before .args .tall .now)) (c .before .before .before .before .before .before .before .before .before .before .before .args .d) (c .before .before .before .before .before .before .before .before .before .before .before .args .level) (c .before .before .before .before .before .before .b .given .0 .1 .0) (c .before .before .before .before .before .before .before .before .before .loop .i) (c .before .before .before .before .before .before .before .before .before .loop .n) (form-of (c .before .before .before .before .before .before .b .given .0 .0)) (c .before .before .before .before .before .before .before .before .before .loop .row) (c .before .before .before .one-form .last .1 .1 .1 .1 .1 .1 .1 .1 .1 .1 .0)) (c .before .r2 .given .1) (c .before .before .before .one-form .ensures)
+    FormAt (c .before .before .before .before .before .before .before .before .before .before .before .args .text .now) (c .before .before .before .before .before .before .before .before .before .before .before .args .room) (take (c .before .before .before .before .before .before .before .before .before .before .before .args .own) (c .before .before .before .before .before .before .before .before .before .before .before .args .tall .now)) (c .before .before .before .before .before .before .before .before .before .before .before .args .d) (c .before .before .before .before .before .before .before .before .before .before .before .args .level) (c .before .before .before .before .before .before .b .given .0 .1 .0) (c .before .before .before .before .before .before .before .before .before .loop .i) (c .before .before .before .before .before .before .before .before .before .loop .n) (c .before .before .before .before .before .before .b .given .0 .0) (c .before .before .before .before .before .before .before .before .before .loop .row) (c .before .before .before .one-form .last .1 .1 .1 .1 .1 .1 .1 .1 .1 .1 .0) (Closed (c .before .r2 .given .0 .0) (c .before .r2 .given .0 .1 .0) (c .before .r2 .given .0 .1 .1 .0) (c .before .r2 .given .0 .1 .1 .1 .0))
+inner-closed t c = subst (FormAt (c .before .before .before .before .before .before .before .before .before .before .before .args .text .now) (c .before .before .before .before .before .before .before .before .before .before .before .args .room) (take (c .before .before .before .before .before .before .before .before .before .before .before .args .own) (c .before .before .before .before .before .before .before .before .before .before .before .args .tall .now)) (c .before .before .before .before .before .before .before .before .before .before .before .args .d) (c .before .before .before .before .before .before .before .before .before .before .before .args .level) (c .before .before .before .before .before .before .b .given .0 .1 .0) (c .before .before .before .before .before .before .before .before .before .loop .i) (c .before .before .before .before .before .before .before .before .before .loop .n) (c .before .before .before .before .before .before .b .given .0 .0) (c .before .before .before .before .before .before .before .before .before .loop .row) (c .before .before .before .one-form .last .1 .1 .1 .1 .1 .1 .1 .1 .1 .1 .0)) (c .before .r2 .given .1) (c .before .before .before .one-form .ensures)
 
 forms-loop-holds : (t : ℕ) → forms-lts.Need-loop-holds (forms-calls t) (forms-at t) forms.Post forms-Inv-loop forms-μ-loop
 forms-loop-holds t c = going-start _ _ _ _ (omega arith) (omega arith) (omega arith)
@@ -288,7 +288,7 @@ one-form-calls t = (put-reads.Asked, put-reads.Learnt, forms-below t, forms.Post
 
 leaf-fine : (t : ℕ) (c : one-form-lts.After-known-told (one-form-calls t) (one-form-at t) one-form.Post) →
     fault (c .before .before .before .before .args .room) (c .before .before .before .before .args .d) (c .before .before .before .before .args .level) (c .before .before .before .before .args .n) (take (c .before .before .before .before .args .own) (c .before .before .before .before .args .tall .now)) (Leaf (c .before .b .given .0 .0) (c .before .b .given .0 .1 .0) (c .before .b .given .0 .1 .1 .0)) ≡ 0
-leaf-fine t c = subst (λ x. fault (c .before .before .before .before .args .room) (c .before .before .before .before .args .d) (c .before .before .before .before .args .level) (c .before .before .before .before .args .n) (take (c .before .before .before .before .args .own) (c .before .before .before .before .args .tall .now)) (form-of x) ≡ 0) (c .before .b .given .1) (c .before .before .before .before .pre .1 .5)
+leaf-fine t c = subst (λ x. body-fault (c .before .before .before .before .args .room) (c .before .before .before .before .args .d) (c .before .before .before .before .args .level) (c .before .before .before .before .args .n) (take (c .before .before .before .before .args .own) (c .before .before .before .before .args .tall .now)) x ≡ 0) (c .before .b .given .1) (c .before .before .before .before .pre .1 .5)
 
 leaf-ok : (t : ℕ) (c : one-form-lts.After-known-told (one-form-calls t) (one-form-at t) one-form.Post) →
     Allowed (c .before .before .before .before .args .room) (c .before .before .before .before .args .d) (c .before .before .before .before .args .level) (c .before .before .before .before .args .n) (take (c .before .before .before .before .args .own) (c .before .before .before .before .args .tall .now)) (Leaf (c .before .b .given .0 .0) (c .before .b .given .0 .1 .0) (c .before .b .given .0 .1 .1 .0))
@@ -296,7 +296,7 @@ leaf-ok t c = allowed (c .before .before .before .before .args .room) (c .before
 
 call-fine : (t : ℕ) (c : one-form-lts.After-known-told2 (one-form-calls t) (one-form-at t) one-form.Post) →
     fault (c .before .before .before .before .args .room) (c .before .before .before .before .args .d) (c .before .before .before .before .args .level) (c .before .before .before .before .args .n) (take (c .before .before .before .before .args .own) (c .before .before .before .before .args .tall .now)) (Call (c .before .b2 .given .0 .0) (c .before .b2 .given .0 .1 .0) (c .before .b2 .given .0 .1 .1 .0) (c .before .b2 .given .0 .1 .1 .1 .0)) ≡ 0
-call-fine t c = subst (λ x. fault (c .before .before .before .before .args .room) (c .before .before .before .before .args .d) (c .before .before .before .before .args .level) (c .before .before .before .before .args .n) (take (c .before .before .before .before .args .own) (c .before .before .before .before .args .tall .now)) (form-of x) ≡ 0) (c .before .b2 .given .1) (c .before .before .before .before .pre .1 .5)
+call-fine t c = subst (λ x. body-fault (c .before .before .before .before .args .room) (c .before .before .before .before .args .d) (c .before .before .before .before .args .level) (c .before .before .before .before .args .n) (take (c .before .before .before .before .args .own) (c .before .before .before .before .args .tall .now)) x ≡ 0) (c .before .b2 .given .1) (c .before .before .before .before .pre .1 .5)
 
 call-ok : (t : ℕ) (c : one-form-lts.After-known-told2 (one-form-calls t) (one-form-at t) one-form.Post) →
     Allowed (c .before .before .before .before .args .room) (c .before .before .before .before .args .d) (c .before .before .before .before .args .level) (c .before .before .before .before .args .n) (take (c .before .before .before .before .args .own) (c .before .before .before .before .args .tall .now)) (Call (c .before .b2 .given .0 .0) (c .before .b2 .given .0 .1 .0) (c .before .b2 .given .0 .1 .1 .0) (c .before .b2 .given .0 .1 .1 .1 .0))
@@ -308,7 +308,7 @@ called t c = getD-first (c .before .before .before .before .args .own) (c .befor
 
 loop-fine : (t : ℕ) (c : one-form-lts.After-known-told3 (one-form-calls t) (one-form-at t) one-form.Post) →
     fault (c .before .before .before .before .args .room) (c .before .before .before .before .args .d) (c .before .before .before .before .args .level) (c .before .before .before .before .args .n) (take (c .before .before .before .before .args .own) (c .before .before .before .before .args .tall .now)) (Loop (c .before .b3 .given .0 .0) (c .before .b3 .given .0 .1 .0) (c .before .b3 .given .0 .1 .1 .0) (c .before .b3 .given .0 .1 .1 .1 .0)) ≡ 0
-loop-fine t c = subst (λ x. fault (c .before .before .before .before .args .room) (c .before .before .before .before .args .d) (c .before .before .before .before .args .level) (c .before .before .before .before .args .n) (take (c .before .before .before .before .args .own) (c .before .before .before .before .args .tall .now)) (form-of x) ≡ 0) (c .before .b3 .given .1) (c .before .before .before .before .pre .1 .5)
+loop-fine t c = subst (λ x. body-fault (c .before .before .before .before .args .room) (c .before .before .before .before .args .d) (c .before .before .before .before .args .level) (c .before .before .before .before .args .n) (take (c .before .before .before .before .args .own) (c .before .before .before .before .args .tall .now)) x ≡ 0) (c .before .b3 .given .1) (c .before .before .before .before .pre .1 .5)
 
 loop-ok : (t : ℕ) (c : one-form-lts.After-known-told3 (one-form-calls t) (one-form-at t) one-form.Post) →
     Allowed (c .before .before .before .before .args .room) (c .before .before .before .before .args .d) (c .before .before .before .before .args .level) (c .before .before .before .before .args .n) (take (c .before .before .before .before .args .own) (c .before .before .before .before .args .tall .now)) (Loop (c .before .b3 .given .0 .0) (c .before .b3 .given .0 .1 .0) (c .before .b3 .given .0 .1 .1 .0) (c .before .b3 .given .0 .1 .1 .1 .0))
@@ -316,11 +316,7 @@ loop-ok t c = allowed (c .before .before .before .before .args .room) (c .before
 
 if-fine : (t : ℕ) (c : one-form-lts.After-known-told5 (one-form-calls t) (one-form-at t) one-form.Post) →
     fault (c .before .before .before .before .args .room) (c .before .before .before .before .args .d) (c .before .before .before .before .args .level) (c .before .before .before .before .args .n) (take (c .before .before .before .before .args .own) (c .before .before .before .before .args .tall .now)) (If (c .before .b4 .given .0 .0) (c .before .b4 .given .0 .1 .0) (c .before .b4 .given .0 .1 .1 .0)) ≡ 0
-if-fine t c = subst (λ x. fault (c .before .before .before .before .args .room) (c .before .before .before .before .args .d) (c .before .before .before .before .args .level) (c .before .before .before .before .args .n) (take (c .before .before .before .before .args .own) (c .before .before .before .before .args .tall .now)) (form-of x) ≡ 0) (c .before .b4 .given .1) (c .before .before .before .before .pre .1 .5)
-
-if-ok : (t : ℕ) (c : one-form-lts.After-known-told5 (one-form-calls t) (one-form-at t) one-form.Post) →
-    Allowed (c .before .before .before .before .args .room) (c .before .before .before .before .args .d) (c .before .before .before .before .args .level) (c .before .before .before .before .args .n) (take (c .before .before .before .before .args .own) (c .before .before .before .before .args .tall .now)) (If (c .before .b4 .given .0 .0) (c .before .b4 .given .0 .1 .0) (c .before .b4 .given .0 .1 .1 .0))
-if-ok t c = allowed (c .before .before .before .before .args .room) (c .before .before .before .before .args .d) (c .before .before .before .before .args .level) (c .before .before .before .before .args .n) (take (c .before .before .before .before .args .own) (c .before .before .before .before .args .tall .now)) (If (c .before .b4 .given .0 .0) (c .before .b4 .given .0 .1 .0) (c .before .b4 .given .0 .1 .1 .0)) (if-fine t c)
+if-fine t c = subst (λ x. body-fault (c .before .before .before .before .args .room) (c .before .before .before .before .args .d) (c .before .before .before .before .args .level) (c .before .before .before .before .args .n) (take (c .before .before .before .before .args .own) (c .before .before .before .before .args .tall .now)) x ≡ 0) (c .before .b4 .given .1) (c .before .before .before .before .pre .1 .5)
 
 body-stopped : (t : ℕ) (c : one-form-lts.After-enum-told (one-form-calls t) (one-form-at t) one-form.Post) →
     FormsAt (c .before .before .before .before .before .before .before .before .args .text .now) (c .before .before .before .before .before .before .before .before .args .room) (take (c .before .before .before .before .before .before .before .before .args .own) (c .before .before .before .before .before .before .before .before .args .tall .now)) (c .before .before .before .before .before .before .before .before .args .d + 1) (c .before .before .before .before .before .before .before .before .args .level + 1) (c .before .before .before .before .before .before .before .before .args .at) (c .before .before .before .before .before .before .before .before .args .i + 1) (c .before .before .before .before .before .before .before .before .args .n + 1) (c .before .before .before .before .before .before .before .before .args .row .now) (c .before .before .forms .last .1 .1 .1 .1 .1 .1 .1 .1 .1 .0) (Stopped (c .enum-told .given .0 .0) (c .enum-told .given .0 .1 .0))
@@ -420,6 +416,12 @@ one-form-returns-4 t c = rw (c .before .before .before .before .before .before .
 one-form-returns-5 : (t : ℕ) → one-form-lts.Need-returns-5 (one-form-calls t) (one-form-at t) one-form.Post
 one-form-returns-5 t c = rw (c .before .before .before .b4 .given .1) (c .if-form .ensures)
 
+one-form-returns-6 : (t : ℕ) → one-form-lts.Need-returns-6 (one-form-calls t) (one-form-at t) one-form.Post
+one-form-returns-6 t c =
+    let s = c .before .before in
+    let a = s .args in
+    absurd (omega (arith, stray-fault (a .room) (a .d) (a .level) (a .n) (take (a .own) (a .tall .now)) (a .b) (c .match .keys5) ∙ s .pre .1 .5))
+
 pub +forms+if-form+one-form-spec : {M : Type 1} → statement M
 +forms+if-form+one-form-spec = close μ-forms μ-if-form μ-one-form (λ t. forms-lts.spec (forms-calls t)
     (forms-at t)
@@ -511,3 +513,4 @@ pub +forms+if-form+one-form-spec : {M : Type 1} → statement M
     (one-form-returns-3 t)
     (one-form-returns-4 t)
     (one-form-returns-5 t)
+    (one-form-returns-6 t)

@@ -1,4 +1,5 @@
 -- `reader::in_task` meets its contract: for each kind of line what it is in the task. Assumes nothing.
+use borrow.Author.Tests.{eq-eqb, ne-eqb}
 use borrow.Author.Needs.{needs}
 use Rattle.reader.proofs.in_task.Statement.{statement}
 use Rattle.reader.proofs.in_task.Tie as tie
@@ -15,59 +16,17 @@ enum-told c = search needs
 returns : tie.Need-returns
 returns c = rw (← (c .before .before .line .ensures), c .enum-told .given .1)
 
-enum-told-2 : tie.Need-enum-told-2
-enum-told-2 c = search needs
-
-enum-told-3 : tie.Need-enum-told-3
-enum-told-3 c = search needs
-
-enum-told-4 : tie.Need-enum-told-4
-enum-told-4 c = search needs
-
-enum-told-5 : tie.Need-enum-told-5
-enum-told-5 c = search needs
-
-enum-told-6 : tie.Need-enum-told-6
-enum-told-6 c = search needs
-
-enum-told-7 : tie.Need-enum-told-7
-enum-told-7 c = search needs
-
-enum-told-8 : tie.Need-enum-told-8
-enum-told-8 c = search needs
-
-enum-told-9 : tie.Need-enum-told-9
-enum-told-9 c = search needs
-
-enum-told-10 : tie.Need-enum-told-10
-enum-told-10 c = search needs
+tag-requires : tie.Need-tag-requires
+tag-requires c κs = search needs
 
 returns-2 : tie.Need-returns-2
-returns-2 c = rw (← (c .before .before .before .before .before .line .ensures), c .before .before .before .f .given .1, c .enum-told2 .given .1)
+returns-2 c = rw (← (c .before .before .before .before .before .line .ensures), c .before .before .before .f .given .1, ← (c .before .tag .ensures), eq-eqb _ _ (c .if1 .taken))
 
 returns-3 : tie.Need-returns-3
-returns-3 c = rw (← (c .before .before .before .before .before .line .ensures), c .before .before .before .f .given .1, c .enum-told3 .given .1)
+returns-3 c = rw (← (c .before .before .before .before .before .before .line .ensures), c .before .before .before .before .f .given .1, ← (c .before .before .tag .ensures), ne-eqb _ _ (c .before .if1 .left), eq-eqb _ _ (c .if2 .taken))
 
 returns-4 : tie.Need-returns-4
-returns-4 c = rw (← (c .before .before .before .before .before .line .ensures), c .before .before .before .f .given .1, c .enum-told4 .given .1)
-
-returns-5 : tie.Need-returns-5
-returns-5 c = rw (← (c .before .before .before .before .before .line .ensures), c .before .before .before .f .given .1, c .enum-told5 .given .1)
-
-returns-6 : tie.Need-returns-6
-returns-6 c = rw (← (c .before .before .before .before .before .line .ensures), c .before .before .before .f .given .1, c .enum-told6 .given .1)
-
-returns-7 : tie.Need-returns-7
-returns-7 c = rw (← (c .before .before .before .before .before .line .ensures), c .before .before .before .f .given .1, c .enum-told7 .given .1)
-
-returns-8 : tie.Need-returns-8
-returns-8 c = rw (← (c .before .before .before .before .before .line .ensures), c .before .before .before .f .given .1, c .enum-told8 .given .1)
-
-returns-9 : tie.Need-returns-9
-returns-9 c = rw (← (c .before .before .before .before .before .line .ensures), c .before .before .before .f .given .1, c .enum-told9 .given .1)
-
-returns-10 : tie.Need-returns-10
-returns-10 c = rw (← (c .before .before .before .before .before .line .ensures), c .before .before .before .f .given .1, c .enum-told10 .given .1)
+returns-4 c = rw (← (c .before .before .before .before .before .before .line .ensures), c .before .before .before .before .f .given .1, ← (c .before .before .tag .ensures), ne-eqb _ _ (c .before .if1 .left), ne-eqb _ _ (c .if2 .left))
 
 pub in-task-spec : {M : Type 1} → statement M
 in-task-spec =
@@ -77,21 +36,7 @@ in-task-spec =
     enum-known-f
     enum-told
     returns
-    enum-told-2
-    enum-told-3
-    enum-told-4
-    enum-told-5
-    enum-told-6
-    enum-told-7
-    enum-told-8
-    enum-told-9
-    enum-told-10
+    tag-requires
     returns-2
     returns-3
-    returns-4
-    returns-5
-    returns-6
-    returns-7
-    returns-8
-    returns-9
-    returns-10)
+    returns-4)

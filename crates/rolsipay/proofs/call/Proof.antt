@@ -22,7 +22,7 @@ use contract.Monad.{Fun, fact}
 use contract.Running.{givenOf, tables, tablesOf}
 use types.Kit as Kit
 use types.Kit.{Given, Item, Sq, runs, settles, anyQ, atRet, ‵, raw, _⊛_, ⋆, some, later, _$_, _∵_, !, qed, by, move, drop, use1, use2, split, join, pick, rewrite, fsplit, fsplit3, fjoin, fjoin3, feqI, suffices, frame, await, done}
-use types.Run.{look, look-raw, init, store-raw, forget, stop, hop, fld, from, load, lit, of-opd, bin, and-then, no-more, land, land-last, assigns, first, branches, exec, returns, enter, alloc1, alloc0, params1, pass1, pass0, free1, free0}
+use types.Run.{look, look-raw, init, store-raw, stop, hop, fld, from, load, lit, of-opd, bin, and-then, no-more, land, land-last, assigns, first, branches, exec, returns, enter, alloc1, alloc0, params1, pass1, pass0, free0}
 use types.Part.{whole, sub, look-in}
 use types.SemTy.{Body}
 use sound.WpLaws.{FmC, fmOf, WpFn-mono}
@@ -58,6 +58,7 @@ use Rattle.rolsipay.specs.declared.State.{State}
 use Rattle.rolsipay.specs.declared.Moved.{Moved}
 use Rattle.rolsipay.specs.Calling.{called}
 use Rattle.control.specs.Calls.{call-of}
+use Rattle.rolsipay.proofs.Freeing.{free-at}
 use Rattle.rolsipay.proofs.Gathering.{called-is}
 use Rattle.rolsipay.proofs.Sized.{Arg as Passed, at as passed, Gives, mT, mS}
 use Rattle.rolsipay.proofs.Leaf as F
@@ -224,8 +225,10 @@ module _ {M : Type 1} (𝓤 : URA M) (H : Heap 𝓤) (A : Atoms 𝓤) (W : Given
           assigns ! (of-opd ! (load ! (from ! (fld ! refl (stop !))) (look-in ! 14 (sub ! 0 refl (whole !))))) (from ! (stop !)) (init ! 34 refl (EL.lawful N.the-type N′.the-laws 𝓤 H A W tt .typed (t .answer) _ (answer-is t v is) .0)) $
           owned ! S.the-row (Is S.the-row) (LL.makes S.the-type S′.the-plain 𝓤 H A) (t .state) _ (state-is t v is) $ move ! (1 ∷ 0 ∷ 4 ∷ 5 ∷ 6 ∷ []) $ closes ! tt S.the-row (t .state) (mS (t .state) ∷ []) b″ o″ $
           -- [obs; the borrow; its token; the row's token; what the row owns; the head's token; what its reference owns; _13; …; _0]
-          returns ! (look ! 33 refl) $ forget ! 7 refl $ forget ! 9 refl $ forget ! 11 refl $ forget ! 13 refl $ forget ! 15 refl $ forget ! 17 refl $ forget ! 19 refl $ forget ! 21 refl $ forget ! 23 refl $ forget ! 25 refl $ forget ! 27 refl $ forget ! 29 refl $ forget ! 31 refl $ forget ! 33 refl $
-          move ! (33 ∷ 34 ∷ []) $ free1 ! $ move ! (31 ∷ 32 ∷ []) $ free1 ! $ move ! (29 ∷ 30 ∷ []) $ free1 ! $ move ! (27 ∷ 28 ∷ []) $ free1 ! $ move ! (25 ∷ 26 ∷ []) $ free1 ! $ move ! (23 ∷ 24 ∷ []) $ free1 ! $ move ! (21 ∷ 22 ∷ []) $ free1 ! $ move ! (19 ∷ 20 ∷ []) $ free1 ! $ move ! (17 ∷ 18 ∷ []) $ free1 ! $ move ! (15 ∷ 16 ∷ []) $ free1 ! $ move ! (13 ∷ 14 ∷ []) $ free1 ! $ move ! (11 ∷ 12 ∷ []) $ free1 ! $ move ! (9 ∷ 10 ∷ []) $ free1 ! $ move ! (7 ∷ 8 ∷ []) $ free1 ! $ free0 ! $ by ! (exits t e (answer-is t v is))
+          returns ! (look ! 33 refl) $
+          free-at ! 33 refl refl $ free-at ! 31 refl refl $ free-at ! 29 refl refl $ free-at ! 27 refl refl $ free-at ! 25 refl refl $
+          free-at ! 23 refl refl $ free-at ! 21 refl refl $ free-at ! 19 refl refl $ free-at ! 17 refl refl $ free-at ! 15 refl refl $
+          free-at ! 13 refl refl $ free-at ! 11 refl refl $ free-at ! 9 refl refl $ free-at ! 7 refl refl $ free0 ! $ by ! (exits t e (answer-is t v is))
 
       -- what runs after the branch, and the callee's result on the way there
       abbrev Rest : Kit.Post 𝓤 H

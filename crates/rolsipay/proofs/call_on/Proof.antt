@@ -1,13 +1,9 @@
 -- `call_on` meets its contract. Assumes nothing.
-use mathlib.Core.Path.{_≡_, ap, sym, _∙_}
+use mathlib.Core.Path.{sym}
 use Prim.Native.Nat.{_*_}
 use native.Mathlib.Omega.{arith}
 use lib.Seq.{length-take-le}
-use Rattle.model.specs.declared.Call.{Call}
-use Rattle.control.specs.declared.Step.{Step}
-use Rattle.control.specs.Calls.{call-on, as-step, call-of}
-use Rattle.rolsipay.specs.Calling.{state-of, moved}
-use Rattle.rolsipay.specs.Private.{table-on}
+use Rattle.control.specs.Calls.{call-of}
 use Rattle.rolsipay.proofs.Gathering.{same-call}
 use borrow.Author.Needs.{needs}
 use Rattle.rolsipay.proofs.call_on.Statement.{statement}
@@ -88,11 +84,8 @@ move-on-requires c κs = search needs
 returns : tie.Need-returns
 returns c =
     let a = c .before .before .before .before .before .before .before .before .before .args in
-    let k : Call = call-of (a .kind) (a .point) (a .reading) in
-    let e : c .before .call .result ≡ as-step (call-on (table-on (a .room) (a .xs .now) (a .n) (a .head)) (state-of (a .state)) k) =
-    c .before .call .ensures ∙ same-call (a .room) (a .xs .now) (a .n) (a .head) (state-of (a .state)) (c .before .before .before .state-in .result) k (c .before .before .call-from .result)
-    (c .before .before .before .state-in .ensures) (c .before .before .call-from .ensures) in
-    c .move-on .ensures ∙ ap (λ (s : Step). moved (a .state) s) e
+    same-call (a .room) (a .xs .now) (a .n) (a .head) (a .state) (call-of (a .kind) (a .point) (a .reading))
+    (c .before .before .before .state-in .ensures) (c .before .before .call-from .ensures) (c .before .call .ensures) (c .move-on .ensures)
 
 pub call-on-spec : {M : Type 1} → statement M
 call-on-spec =

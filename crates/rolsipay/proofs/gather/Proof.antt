@@ -55,7 +55,7 @@ use denote.Triple.Walked.{says, needs, Stays, stay-none, stay-none-slice, stay-s
 use denote.Triple.Clauses.{ensured, lasts}
 use denote.Exit.{yes}
 use Rattle.rolsipay.specs.declared.Leaf.{Leaf}
-use Rattle.rolsipay.specs.Private.{no-leaf, gathered}
+use Rattle.rolsipay.specs.Private.{blank-leaf, gathered}
 use Rattle.rolsipay.proofs.Steps.{holds, fails, length-gathered}
 use Rattle.rolsipay.proofs.Leaf as T
 use Rattle.rolsipay.proofs.Leaf.Laws as T′
@@ -159,13 +159,13 @@ module _ {M : Type 1} (𝓤 : URA M) (H : Heap 𝓤) (A : Atoms 𝓤) (W : Given
 
   -- what `put` is passed, at i, the numbers being lent for ν under δ
   abbrev to-g : ℕ → ℕ → GName → G 𝓤 H A mem run .Ghost
-  to-g i ν δ = (((ν ∷ [], tt), (fullShare, tt), tt, (x δ (after i), (room, (i, (getD ys i no-leaf, tt)))), (xv ∷ [], (vint w64 room ∷ [], (vint w64 i ∷ [], (mach (getD ys i no-leaf) ∷ [], tt))))), tt)
+  to-g i ν δ = (((ν ∷ [], tt), (fullShare, tt), tt, (x δ (after i), (room, (i, (getD ys i blank-leaf, tt)))), (xv ∷ [], (vint w64 room ∷ [], (vint w64 i ∷ [], (mach (getD ys i blank-leaf) ∷ [], tt))))), tt)
 
-  goes-g : (i ν : ℕ) (δ : GName) → i < n → Is T.the-row (getD ys i no-leaf) (vals (getD ys i no-leaf)) → ent 𝓤 (sep 𝓤 (A .lft (ν ∷ []) fullShare) (sem 𝓤 H A (MutSlice (named 0) (ν ∷ []) u64 .own (x δ (after i)) (xv ∷ [])))) (G 𝓤 H A mem run .pre (to-g i ν δ))
+  goes-g : (i ν : ℕ) (δ : GName) → i < n → Is T.the-row (getD ys i blank-leaf) (vals (getD ys i blank-leaf)) → ent 𝓤 (sep 𝓤 (A .lft (ν ∷ []) fullShare) (sem 𝓤 H A (MutSlice (named 0) (ν ∷ []) u64 .own (x δ (after i)) (xv ∷ [])))) (G 𝓤 H A mem run .pre (to-g i ν δ))
   goes-g i ν δ l is =
       qed W (‵ (flft (ν ∷ []) fullShare) ∷ ‵ (MutSlice (named 0) (ν ∷ []) u64 .own (x δ (after i)) (xv ∷ [])) ∷ []) ∵
       says ! (lt-of-lt-of-le l few, most, same i ∙ wide) $ nothing ! $ move ! (1 ∷ 0 ∷ []) $ join ! $ frame ! $
-      nothing ! $ owned ! T.the-row (Is T.the-row) (LL.makes T.the-type T′.the-plain 𝓤 H A) (getD ys i no-leaf) _ is $ fjoin ! $ owned ! usize (Is usize) (uint-makes 𝓤 H A W w64) i _ (refl, lt-trans l n-fits) $ fjoin ! $
+      nothing ! $ owned ! T.the-row (Is T.the-row) (LL.makes T.the-type T′.the-plain 𝓤 H A) (getD ys i blank-leaf) _ is $ fjoin ! $ owned ! usize (Is usize) (uint-makes 𝓤 H A W w64) i _ (refl, lt-trans l n-fits) $ fjoin ! $
       owned ! usize (Is usize) (uint-makes 𝓤 H A W w64) room _ (refl, room-fits) $ fjoin ! $ move ! (1 ∷ 0 ∷ []) $ fjoin ! $ done !
 
   module _ (𝓣 : Tables 𝓤 H) (known : Triple 𝓤 (𝓣 .C #g) (G 𝓤 H A mem run)) (l₀ l₁ l₂ l₃ l₄ l₅ l₆ l₇ l₈ l₉ l₁₀ l₁₁ l₁₂ : ℕ) (s : Share) where
@@ -210,10 +210,10 @@ module _ {M : Type 1} (𝓤 : URA M) (H : Heap 𝓤) (A : Atoms 𝓤) (W : Given
         assigns ! (bin ! (load ! (from ! (stop !)) (look ! 2 refl)) (lit ! tt) (record { fits = bytes-fit i (length ys) inside (row-fits .1) })) (from ! (stop !)) (init ! 7 refl (tt, record { fits = bytes-fit i (length ys) inside (row-fits .1) })) $
         assigns ! (bin ! (load ! (from ! (fld ! refl (stop !))) (look-in ! 10 (sub ! 0 refl (whole !)))) (load ! (from ! (stop !)) (look ! 7 refl)) tt) (from ! (stop !)) (init ! 8 refl (tt, tt)) $
         rewrite ! 8 (λ (p : ℕ). ‵ (fat fullShare tyPtr l₁₁ 0 (vptr b p))) (sym (place-is width o i)) refl $
-        elem-out ! T.the-row (Is T.the-row) (shows 𝓤 H A T.the-row) vals (LL.tells T.the-type T′.the-laws) s ys i no-leaf b o inside (λ is.
+        elem-out ! T.the-row (Is T.the-row) (shows 𝓤 H A T.the-row) vals (LL.tells T.the-type T′.the-laws) s ys i blank-leaf b o inside (λ is.
         -- [row[i]; what it owns; the others; the numbers; _5; …; _12; _1; …; _4; _0; …]
         assigns ! (of-opd ! (load ! (from ! (hop ! (look ! 10 refl) (stop !))) (look-raw ! 0 refl))) (from ! (stop !)) (init ! 11 refl (LL.lawful T.the-type T′.the-laws 𝓤 H A W .typed elem _ is .0)) $
-        elem-back ! T.the-row s ys i no-leaf (vals elem) b o inside $
+        elem-back ! T.the-row s ys i blank-leaf (vals elem) b o inside $
         -- the numbers are lent for a lifetime ν of the call
         lft-new ! tt (λ ν. move ! (2 ∷ []) $
         use1 W (later (some (λ (δ : GName). ‵ (MutSlice (named 0) (ν ∷ []) u64 .own (x δ F) (sliceVal (b′, o′) (length F) ∷ [])) ⊛ ‵ (flent (ν ∷ []) (Held u64 (length F) b′ o′ δ))))) (lends-slice 𝓤 H A W u64 (named 0) (ν ∷ []) F b′ o′ (after-fits i)) $ await ! tt $ pick ! (λ δ. split ! $
@@ -241,7 +241,7 @@ module _ {M : Type 1} (𝓤 : URA M) (H : Heap 𝓤) (A : Atoms 𝓤) (W : Given
         inside = lt-of-lt-of-le l within
 
         elem : Leaf
-        elem = getD ys i no-leaf
+        elem = getD ys i blank-leaf
 
         F : List ℕ
         F = after i

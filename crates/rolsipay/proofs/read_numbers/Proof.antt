@@ -13,8 +13,8 @@ use Rattle.table.specs.declared.Verdict.{Verdict}
 use Rattle.table.specs.Reading.{after-lines, RawOf}
 use Rattle.table.proofs.Writing as writing
 use Rattle.rolsipay.specs.declared.Filled.{Filled}
-use Rattle.rolsipay.specs.Private.{filled, counted}
-use Rattle.rolsipay.proofs.Packing.{packed, told-few, counted-is}
+use Rattle.rolsipay.specs.Private.{filled, filled-of}
+use Rattle.rolsipay.proofs.Packing.{joined, packed, told-few, filled-of-is}
 use Rattle.rolsipay.proofs.read_numbers.Statement.{statement}
 use Rattle.rolsipay.proofs.read_numbers.Tie as tie
 
@@ -46,7 +46,7 @@ head c = c .before .before .before .before .before .before .before .before .befo
 told : (c : tie.After-count) → c .count .result ≡ filled (after-lines (lines (lines-read c))) (head c)
 told c =
     c .count .ensures ∙
-    (ap (λ (v : Verdict). counted v) (c .before .judge .ensures .0 (lines (lines-read c)) (left (lines-read c))) ∙ counted-is (after-lines (lines (lines-read c))) (head c))
+    (ap (λ (v : Verdict). filled-of v) (c .before .judge .ensures .0 (lines (lines-read c)) (left (lines-read c))) ∙ filled-of-is (after-lines (lines (lines-read c))) (head c))
 
 abbrev many : tie.After-count → ℕ
 many c = c .count .result .leaves
@@ -78,13 +78,22 @@ column-taken c l e = length-take-le (many c) l (omega (arith, few c))
 
 -- The array keeps its length.
 out-wide : (c : tie.After-store-at) → length (c .store-at .last .1 .0) ≡ 5632
-out-wide c = ap length (c .store-at .ensures) ∙ (length-sets (c .before .before .before .before .before .before .before .before .before .before .before .before .before .args .out .now) 0 (take (many (c .before .before .before) * 8) (raws (lines-read (c .before .before .before)))) ∙ c .before .before .before .before .before .before .before .before .before .before .before .before .before .pre)
+out-wide c =
+    let k = c .before .before .before in
+    let start = lines-read k .before .before .before in
+    ap length (c .store-at .ensures) ∙ (length-sets (start .args .out .now) 0 (take (many k * 8) (raws (lines-read k))) ∙ start .pre)
 
 out-wide-2 : (c : tie.After-store-at2) → length (c .store-at2 .last .1 .0) ≡ 5632
-out-wide-2 c = ap length (c .store-at2 .ensures) ∙ (length-sets (c .before .before .before .store-at .last .1 .0) 4096 (take (many (c .before .before .before .before .before .before)) (turns (c .before .before .before .before .before .before))) ∙ out-wide (c .before .before .before))
+out-wide-2 c =
+    let l = c .before .before .before in
+    let k = l .before .before .before in
+    ap length (c .store-at2 .ensures) ∙ (length-sets (l .store-at .last .1 .0) 4096 (take (many k) (turns k)) ∙ out-wide l)
 
 out-wide-3 : (c : tie.After-store-at3) → length (c .store-at3 .last .1 .0) ≡ 5632
-out-wide-3 c = ap length (c .store-at3 .ensures) ∙ (length-sets (c .before .before .before .store-at2 .last .1 .0) 4608 (take (many (c .before .before .before .before .before .before .before .before .before)) (tails (c .before .before .before .before .before .before .before .before .before))) ∙ out-wide-2 (c .before .before .before))
+out-wide-3 c =
+    let l = c .before .before .before in
+    let k = l .before .before .before .before .before .before in
+    ap length (c .store-at3 .ensures) ∙ (length-sets (l .store-at2 .last .1 .0) 4608 (take (many k) (tails k)) ∙ out-wide-2 l)
 
 read-lines-requires : tie.Need-read-lines-requires
 read-lines-requires c κs = search needs
@@ -117,51 +126,65 @@ slice-aggregate-store-at : tie.Need-slice-aggregate-store-at
 slice-aggregate-store-at c = sym (row-taken (c .before))
 
 store-at-requires : tie.Need-store-at-requires
-store-at-requires c κs = (omega (arith, row-taken (c .before .before), few (c .before .before)), c .before .before .before .before .before .before .before .before .before .before .before .before .pre)
+store-at-requires c κs =
+    let k = c .before .before in omega (arith, row-taken k, few k, lines-read k .before .before .before .pre)
 
 array-share-prefix-turns : tie.Need-array-share-prefix-turns
-array-share-prefix-turns c = omega (arith, few (c .before .before .before), c .before .before .before .before .judge .ensures .1 .1 .turns-wide)
+array-share-prefix-turns c = let k = c .before .before .before in omega (arith, few k, k .before .judge .ensures .1 .1 .turns-wide)
 
 slice-aggregate-store-at-2 : tie.Need-slice-aggregate-store-at-2
-slice-aggregate-store-at-2 c = sym (column-taken (c .before .before .before .before) (turns (c .before .before .before .before)) (c .before .before .before .before .before .judge .ensures .1 .1 .turns-wide))
+slice-aggregate-store-at-2 c =
+    let k = c .before .before .before .before in sym (column-taken k (turns k) (k .before .judge .ensures .1 .1 .turns-wide))
 
 store-at-requires-2 : tie.Need-store-at-requires-2
-store-at-requires-2 c κs = (omega (arith, column-taken (c .before .before .before .before .before) (turns (c .before .before .before .before .before)) (c .before .before .before .before .before .before .judge .ensures .1 .1 .turns-wide), few (c .before .before .before .before .before)), out-wide (c .before .before))
+store-at-requires-2 c κs =
+    let k = c .before .before .before .before .before in
+    omega (arith, column-taken k (turns k) (k .before .judge .ensures .1 .1 .turns-wide), few k, out-wide (c .before .before))
 
 array-share-prefix-tails : tie.Need-array-share-prefix-tails
-array-share-prefix-tails c = omega (arith, few (c .before .before .before .before .before .before), c .before .before .before .before .before .before .before .judge .ensures .1 .1 .tails-wide)
+array-share-prefix-tails c = let k = c .before .before .before .before .before .before in omega (arith, few k, k .before .judge .ensures .1 .1 .tails-wide)
 
 slice-aggregate-store-at-3 : tie.Need-slice-aggregate-store-at-3
-slice-aggregate-store-at-3 c = sym (column-taken (c .before .before .before .before .before .before .before) (tails (c .before .before .before .before .before .before .before)) (c .before .before .before .before .before .before .before .before .judge .ensures .1 .1 .tails-wide))
+slice-aggregate-store-at-3 c =
+    let k = c .before .before .before .before .before .before .before in sym (column-taken k (tails k) (k .before .judge .ensures .1 .1 .tails-wide))
 
 store-at-requires-3 : tie.Need-store-at-requires-3
-store-at-requires-3 c κs = (omega (arith, column-taken (c .before .before .before .before .before .before .before .before) (tails (c .before .before .before .before .before .before .before .before)) (c .before .before .before .before .before .before .before .before .before .judge .ensures .1 .1 .tails-wide), few (c .before .before .before .before .before .before .before .before)), out-wide-2 (c .before .before))
+store-at-requires-3 c κs =
+    let k = c .before .before .before .before .before .before .before .before in
+    omega (arith, column-taken k (tails k) (k .before .judge .ensures .1 .1 .tails-wide), few k, out-wide-2 (c .before .before))
 
 array-share-prefix-stretches : tie.Need-array-share-prefix-stretches
-array-share-prefix-stretches c = omega (arith, few (c .before .before .before .before .before .before .before .before .before), c .before .before .before .before .before .before .before .before .before .before .judge .ensures .1 .1 .stretches-wide)
+array-share-prefix-stretches c = let k = c .before .before .before .before .before .before .before .before .before in omega (arith, few k, k .before .judge .ensures .1 .1 .stretches-wide)
 
 slice-aggregate-store-at-4 : tie.Need-slice-aggregate-store-at-4
-slice-aggregate-store-at-4 c = sym (column-taken (c .before .before .before .before .before .before .before .before .before .before) (stretches (c .before .before .before .before .before .before .before .before .before .before)) (c .before .before .before .before .before .before .before .before .before .before .before .judge .ensures .1 .1 .stretches-wide))
+slice-aggregate-store-at-4 c =
+    let k = c .before .before .before .before .before .before .before .before .before .before in sym (column-taken k (stretches k) (k .before .judge .ensures .1 .1 .stretches-wide))
 
 store-at-requires-4 : tie.Need-store-at-requires-4
-store-at-requires-4 c κs = (omega (arith, column-taken (c .before .before .before .before .before .before .before .before .before .before .before) (stretches (c .before .before .before .before .before .before .before .before .before .before .before)) (c .before .before .before .before .before .before .before .before .before .before .before .before .judge .ensures .1 .1 .stretches-wide), few (c .before .before .before .before .before .before .before .before .before .before .before)), out-wide-3 (c .before .before))
+store-at-requires-4 c κs =
+    let k = c .before .before .before .before .before .before .before .before .before .before .before in
+    omega (arith, column-taken k (stretches k) (k .before .judge .ensures .1 .1 .stretches-wide), few k, out-wide-3 (c .before .before))
 
 -- The array at exit: the first numbers of each list behind those of the one before.
 ends-as : (c : tie.After-store-at4) → let k = c .before .before .before .before .before .before .before .before .before .before .before .before in
-    c .store-at4 .last .1 .0 ≡ sets (sets (sets (sets (c .before .before .before .before .before .before .before .before .before .before .before .before .before .before .before .before .before .before .before .before .before .before .args .out .now) 0 (take (many k * 8) (raws (lines-read k)))) 4096 (take (many k) (turns k))) 4608 (take (many k) (tails k))) 5120 (take (many k) (stretches k))
+    c .store-at4 .last .1 .0 ≡ joined (lines-read k .before .before .before .args .out .now) (many k) (raws (lines-read k)) (turns k) (tails k) (stretches k)
 ends-as c =
-    let k = c .before .before .before .before .before .before .before .before .before .before .before .before in
-    c .store-at4 .ensures ∙ ap (λ (l : List ℕ). sets l 5120 (take (many k) (stretches k))) (c .before .before .before .store-at3 .ensures ∙ ap (λ (l : List ℕ). sets l 4608 (take (many k) (tails k)))
-    (c .before .before .before .before .before .before .store-at2 .ensures ∙ ap (λ (l : List ℕ). sets l 4096 (take (many k) (turns k))) (c .before .before .before .before .before .before .before .before .before .store-at .ensures)))
+    let d = c .before .before .before in
+    let e = d .before .before .before in
+    let f = e .before .before .before in
+    let k = f .before .before .before in
+    c .store-at4 .ensures ∙ ap (λ (l : List ℕ). sets l 5120 (take (many k) (stretches k)))
+    (d .store-at3 .ensures ∙ ap (λ (l : List ℕ). sets l 4608 (take (many k) (tails k)))
+    (e .store-at2 .ensures ∙ ap (λ (l : List ℕ). sets l 4096 (take (many k) (turns k))) (f .store-at .ensures)))
 
 returns : tie.Need-returns
 returns c =
     let k = c .before .before .before .before .before .before .before .before .before .before .before .before in
     let r = lines-read k in
-    let start = c .before .before .before .before .before .before .before .before .before .before .before .before .before .before .before .before .before .before .before .before .before .before in (
+    let start = r .before .before .before in (
       told k,
-      packed (lines r) (head k) (start .args .out .now) (start .pre) (many k) (few k) (ap (λ (f : Filled). f .leaves) (told k)) (raws r) (turns k) (tails k) (stretches k)
-          (left r) (k .before .judge .ensures .1 .0 (lines r) (left r)) (c .store-at4 .last .1 .0) (ends-as c),
+      packed (lines r) (head k) (start .args .out .now) (start .pre) (many k) (few k) (ap (λ (f : Filled). f .leaves) (told k))
+          (raws r) (turns k) (tails k) (stretches k) (left r) (k .before .judge .ensures .1 .0 (lines r) (left r)) (c .store-at4 .last .1 .0) (ends-as c),
     )
 
 pub read-numbers-spec : {M : Type 1} → statement M

@@ -17,7 +17,7 @@ use ghost.Atoms.{Atoms}
 use contract.Monad.{Fun, fact}
 use contract.Running.{givenOf, tables, tablesOf}
 use types.Kit.{Given, ‵, raw, _⊛_, ⋆, some, later, _$_, _∵_, !, qed, by, move, keep, drop, use1, use2, split, join, pick, fsplit, fjoin, suffices, frame, await, done}
-use types.Run.{look, init, forget, stop, hop, from, load, lit, addr, and-then, no-more, land, assigns, returns, enter, alloc1, alloc0, params1, pass1, pass0, free1, free0}
+use types.Run.{look, init, stop, hop, from, load, lit, addr, and-then, no-more, land, assigns, returns, enter, alloc1, alloc0, params1, pass1, pass0, free0}
 use sound.WpLaws.{FmC, fmOf, WpFn-mono}
 use denote.RattleType.{owns}
 use denote.Laws.{Is, shows}
@@ -45,6 +45,7 @@ use Rattle.model.proofs.Answer.Laws as N′
 use Rattle.rolsipay.specs.declared.Leaf.{Leaf}
 use Rattle.rolsipay.specs.declared.State.{State}
 use Rattle.rolsipay.specs.Calling.{called}
+use Rattle.rolsipay.proofs.Freeing.{free-at}
 use Rattle.rolsipay.proofs.Leaf as F
 use Rattle.rolsipay.proofs.State as S
 use Rattle.rolsipay.proofs.call as g
@@ -136,8 +137,8 @@ module _ {M : Type 1} (𝓤 : URA M) (H : Heap 𝓤) (A : Atoms 𝓤) (W : Given
         peeks ! N.the-row (Is N.the-row) (shows 𝓤 H A N.the-row) n (v ∷ []) (λ is.
         land ! (from ! (stop !)) (init ! 17 refl (EL.lawful N.the-type N′.the-laws 𝓤 H A W tt .typed n _ is .0)) $
         -- [what the result owns; the tokens; the last state; what the head's reference and the row own; the locals]
-        returns ! (look ! 17 refl) $ forget ! 5 refl $ forget ! 7 refl $ forget ! 9 refl $ forget ! 11 refl $ forget ! 13 refl $ forget ! 15 refl $ forget ! 17 refl $
-        move ! (17 ∷ 18 ∷ []) $ free1 ! $ move ! (15 ∷ 16 ∷ []) $ free1 ! $ move ! (13 ∷ 14 ∷ []) $ free1 ! $ move ! (11 ∷ 12 ∷ []) $ free1 ! $ move ! (9 ∷ 10 ∷ []) $ free1 ! $ move ! (7 ∷ 8 ∷ []) $ free1 ! $ move ! (5 ∷ 6 ∷ []) $ free1 ! $ free0 ! $
+        returns ! (look ! 17 refl) $ free-at ! 17 refl refl $ free-at ! 15 refl refl $ free-at ! 13 refl refl $ free-at ! 11 refl refl $ free-at ! 9 refl refl $
+        free-at ! 7 refl refl $ free-at ! 5 refl refl $ free0 ! $
         keep ! (1 ∷ 2 ∷ 4 ∷ 3 ∷ 0 ∷ []) $ by ! (exits n (ws .1 .1 .0) v e)))))))))))))
 
 module _ {M : Type 1} (𝓤 : URA M) (H : Heap 𝓤) (A : Atoms 𝓤) (W : Given 𝓤 H A) (mem : Memory → SProp 𝓤) (run : Routine → Fun 𝓤) where

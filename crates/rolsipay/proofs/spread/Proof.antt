@@ -2,11 +2,11 @@
 -- `leaf_at` on a copy of the numbers' reference, at that reference's own lifetime, and stores the leaf it returned. At turn i the row is `spread-over` of
 -- the first i leaves. Of `leaf_at` the proof uses the contract alone.
 -- Assumes nothing.
-use mathlib.Core.Path.{_≡_, refl, sym, _∙_, ap, subst}
+use mathlib.Core.Path.{_≡_, refl, sym, ap, subst}
 use mathlib.Core.Bool.{Bool}
 use mathlib.Core.Logic.{⊎-elim}
 use Prim.Native.Nat.{ℕ, suc, _+_, _-_, _*_, _<_, _≤_, _^_}
-use native.Mathlib.Nat.{lt-trans, lt-of-lt-of-le, lt-of-le-of-lt, le-of-lt, eq-or-lt-of-le, lt-irrefl, sub-self, mul-lt-mul-of-pos-right}
+use native.Mathlib.Nat.{lt-trans, lt-of-lt-of-le, lt-of-le-of-lt, eq-or-lt-of-le, lt-irrefl, sub-self, mul-lt-mul-of-pos-right}
 use native.Mathlib.Numerals.{add-one}
 use native.Mathlib.Omega.{arith}
 use mathlib.Core.List.{List, [], _∷_}
@@ -29,7 +29,7 @@ use types.Kit as Kit
 use types.Kit.{Given, Item, Sq, runs, prop, anyQ, atRet, ‵, raw, _⊛_, ⋆, some, later, _$_, _∵_, !, qed, by, move, keep, drop, use1, use2, split, join, pick, rewrite, fsplit, fjoin, feqI, suffices, frame, await, done}
 use types.Part.{whole, sub, look-in}
 use types.Run.{look, store, store-raw, init, forget, stop, hop, fld, from, load, lit, unit-lit, of-opd, bin, and-then, no-more, assigns, assigns-last, land, first, blocks, loops, again, Below, stays, leaves-loop, exec, returns, enter, alloc1, alloc0, params1, pass1, pass0, free1, free0}
-use sound.WpLaws.{FmC, fmOf, WpFn-mono}
+use sound.WpLaws.{fmOf, WpFn-mono}
 use denote.RattleType.{owns}
 use denote.Laws.{Is, shows}
 use denote.Memory.{pointee}
@@ -52,7 +52,7 @@ use denote.Triple.Walked.{says, needs, Stays, stay-none, stay-none-ref, stay-sli
 use denote.Triple.Clauses.{ensured, lasts}
 use denote.Exit.{yes}
 use Rattle.rolsipay.specs.declared.Leaf.{Leaf}
-use Rattle.rolsipay.specs.Private.{no-leaf, leaf-in, spread-over}
+use Rattle.rolsipay.specs.Private.{blank-leaf, leaf-in, spread-over}
 use Rattle.rolsipay.proofs.Steps.{holds, fails, length-spread}
 use Rattle.rolsipay.proofs.Lending.{Numbers, numbers-ty}
 use Rattle.rolsipay.proofs.Leaf as T
@@ -198,7 +198,7 @@ module _ {M : Type 1} (𝓤 : URA M) (H : Heap 𝓤) (A : Atoms 𝓤) (W : Given
         assigns ! (bin ! (load ! (from ! (stop !)) (look ! 4 refl)) (lit ! tt) (record { fits = bytes-fit i (length ys) inside (room .1) })) (from ! (stop !)) (init ! 7 refl (tt, record { fits = bytes-fit i (length ys) inside (room .1) })) $
         assigns ! (bin ! (load ! (from ! (fld ! refl (stop !))) (look-in ! 9 (sub ! 0 refl (whole !)))) (load ! (from ! (stop !)) (look ! 7 refl)) tt) (from ! (stop !)) (init ! 8 refl (tt, tt)) $
         rewrite ! 8 (λ (p : ℕ). ‵ (fat fullShare tyPtr l₈ 0 (vptr b p))) (sym (place-is width o i)) refl $
-        move ! (3 ∷ []) $ elem-out ! T.the-row (Is T.the-row) (shows 𝓤 H A T.the-row) vals (LL.tells T.the-type T′.the-laws) fullShare P i no-leaf b o inside′ (λ _.
+        move ! (3 ∷ []) $ elem-out ! T.the-row (Is T.the-row) (shows 𝓤 H A T.the-row) vals (LL.tells T.the-type T′.the-laws) fullShare P i blank-leaf b o inside′ (λ _.
         -- [row[i]; what it owns; the others; the numbers' token; true; what the numbers own; _4; _5; _6; _7; _8; …]
         assigns ! (of-opd ! (load ! (from ! (stop !)) (look ! 8 refl))) (from ! (hop ! (look ! 10 refl) (stop !))) (store-raw ! 0 refl (LL.lawful T.the-type T′.the-laws 𝓤 H A W .typed d _ (spelt-is d w is) .0)) $
         move ! (1 ∷ []) $ drop ! $ owned ! T.the-row (Is T.the-row) (LL.makes T.the-type T′.the-plain 𝓤 H A) d _ (spelt-is d w is) $ move ! (1 ∷ 0 ∷ []) $ elem-put ! T.the-row fullShare P i d (vals d) b o inside′ $

@@ -16,6 +16,10 @@ Inv-loop numbers out₀ from i₀ out i = (i ≤ length numbers) × (out ≡ set
 abbrev μ-loop : tie.MeasureT-loop
 μ-loop numbers out₀ from i₀ out i = length numbers - i
 
+-- No turn changes the length.
+kept : (c : tie.At-loop Inv-loop μ-loop) → length (c .loop .out) ≡ length (c .before .args .out .now)
+kept c = ap length (c .loop .inv .1) ∙ length-sets (c .before .args .out .now) (c .before .args .from) (take (c .loop .i) (c .before .args .numbers .now))
+
 loop-holds : tie.Need-loop-holds Inv-loop μ-loop
 loop-holds c = (omega arith, refl)
 
@@ -31,8 +35,8 @@ add-out c = search needs
 mul-out-2 : tie.Need-mul-out-2 Inv-loop μ-loop
 mul-out-2 c = search needs
 
-element-write-out : tie.Need-element-write-out Inv-loop μ-loop
-element-write-out c = search needs
+slice-write-out : tie.Need-slice-write-out Inv-loop μ-loop
+slice-write-out c = omega (arith, kept (c .before .before))
 
 add-i : tie.Need-add-i Inv-loop μ-loop
 add-i c = search needs
@@ -47,6 +51,9 @@ loop-again c =
     let a = c .before .before .before .args .from in
     let i = c .before .before .loop .i in
     (omega arith, ap (λ (o : List ℕ). set o (a + i) (getD xs i 0)) (c .before .before .loop .inv .1) ∙ store-next xs l a i (c .before .loop-test .taken))
+
+same-length : tie.Need-same-length Inv-loop μ-loop
+same-length c = kept (c .before)
 
 returns : tie.Need-returns Inv-loop μ-loop
 returns c =
@@ -66,8 +73,9 @@ store-at-spec =
     shared-slice-read-out
     add-out
     mul-out-2
-    element-write-out
+    slice-write-out
     add-i
     loop-less
     loop-again
+    same-length
     returns)

@@ -84,8 +84,8 @@ enum-known-e c = search needs
 store-requires : tie.Need-store-requires
 store-requires c κs = search needs
 
-counted-requires : tie.Need-counted-requires
-counted-requires c κs = c .before .before .before .before .before .before .before .before .before .before .before .pre .1
+numbered-requires : tie.Need-numbered-requires
+numbered-requires c κs = c .before .before .before .before .before .before .before .before .before .before .before .pre .1
 
 enum-known-v : tie.Need-enum-known-v
 enum-known-v c = search needs
@@ -93,8 +93,8 @@ enum-known-v c = search needs
 store-requires-2 : tie.Need-store-requires-2
 store-requires-2 c κs = search needs
 
-counted-requires-2 : tie.Need-counted-requires-2
-counted-requires-2 c κs = c .before .before .before .before .before .before .before .before .before .before .before .pre .1
+numbered-requires-2 : tie.Need-numbered-requires-2
+numbered-requires-2 c κs = c .before .before .before .before .before .before .before .before .before .before .before .pre .1
 
 returns-5 : tie.Need-returns-5
 returns-5 c = (asks-number (c .before .before) ∙ ap number-item (subst (NumberAt _ _ _) (c .enum-told .given .1) (c .before .before .number .ensures)), refl)
@@ -110,7 +110,7 @@ returns-6 c =
       inr (record {
         number-found = got .0;
         finds = asks-number here ∙ ap number-item (got .1);
-        shown = rw (lt-ltb _ _ (got .2)) (c .counted .ensures);
+        shown = rw (lt-ltb _ _ (got .2)) (c .numbered .ensures);
         stored = c .before .before .before .store .ensures ∙ ap (stored-with here) (sym (cap-over _ _ (got .2)));
       }),
     )
@@ -126,7 +126,7 @@ returns-7 c =
       inr (record {
         number-found = _;
         finds = asks-number here ∙ ap number-item (got .0);
-        shown = rw (le-ltb _ _ (got .1)) (c .counted2 .ensures);
+        shown = rw (le-ltb _ _ (got .1)) (c .numbered2 .ensures);
         stored = c .before .before .before .store2 .ensures ∙ ap (stored-with here) (sym (cap-same _ _ (got .1)));
       }),
     )
@@ -148,10 +148,10 @@ capital-spec =
     enum-told
     enum-known-e
     store-requires
-    counted-requires
+    numbered-requires
     enum-known-v
     store-requires-2
-    counted-requires-2
+    numbered-requires-2
     returns-5
     same-length
     returns-6

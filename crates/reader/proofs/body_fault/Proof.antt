@@ -1,8 +1,9 @@
--- `reader::block_fault` meets its contract: for each kind of leaf the first refusal of its parts. Assumes nothing.
-use Rattle.reader.proofs.Faults.{fault-leaf, fault-call, fault-loop, fault-if}
+-- `reader::body_fault` meets its contract: for each kind of leaf the first refusal of its parts. Assumes nothing.
+use Rattle.reader.proofs.Faults.{fault-leaf, fault-call, fault-loop, fault-if, stray-fault}
+use lib.ListN.{take}
 use borrow.Author.Needs.{needs}
-use Rattle.reader.proofs.block_fault.Statement.{statement}
-use Rattle.reader.proofs.block_fault.Tie as tie
+use Rattle.reader.proofs.body_fault.Statement.{statement}
+use Rattle.reader.proofs.body_fault.Tie as tie
 
 enum-known-b : tie.Need-enum-known-b
 enum-known-b c = search needs
@@ -76,8 +77,11 @@ returns-3 c = rw (c .before .before .before .before .before .before .b3 .given .
 returns-4 : tie.Need-returns-4
 returns-4 c = rw (c .before .before .before .before .b4 .given .1) (fault-if _ _ _ _ _ _ _ _ (c .first6 .ensures) (c .before .before .leaf-fault4 .ensures) (c .before .open-fault2 .ensures))
 
-pub block-fault-spec : {M : Type 1} → statement M
-block-fault-spec =
+returns-5 : tie.Need-returns-5
+returns-5 c = let a = c .before .args in stray-fault (a .room) (a .d) (a .level) (a .n) (take (a .own) (a .tall .now)) (a .b) (c .match .keys5)
+
+pub body-fault-spec : {M : Type 1} → statement M
+body-fault-spec =
     tie.close
     (tie.spec
     enum-known-b
@@ -103,4 +107,5 @@ block-fault-spec =
     returns
     returns-2
     returns-3
-    returns-4)
+    returns-4
+    returns-5)
