@@ -14,12 +14,10 @@ ghost use Rattle.print.specs.Lines.{task-line, point-line, refused-plan-
 use model::Answer;
 use model::Ending;
 use model::Word;
+use text::TEN;
 
 // How many bytes the buffer of an answer has: more than any line.
 pub const SIZE: usize = 128;
-
-// The base of the decimal numbers.
-const TEN: u64 = 10;
 
 // Writes a text at a place, as far as there is room, and gives the place after it.
 pub fn put_bytes(out: &mut [u8], at: usize, text: &[u8]) -> usize

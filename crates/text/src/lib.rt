@@ -49,13 +49,13 @@ enum Num {
 }
 
 // The limit of a plan's numbers: no range of document 01 goes so far.
-const LIMIT: u64 = 1 << 41;
+const CAP: u64 = 1 << 41;
 
 // The room for the numbers of a line.
 const ROOM: usize = 10;
 
 // The base of the decimal numbers.
-const TEN: u64 = 10;
+pub const TEN: u64 = 10;
 
 // The classes of bytes.
 const DIGIT: u8 = 0;
@@ -64,67 +64,67 @@ const SMALL: u8 = 1;
 
 const SPACE: u8 = 2;
 
-const OPEN: u8 = 3;
+const OPEN_BRACKET: u8 = 3;
 
-const CLOSE: u8 = 4;
+const CLOSE_BRACKET: u8 = 4;
 
 const LINE_FEED: u8 = 5;
 
-const OTHER: u8 = 6;
+const OTHER_BYTE: u8 = 6;
 
 // A class for each byte.
 type Classes = [u8; 256];
 
 // The class of each byte.
 const CLASS: [u8; 256] = [
-    OTHER, // 0
-    OTHER, // 1
-    OTHER, // 2
-    OTHER, // 3
-    OTHER, // 4
-    OTHER, // 5
-    OTHER, // 6
-    OTHER, // 7
-    OTHER, // 8
-    OTHER, // 9
+    OTHER_BYTE, // 0
+    OTHER_BYTE, // 1
+    OTHER_BYTE, // 2
+    OTHER_BYTE, // 3
+    OTHER_BYTE, // 4
+    OTHER_BYTE, // 5
+    OTHER_BYTE, // 6
+    OTHER_BYTE, // 7
+    OTHER_BYTE, // 8
+    OTHER_BYTE, // 9
     LINE_FEED, // 10
-    OTHER, // 11
-    OTHER, // 12
-    OTHER, // 13
-    OTHER, // 14
-    OTHER, // 15
-    OTHER, // 16
-    OTHER, // 17
-    OTHER, // 18
-    OTHER, // 19
-    OTHER, // 20
-    OTHER, // 21
-    OTHER, // 22
-    OTHER, // 23
-    OTHER, // 24
-    OTHER, // 25
-    OTHER, // 26
-    OTHER, // 27
-    OTHER, // 28
-    OTHER, // 29
-    OTHER, // 30
-    OTHER, // 31
+    OTHER_BYTE, // 11
+    OTHER_BYTE, // 12
+    OTHER_BYTE, // 13
+    OTHER_BYTE, // 14
+    OTHER_BYTE, // 15
+    OTHER_BYTE, // 16
+    OTHER_BYTE, // 17
+    OTHER_BYTE, // 18
+    OTHER_BYTE, // 19
+    OTHER_BYTE, // 20
+    OTHER_BYTE, // 21
+    OTHER_BYTE, // 22
+    OTHER_BYTE, // 23
+    OTHER_BYTE, // 24
+    OTHER_BYTE, // 25
+    OTHER_BYTE, // 26
+    OTHER_BYTE, // 27
+    OTHER_BYTE, // 28
+    OTHER_BYTE, // 29
+    OTHER_BYTE, // 30
+    OTHER_BYTE, // 31
     SPACE, // 32
-    OTHER, // 33 '!'
-    OTHER, // 34 '"'
-    OTHER, // 35 '#'
-    OTHER, // 36 '$'
-    OTHER, // 37 '%'
-    OTHER, // 38 '&'
-    OTHER, // 39 '''
-    OPEN, // 40 '('
-    CLOSE, // 41 ')'
-    OTHER, // 42 '*'
-    OTHER, // 43 '+'
-    OTHER, // 44 ','
-    OTHER, // 45 '-'
-    OTHER, // 46 '.'
-    OTHER, // 47 '/'
+    OTHER_BYTE, // 33 '!'
+    OTHER_BYTE, // 34 '"'
+    OTHER_BYTE, // 35 '#'
+    OTHER_BYTE, // 36 '$'
+    OTHER_BYTE, // 37 '%'
+    OTHER_BYTE, // 38 '&'
+    OTHER_BYTE, // 39 '''
+    OPEN_BRACKET, // 40 '('
+    CLOSE_BRACKET, // 41 ')'
+    OTHER_BYTE, // 42 '*'
+    OTHER_BYTE, // 43 '+'
+    OTHER_BYTE, // 44 ','
+    OTHER_BYTE, // 45 '-'
+    OTHER_BYTE, // 46 '.'
+    OTHER_BYTE, // 47 '/'
     DIGIT, // 48 '0'
     DIGIT, // 49 '1'
     DIGIT, // 50 '2'
@@ -135,45 +135,45 @@ const CLASS: [u8; 256] = [
     DIGIT, // 55 '7'
     DIGIT, // 56 '8'
     DIGIT, // 57 '9'
-    OTHER, // 58 ':'
-    OTHER, // 59 ';'
-    OTHER, // 60 '<'
-    OTHER, // 61 '='
-    OTHER, // 62 '>'
-    OTHER, // 63 '?'
-    OTHER, // 64 '@'
-    OTHER, // 65 'A'
-    OTHER, // 66 'B'
-    OTHER, // 67 'C'
-    OTHER, // 68 'D'
-    OTHER, // 69 'E'
-    OTHER, // 70 'F'
-    OTHER, // 71 'G'
-    OTHER, // 72 'H'
-    OTHER, // 73 'I'
-    OTHER, // 74 'J'
-    OTHER, // 75 'K'
-    OTHER, // 76 'L'
-    OTHER, // 77 'M'
-    OTHER, // 78 'N'
-    OTHER, // 79 'O'
-    OTHER, // 80 'P'
-    OTHER, // 81 'Q'
-    OTHER, // 82 'R'
-    OTHER, // 83 'S'
-    OTHER, // 84 'T'
-    OTHER, // 85 'U'
-    OTHER, // 86 'V'
-    OTHER, // 87 'W'
-    OTHER, // 88 'X'
-    OTHER, // 89 'Y'
-    OTHER, // 90 'Z'
-    OTHER, // 91 '['
-    OTHER, // 92 '\'
-    OTHER, // 93 ']'
-    OTHER, // 94 '^'
-    OTHER, // 95 '_'
-    OTHER, // 96 '`'
+    OTHER_BYTE, // 58 ':'
+    OTHER_BYTE, // 59 ';'
+    OTHER_BYTE, // 60 '<'
+    OTHER_BYTE, // 61 '='
+    OTHER_BYTE, // 62 '>'
+    OTHER_BYTE, // 63 '?'
+    OTHER_BYTE, // 64 '@'
+    OTHER_BYTE, // 65 'A'
+    OTHER_BYTE, // 66 'B'
+    OTHER_BYTE, // 67 'C'
+    OTHER_BYTE, // 68 'D'
+    OTHER_BYTE, // 69 'E'
+    OTHER_BYTE, // 70 'F'
+    OTHER_BYTE, // 71 'G'
+    OTHER_BYTE, // 72 'H'
+    OTHER_BYTE, // 73 'I'
+    OTHER_BYTE, // 74 'J'
+    OTHER_BYTE, // 75 'K'
+    OTHER_BYTE, // 76 'L'
+    OTHER_BYTE, // 77 'M'
+    OTHER_BYTE, // 78 'N'
+    OTHER_BYTE, // 79 'O'
+    OTHER_BYTE, // 80 'P'
+    OTHER_BYTE, // 81 'Q'
+    OTHER_BYTE, // 82 'R'
+    OTHER_BYTE, // 83 'S'
+    OTHER_BYTE, // 84 'T'
+    OTHER_BYTE, // 85 'U'
+    OTHER_BYTE, // 86 'V'
+    OTHER_BYTE, // 87 'W'
+    OTHER_BYTE, // 88 'X'
+    OTHER_BYTE, // 89 'Y'
+    OTHER_BYTE, // 90 'Z'
+    OTHER_BYTE, // 91 '['
+    OTHER_BYTE, // 92 '\'
+    OTHER_BYTE, // 93 ']'
+    OTHER_BYTE, // 94 '^'
+    OTHER_BYTE, // 95 '_'
+    OTHER_BYTE, // 96 '`'
     SMALL, // 97 'a'
     SMALL, // 98 'b'
     SMALL, // 99 'c'
@@ -200,139 +200,139 @@ const CLASS: [u8; 256] = [
     SMALL, // 120 'x'
     SMALL, // 121 'y'
     SMALL, // 122 'z'
-    OTHER, // 123 '{'
-    OTHER, // 124 '|'
-    OTHER, // 125 '}'
-    OTHER, // 126 '~'
-    OTHER, // 127
-    OTHER, // 128
-    OTHER, // 129
-    OTHER, // 130
-    OTHER, // 131
-    OTHER, // 132
-    OTHER, // 133
-    OTHER, // 134
-    OTHER, // 135
-    OTHER, // 136
-    OTHER, // 137
-    OTHER, // 138
-    OTHER, // 139
-    OTHER, // 140
-    OTHER, // 141
-    OTHER, // 142
-    OTHER, // 143
-    OTHER, // 144
-    OTHER, // 145
-    OTHER, // 146
-    OTHER, // 147
-    OTHER, // 148
-    OTHER, // 149
-    OTHER, // 150
-    OTHER, // 151
-    OTHER, // 152
-    OTHER, // 153
-    OTHER, // 154
-    OTHER, // 155
-    OTHER, // 156
-    OTHER, // 157
-    OTHER, // 158
-    OTHER, // 159
-    OTHER, // 160
-    OTHER, // 161
-    OTHER, // 162
-    OTHER, // 163
-    OTHER, // 164
-    OTHER, // 165
-    OTHER, // 166
-    OTHER, // 167
-    OTHER, // 168
-    OTHER, // 169
-    OTHER, // 170
-    OTHER, // 171
-    OTHER, // 172
-    OTHER, // 173
-    OTHER, // 174
-    OTHER, // 175
-    OTHER, // 176
-    OTHER, // 177
-    OTHER, // 178
-    OTHER, // 179
-    OTHER, // 180
-    OTHER, // 181
-    OTHER, // 182
-    OTHER, // 183
-    OTHER, // 184
-    OTHER, // 185
-    OTHER, // 186
-    OTHER, // 187
-    OTHER, // 188
-    OTHER, // 189
-    OTHER, // 190
-    OTHER, // 191
-    OTHER, // 192
-    OTHER, // 193
-    OTHER, // 194
-    OTHER, // 195
-    OTHER, // 196
-    OTHER, // 197
-    OTHER, // 198
-    OTHER, // 199
-    OTHER, // 200
-    OTHER, // 201
-    OTHER, // 202
-    OTHER, // 203
-    OTHER, // 204
-    OTHER, // 205
-    OTHER, // 206
-    OTHER, // 207
-    OTHER, // 208
-    OTHER, // 209
-    OTHER, // 210
-    OTHER, // 211
-    OTHER, // 212
-    OTHER, // 213
-    OTHER, // 214
-    OTHER, // 215
-    OTHER, // 216
-    OTHER, // 217
-    OTHER, // 218
-    OTHER, // 219
-    OTHER, // 220
-    OTHER, // 221
-    OTHER, // 222
-    OTHER, // 223
-    OTHER, // 224
-    OTHER, // 225
-    OTHER, // 226
-    OTHER, // 227
-    OTHER, // 228
-    OTHER, // 229
-    OTHER, // 230
-    OTHER, // 231
-    OTHER, // 232
-    OTHER, // 233
-    OTHER, // 234
-    OTHER, // 235
-    OTHER, // 236
-    OTHER, // 237
-    OTHER, // 238
-    OTHER, // 239
-    OTHER, // 240
-    OTHER, // 241
-    OTHER, // 242
-    OTHER, // 243
-    OTHER, // 244
-    OTHER, // 245
-    OTHER, // 246
-    OTHER, // 247
-    OTHER, // 248
-    OTHER, // 249
-    OTHER, // 250
-    OTHER, // 251
-    OTHER, // 252
-    OTHER, // 253
-    OTHER, // 254
-    OTHER, // 255
+    OTHER_BYTE, // 123 '{'
+    OTHER_BYTE, // 124 '|'
+    OTHER_BYTE, // 125 '}'
+    OTHER_BYTE, // 126 '~'
+    OTHER_BYTE, // 127
+    OTHER_BYTE, // 128
+    OTHER_BYTE, // 129
+    OTHER_BYTE, // 130
+    OTHER_BYTE, // 131
+    OTHER_BYTE, // 132
+    OTHER_BYTE, // 133
+    OTHER_BYTE, // 134
+    OTHER_BYTE, // 135
+    OTHER_BYTE, // 136
+    OTHER_BYTE, // 137
+    OTHER_BYTE, // 138
+    OTHER_BYTE, // 139
+    OTHER_BYTE, // 140
+    OTHER_BYTE, // 141
+    OTHER_BYTE, // 142
+    OTHER_BYTE, // 143
+    OTHER_BYTE, // 144
+    OTHER_BYTE, // 145
+    OTHER_BYTE, // 146
+    OTHER_BYTE, // 147
+    OTHER_BYTE, // 148
+    OTHER_BYTE, // 149
+    OTHER_BYTE, // 150
+    OTHER_BYTE, // 151
+    OTHER_BYTE, // 152
+    OTHER_BYTE, // 153
+    OTHER_BYTE, // 154
+    OTHER_BYTE, // 155
+    OTHER_BYTE, // 156
+    OTHER_BYTE, // 157
+    OTHER_BYTE, // 158
+    OTHER_BYTE, // 159
+    OTHER_BYTE, // 160
+    OTHER_BYTE, // 161
+    OTHER_BYTE, // 162
+    OTHER_BYTE, // 163
+    OTHER_BYTE, // 164
+    OTHER_BYTE, // 165
+    OTHER_BYTE, // 166
+    OTHER_BYTE, // 167
+    OTHER_BYTE, // 168
+    OTHER_BYTE, // 169
+    OTHER_BYTE, // 170
+    OTHER_BYTE, // 171
+    OTHER_BYTE, // 172
+    OTHER_BYTE, // 173
+    OTHER_BYTE, // 174
+    OTHER_BYTE, // 175
+    OTHER_BYTE, // 176
+    OTHER_BYTE, // 177
+    OTHER_BYTE, // 178
+    OTHER_BYTE, // 179
+    OTHER_BYTE, // 180
+    OTHER_BYTE, // 181
+    OTHER_BYTE, // 182
+    OTHER_BYTE, // 183
+    OTHER_BYTE, // 184
+    OTHER_BYTE, // 185
+    OTHER_BYTE, // 186
+    OTHER_BYTE, // 187
+    OTHER_BYTE, // 188
+    OTHER_BYTE, // 189
+    OTHER_BYTE, // 190
+    OTHER_BYTE, // 191
+    OTHER_BYTE, // 192
+    OTHER_BYTE, // 193
+    OTHER_BYTE, // 194
+    OTHER_BYTE, // 195
+    OTHER_BYTE, // 196
+    OTHER_BYTE, // 197
+    OTHER_BYTE, // 198
+    OTHER_BYTE, // 199
+    OTHER_BYTE, // 200
+    OTHER_BYTE, // 201
+    OTHER_BYTE, // 202
+    OTHER_BYTE, // 203
+    OTHER_BYTE, // 204
+    OTHER_BYTE, // 205
+    OTHER_BYTE, // 206
+    OTHER_BYTE, // 207
+    OTHER_BYTE, // 208
+    OTHER_BYTE, // 209
+    OTHER_BYTE, // 210
+    OTHER_BYTE, // 211
+    OTHER_BYTE, // 212
+    OTHER_BYTE, // 213
+    OTHER_BYTE, // 214
+    OTHER_BYTE, // 215
+    OTHER_BYTE, // 216
+    OTHER_BYTE, // 217
+    OTHER_BYTE, // 218
+    OTHER_BYTE, // 219
+    OTHER_BYTE, // 220
+    OTHER_BYTE, // 221
+    OTHER_BYTE, // 222
+    OTHER_BYTE, // 223
+    OTHER_BYTE, // 224
+    OTHER_BYTE, // 225
+    OTHER_BYTE, // 226
+    OTHER_BYTE, // 227
+    OTHER_BYTE, // 228
+    OTHER_BYTE, // 229
+    OTHER_BYTE, // 230
+    OTHER_BYTE, // 231
+    OTHER_BYTE, // 232
+    OTHER_BYTE, // 233
+    OTHER_BYTE, // 234
+    OTHER_BYTE, // 235
+    OTHER_BYTE, // 236
+    OTHER_BYTE, // 237
+    OTHER_BYTE, // 238
+    OTHER_BYTE, // 239
+    OTHER_BYTE, // 240
+    OTHER_BYTE, // 241
+    OTHER_BYTE, // 242
+    OTHER_BYTE, // 243
+    OTHER_BYTE, // 244
+    OTHER_BYTE, // 245
+    OTHER_BYTE, // 246
+    OTHER_BYTE, // 247
+    OTHER_BYTE, // 248
+    OTHER_BYTE, // 249
+    OTHER_BYTE, // 250
+    OTHER_BYTE, // 251
+    OTHER_BYTE, // 252
+    OTHER_BYTE, // 253
+    OTHER_BYTE, // 254
+    OTHER_BYTE, // 255
 ];
 
 // Gives the table of classes. A line is read with one, since a constant that is indexed is made anew each time.
@@ -597,16 +597,16 @@ fn plain_line(table: &Classes, text: &[u8], at: usize) -> Read
     ensures { λ r. ⌜ r ≡ plain-line-at (now (text .entry)) at ⌝ }
 {
     let mut none = [0; 0];
-    if let Fitted::Fit(_, e) = matches_word(table, text, at, b"(fun", LIMIT, &mut none) {
+    if let Fitted::Fit(_, e) = matches_word(table, text, at, b"(fun", CAP, &mut none) {
         return Read::Line(Form::Fun, e);
     }
-    if let Fitted::Fit(_, e) = matches_word(table, text, at, b"(then", LIMIT, &mut none) {
+    if let Fitted::Fit(_, e) = matches_word(table, text, at, b"(then", CAP, &mut none) {
         return Read::Line(Form::Then, e);
     }
-    if let Fitted::Fit(_, e) = matches_word(table, text, at, b"(else", LIMIT, &mut none) {
+    if let Fitted::Fit(_, e) = matches_word(table, text, at, b"(else", CAP, &mut none) {
         return Read::Line(Form::Else, e);
     }
-    if let Fitted::Fit(_, e) = matches_by(table, text, at, b")", LIMIT, &mut none) {
+    if let Fitted::Fit(_, e) = matches_by(table, text, at, b")", CAP, &mut none) {
         return Read::Line(Form::Close, e);
     }
     Read::Unread
@@ -618,16 +618,16 @@ fn block_line(table: &Classes, text: &[u8], at: usize) -> Read
     ensures { λ r. ⌜ r ≡ block-line-at (now (text .entry)) at ⌝ }
 {
     let mut n = [0; ROOM];
-    if let Fitted::Fit(f, e) = matches_word(table, text, at, b"(leaf K C M)", LIMIT, &mut n) {
+    if let Fitted::Fit(f, e) = matches_word(table, text, at, b"(leaf K C M)", CAP, &mut n) {
         return Read::Line(Form::Leaf(f.kind, n[0], n[1]), e);
     }
-    if let Fitted::Fit(f, e) = matches_word(table, text, at, b"(call K F C M)", LIMIT, &mut n) {
+    if let Fitted::Fit(f, e) = matches_word(table, text, at, b"(call K F C M)", CAP, &mut n) {
         return Read::Line(Form::Call(f.kind, n[0], n[1], n[2]), e);
     }
-    if let Fitted::Fit(f, e) = matches_word(table, text, at, b"(loop K B C M", LIMIT, &mut n) {
+    if let Fitted::Fit(f, e) = matches_word(table, text, at, b"(loop K B C M", CAP, &mut n) {
         return Read::Line(Form::Loop(f.kind, n[0], n[1], n[2]), e);
     }
-    if let Fitted::Fit(f, e) = matches_word(table, text, at, b"(if K C M", LIMIT, &mut n) {
+    if let Fitted::Fit(f, e) = matches_word(table, text, at, b"(if K C M", CAP, &mut n) {
         return Read::Line(Form::If(f.kind, n[0], n[1]), e);
     }
     plain_line(table, text, at)
@@ -639,7 +639,7 @@ fn line_by(table: &Classes, text: &[u8], at: usize) -> Read
     ensures { λ r. ⌜ r ≡ read-at (now (text .entry)) at ⌝ }
 {
     let mut n = [0; ROOM];
-    if let Fitted::Fit(_, e) = matches_word(table, text, at, b"(task D T", LIMIT, &mut n) {
+    if let Fitted::Fit(_, e) = matches_word(table, text, at, b"(task D T", CAP, &mut n) {
         return Read::Line(Form::Task(n[0], n[1]), e);
     }
     block_line(table, text, at)
