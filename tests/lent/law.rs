@@ -71,7 +71,8 @@ fn decided<N: Numbers>(
     }
 }
 
-fn ended(plan: &Plan, state: &State, reading: u64) -> Outcome {
+/// An end with this reading, where a run can end.
+pub fn ended(plan: &Plan, state: &State, reading: u64) -> Outcome {
     let word = match state.is_suspended() {
         true => Word::Resume,
         false => Word::Ended,

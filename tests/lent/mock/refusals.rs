@@ -1,11 +1,11 @@
 //! Differences in what is refused, by which number, and what a refused call does.
 
-use reference::calls::{Answer, Word};
+use reference::calls::Answer;
 use reference::composed::Composed;
 use reference::numbers::Numbers;
 
 use super::super::calls::Call;
-use super::super::law::Outcome;
+use super::super::law::{ended, Outcome};
 use super::super::places;
 use super::super::state::{State, EARLIER, LEAVES, LEVEL, READING, RUNNING, TIMES};
 use super::{Asked, Difference};
@@ -71,15 +71,7 @@ fn end_anywhere(asked: &Asked) -> Outcome {
     let (Call::End(reading), 17, Some(plan)) = (asked.call, number(&right), asked.plan) else {
         return right;
     };
-    let word = match asked.state.is_suspended() {
-        true => Word::Resume,
-        false => Word::Ended,
-    };
-    let late = reading > plan.deadline;
-    Outcome {
-        answer: Answer::End { word, late },
-        state: State::fresh(),
-    }
+    ended(plan, asked.state, reading)
 }
 
 /// A loop visited once more than its bound allows, as if its last visit had not
