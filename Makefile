@@ -1,15 +1,15 @@
 # What integrators link. `make lib` puts the static library of the delivered calls, its header and its Ada binding into dist/.
-# `make examples` proves and builds the table program, builds the programs of examples/c and examples/ada with the library, runs them and compares what they
-# print, and holds the table program to the listings of the examples.
-.PHONY: lib tables examples
+# `make examples` proves and builds the table program and the replay program, builds the programs of examples/c and examples/ada with the library, runs them and
+# compares what they print, and holds both programs to the listings and replays of the examples.
+.PHONY: lib programs examples
 
 lib:
 	tools/library rolsipay
 	mkdir -p dist
 	cp target/staticlib/librolsipay.a include/rolsipay.h examples/ada/rolsipay.ads dist/
 
-tables:
-	rt check tables
+programs:
+	rt check tables replay
 
-examples: lib tables
+examples: lib programs
 	examples/run

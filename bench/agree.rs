@@ -24,7 +24,7 @@ pub struct Tally {
 }
 
 impl Tally {
-    fn note(&mut self, alike: bool, what: impl FnOnce() -> String) {
+    pub fn note(&mut self, alike: bool, what: impl FnOnce() -> String) {
         if alike {
             self.passed += 1;
             return;

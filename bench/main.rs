@@ -1,34 +1,47 @@
 //! Measures the delivered calls beside a reference in Rust that makes the same checks on the same memory.
-//! `check` compares both sides; `count` is to be run under callgrind; `table TITLE [COUNTS]` measures times and prints all tables.
+//! `check` compares both sides, and the replay programs; `count` is to be run under callgrind; `table TITLE [COUNTS]` measures times and prints the tables of
+//! the calls; `replays` measures the replay programs and prints their tables, with instructions where TUNABLES are given, those of glibc under callgrind.
+//! PROVED and REFERENCE are the replay programs, and FOLDER is for the plans and logs that they read.
 
 mod agree;
+mod delivered;
 mod edges;
 mod jobs;
+mod logs;
 mod measure;
 mod memory;
 mod plans;
+mod programs;
 mod random;
 #[forbid(unsafe_code)]
 mod reference;
+mod replays;
 mod sides;
 mod tables;
 
+use std::fs;
+use std::io;
 use std::process::ExitCode;
 
 use jobs::Job;
 use plans::Plan;
+use programs::Programs;
 
-fn check(plans: &[Plan]) -> ExitCode {
-    let tally = agree::agree(plans);
+const USAGE: &str = "bench check PROVED REFERENCE FOLDER | count | table TITLE [COUNTS] \
+    | replays PROVED REFERENCE FOLDER [TUNABLES]";
+
+fn check(plans: &[Plan], programs: &Programs) -> io::Result<ExitCode> {
+    let mut tally = agree::agree(plans);
+    replays::agree(&mut tally, programs)?;
     println!("{} passed, {} failed", tally.passed, tally.failed);
-    ExitCode::from(u8::from(tally.failed > 0))
+    Ok(ExitCode::from(u8::from(tally.failed > 0)))
 }
 
-fn table(title: &str, counts: Option<&str>, jobs: &[Job]) -> ExitCode {
+fn table(title: &str, counts: Option<&str>, jobs: &[Job]) -> io::Result<()> {
     let instructions = match counts.map(|counts| measure::counted(counts, jobs.len())) {
         Some(None) => {
-            eprintln!("the counts of callgrind are not those of these calls");
-            return ExitCode::FAILURE;
+            let what = "the counts of callgrind are not those of these calls";
+            return Err(io::Error::other(what));
         }
         Some(costs) => costs,
         None => None,
@@ -49,31 +62,35 @@ fn table(title: &str, counts: Option<&str>, jobs: &[Job]) -> ExitCode {
         Some(costs) => tables::print_exponents("instructions", jobs, costs),
         None => tables::print_exponents("times", jobs, &times),
     }
-    ExitCode::SUCCESS
+    Ok(())
+}
+
+fn run(arguments: &[&str]) -> io::Result<ExitCode> {
+    let plans = plans::plans();
+    let jobs: Vec<Job> = plans.iter().flat_map(jobs::jobs).collect();
+    match *arguments {
+        ["check", proved, reference, folder] => {
+            return check(&plans, &Programs::new(proved, reference, folder));
+        }
+        ["count"] => measure::count(&jobs),
+        ["table", title] => table(title, None, &jobs)?,
+        ["table", title, counts] => table(title, Some(&fs::read_to_string(counts)?), &jobs)?,
+        ["replays", proved, reference, folder] => {
+            replays::print_tables(&Programs::new(proved, reference, folder), None)?
+        }
+        ["replays", proved, reference, folder, tunables] => {
+            replays::print_tables(&Programs::new(proved, reference, folder), Some(tunables))?
+        }
+        _ => return Err(io::Error::other(USAGE)),
+    }
+    Ok(ExitCode::SUCCESS)
 }
 
 fn main() -> ExitCode {
     let arguments: Vec<String> = std::env::args().skip(1).collect();
     let arguments: Vec<&str> = arguments.iter().map(String::as_str).collect();
-    let plans = plans::plans();
-    let jobs: Vec<Job> = plans.iter().flat_map(jobs::jobs).collect();
-    match arguments[..] {
-        ["check"] => check(&plans),
-        ["count"] => {
-            measure::count(&jobs);
-            ExitCode::SUCCESS
-        }
-        ["table", title] => table(title, None, &jobs),
-        ["table", title, counts] => match std::fs::read_to_string(counts) {
-            Ok(counts) => table(title, Some(&counts), &jobs),
-            Err(error) => {
-                eprintln!("{counts}: {error}");
-                ExitCode::FAILURE
-            }
-        },
-        _ => {
-            eprintln!("bench check | count | table TITLE [COUNTS]");
-            ExitCode::FAILURE
-        }
-    }
+    run(&arguments).unwrap_or_else(|error| {
+        eprintln!("{error}");
+        ExitCode::FAILURE
+    })
 }

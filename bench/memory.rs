@@ -1,4 +1,4 @@
-//! The memory that callers lend and the answers of calls, as in `include/rolsipay.h`, and the delivered calls themselves.
+//! The memory that callers lend and the answers of calls, as in `include/rolsipay.h`.
 
 #[path = "../tests/lent/answers.rs"]
 mod answers;
@@ -69,38 +69,4 @@ impl State {
         earlier: [0; LEVELS + 1],
         times: [0; LEVELS + 1],
     };
-}
-
-extern "C" {
-    pub fn rolsipay_read(
-        text: *const u8,
-        bytes: usize,
-        row: *mut Leaf,
-        records: usize,
-        head: *mut Head,
-    ) -> Ruling;
-
-    pub fn rolsipay_release(
-        row: *const Leaf,
-        records: usize,
-        head: *const Head,
-        state: *mut State,
-    ) -> Reply;
-
-    pub fn rolsipay_report(
-        row: *const Leaf,
-        records: usize,
-        head: *const Head,
-        state: *mut State,
-        point: u64,
-        reading: u64,
-    ) -> Reply;
-
-    pub fn rolsipay_end(
-        row: *const Leaf,
-        records: usize,
-        head: *const Head,
-        state: *mut State,
-        reading: u64,
-    ) -> Reply;
 }

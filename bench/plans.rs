@@ -1,5 +1,7 @@
 //! The plans that are measured.
 
+use trials::worked::PLAN_A;
+
 use crate::memory::{Head, Leaf, Ruling};
 use crate::reference;
 
@@ -9,6 +11,8 @@ pub const SIZES: [usize; 5] = [1, 16, 64, 256, 512];
 const NESTED: usize = 31;
 
 const MOST_TIME: u64 = 1 << 40;
+
+const LEAVES_OF_PLAN_A: usize = 4;
 
 #[derive(Clone, Copy, PartialEq, Eq)]
 pub enum Shape {
@@ -140,4 +144,17 @@ pub fn plan(shape: (Shape, &'static str), leaves: usize) -> Plan {
 pub fn plans() -> Vec<Plan> {
     let sized = |shape| SIZES.into_iter().map(move |leaves| plan(shape, leaves));
     SHAPES.into_iter().flat_map(sized).collect()
+}
+
+/// Plan A of document 01.
+pub fn plan_a() -> Plan {
+    let (text, leaves) = (PLAN_A.as_bytes().to_vec(), LEAVES_OF_PLAN_A);
+    let (row, head) = table(&text, leaves);
+    Plan {
+        shape: "plan A",
+        leaves,
+        text,
+        row,
+        head,
+    }
 }

@@ -1,6 +1,7 @@
 //! The two sides, under names that callgrind can be told.
 
-use crate::memory::{self, Head, Leaf, Reply, Ruling, State};
+use crate::delivered;
+use crate::memory::{Head, Leaf, Reply, Ruling, State};
 use crate::reference;
 
 pub struct Side {
@@ -29,13 +30,15 @@ pub const REFERENCE: Side = Side {
 #[no_mangle]
 #[inline(never)]
 fn bench_proved_read(text: &[u8], row: &mut [Leaf], head: &mut Head) -> Ruling {
-    unsafe { memory::rolsipay_read(text.as_ptr(), text.len(), row.as_mut_ptr(), row.len(), head) }
+    unsafe {
+        delivered::rolsipay_read(text.as_ptr(), text.len(), row.as_mut_ptr(), row.len(), head)
+    }
 }
 
 #[no_mangle]
 #[inline(never)]
 fn bench_proved_release(row: &[Leaf], head: &Head, state: &mut State) -> Reply {
-    unsafe { memory::rolsipay_release(row.as_ptr(), row.len(), head, state) }
+    unsafe { delivered::rolsipay_release(row.as_ptr(), row.len(), head, state) }
 }
 
 #[no_mangle]
@@ -47,13 +50,13 @@ fn bench_proved_report(
     point: u64,
     reading: u64,
 ) -> Reply {
-    unsafe { memory::rolsipay_report(row.as_ptr(), row.len(), head, state, point, reading) }
+    unsafe { delivered::rolsipay_report(row.as_ptr(), row.len(), head, state, point, reading) }
 }
 
 #[no_mangle]
 #[inline(never)]
 fn bench_proved_end(row: &[Leaf], head: &Head, state: &mut State, reading: u64) -> Reply {
-    unsafe { memory::rolsipay_end(row.as_ptr(), row.len(), head, state, reading) }
+    unsafe { delivered::rolsipay_end(row.as_ptr(), row.len(), head, state, reading) }
 }
 
 #[no_mangle]

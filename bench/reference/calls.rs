@@ -1,4 +1,4 @@
-//! Release, report and end.
+//! Release, report and end. Each comes in two forms: one checks the lent table, the other is given what the check found.
 
 use super::check::table;
 use super::place::{Next, Place};
@@ -12,12 +12,12 @@ const STRANGER: u64 = 15;
 const BACKWARD: u64 = 16;
 const ASTRAY: u64 = 17;
 
-const REFUSED: u64 = 0;
+pub const REFUSED: u64 = 0;
 const GO: u64 = 1;
 const SUSPEND: u64 = 2;
 const STAY: u64 = 3;
-const RESUME: u64 = 4;
-const ENDED: u64 = 5;
+pub const RESUME: u64 = 4;
+pub const ENDED: u64 = 5;
 
 /// A margin is not given below this.
 const LEAST_MARGIN: i128 = -(1 << 62);
@@ -50,7 +50,11 @@ fn decide(head: &Head, remaining: u64, stretch: u64, reading: u64, suspended: bo
 }
 
 pub fn release(row: &[Leaf], head: &Head, state: &mut State) -> Reply {
-    let Some(row) = table(row, head) else {
+    release_on(table(row, head), head, state)
+}
+
+pub fn release_on(row: Option<&[Leaf]>, head: &Head, state: &mut State) -> Reply {
+    let Some(row) = row else {
         return refused(BROKEN);
     };
     if state.running != 0 {
@@ -69,8 +73,12 @@ pub fn release(row: &[Leaf], head: &Head, state: &mut State) -> Reply {
 }
 
 /// The place of the run that the state has on a good table, or the number of the refusal.
-fn standing<'a>(row: &'a [Leaf], head: &'a Head, state: &'a State) -> Result<Place<'a>, u64> {
-    let row = table(row, head).ok_or(BROKEN)?;
+fn standing<'a>(
+    row: Option<&'a [Leaf]>,
+    head: &'a Head,
+    state: &'a State,
+) -> Result<Place<'a>, u64> {
+    let row = row.ok_or(BROKEN)?;
     if state.running == 0 {
         return Err(IDLE);
     }
@@ -83,6 +91,16 @@ fn standing<'a>(row: &'a [Leaf], head: &'a Head, state: &'a State) -> Result<Pla
 }
 
 pub fn report(row: &[Leaf], head: &Head, state: &mut State, point: u64, reading: u64) -> Reply {
+    report_on(table(row, head), head, state, point, reading)
+}
+
+pub fn report_on(
+    row: Option<&[Leaf]>,
+    head: &Head,
+    state: &mut State,
+    point: u64,
+    reading: u64,
+) -> Reply {
     let place = match standing(row, head, state) {
         Ok(place) => place,
         Err(number) => return refused(number),
@@ -121,6 +139,10 @@ fn move_on(state: &mut State, next: &Next, point: u64, remaining: u64) {
 }
 
 pub fn end(row: &[Leaf], head: &Head, state: &mut State, reading: u64) -> Reply {
+    end_on(table(row, head), head, state, reading)
+}
+
+pub fn end_on(row: Option<&[Leaf]>, head: &Head, state: &mut State, reading: u64) -> Reply {
     let place = match standing(row, head, state) {
         Ok(place) => place,
         Err(number) => return refused(number),

@@ -1,7 +1,7 @@
 //! The same calls with the same checks on the same memory in plain safe Rust: what the proved calls are measured against.
 
-mod calls;
-mod check;
+pub mod calls;
+pub mod check;
 mod derive;
 mod lines;
 mod place;

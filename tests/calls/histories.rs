@@ -80,18 +80,10 @@ impl<'a, N: Numbers> History<'a, N> {
     }
 
     /// The last reading with which the next report of this point still goes on;
-    /// below 0 where none does.
+    /// the deadline where it cannot come next.
     fn turning(&self, point: u64) -> i128 {
-        let place = self.controller.place();
-        let next = place.and_then(|place| self.numbers.report(place, usize::try_from(point).ok()?));
-        let Plan {
-            deadline, switch, ..
-        } = *self.numbers.plan();
-        let Some(next) = next else {
-            return i128::from(deadline);
-        };
-        let needed = self.numbers.remaining(&next) + law::stretch(self.numbers, &next) + switch;
-        i128::from(deadline) - i128::from(needed)
+        let deadline = i128::from(self.numbers.plan().deadline);
+        self.controller.turning(point).unwrap_or(deadline)
     }
 
     /// A reading, which may be lower than the last one.
@@ -156,11 +148,7 @@ impl<'a, N: Numbers> History<'a, N> {
 
     /// What the reference's controller gives; it is moved on.
     fn wanted(&mut self, call: Call) -> Outcome {
-        let answer = match call {
-            Call::Release => self.controller.release(),
-            Call::Report(point, reading) => self.controller.report(point, reading),
-            Call::End(reading) => self.controller.end(reading),
-        };
+        let answer = self.controller.call(call);
         let state = match answer {
             Answer::Refused(_) => self.state.clone(),
             Answer::End { .. } => State::fresh(),

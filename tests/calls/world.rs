@@ -3,7 +3,6 @@
 //! goes, so that it can take the dearer way under load and alone.
 
 use lent::calls::{made, Call};
-use lent::law;
 use lent::state::State;
 use lent::tally::Tally;
 use reference::calls::{Answer, Word};
@@ -151,7 +150,7 @@ impl<'a> World<'a> {
         self.holds(reading <= deadline && !late, || {
             format!("{answer:?} for {call:?}")
         })?;
-        let needed = self.composed.remaining(&place) + law::stretch(self.composed, &place) + switch;
+        let needed = self.composed.remaining(&place) + self.composed.stretch_at(&place) + switch;
         let held = self.open.as_ref().is_none_or(|open| open.held);
         if word == Word::Suspend {
             self.others = false;

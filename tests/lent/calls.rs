@@ -1,19 +1,12 @@
 //! Calls on lent memory, and answers as the numbers of a reply.
 
+pub use reference::calls::Call;
 use reference::calls::{Answer, Word};
 use reference::table::Table;
 
 pub use super::answers::Reply;
 use super::delivered::{rolsipay_end, rolsipay_release, rolsipay_report};
 use super::state::{Numbers, State, STATE};
-
-#[derive(Clone, Copy, Debug, PartialEq, Eq)]
-pub enum Call {
-    Release,
-    /// A point with a reading.
-    Report(u64, u64),
-    End(u64),
-}
 
 /// The words of replies, in the order of their numbers; 0 is a refusal's.
 const WORDS: [Word; 5] = [

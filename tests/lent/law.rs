@@ -24,14 +24,6 @@ fn refused(state: &State, number: u32) -> Outcome {
     }
 }
 
-/// The stretch of the last point of a place, or of the release.
-pub fn stretch<N: Numbers>(numbers: &N, place: &N::Place) -> u64 {
-    match numbers.last_point(place) {
-        None => numbers.release_stretch(),
-        Some(leaf) => numbers.stretch(leaf),
-    }
-}
-
 /// The state that an accepted release or report leaves at this place.
 pub fn moved<N: Numbers>(numbers: &N, before: &State, place: &N::Place) -> State {
     let times = numbers.times(place);
@@ -52,7 +44,7 @@ fn decided<N: Numbers>(
         deadline, switch, ..
     } = *numbers.plan();
     let remaining = numbers.remaining(place);
-    let stretch = stretch(numbers, place);
+    let stretch = numbers.stretch_at(place);
     let margin = margin(deadline, reading, remaining, stretch, switch);
     let word = match (suspended, margin >= 0) {
         (true, _) => Word::Stay,

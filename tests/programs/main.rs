@@ -2,10 +2,8 @@
 //! input it writes the reference's listing or refusal, byte for byte, nothing
 //! else, and ends well. The examples have listings worked out by hand.
 
-use std::io::{Read, Write};
 use std::path::{Path, PathBuf};
-use std::process::{Command, Stdio};
-use std::time::Duration;
+use std::process::Command;
 
 use reference::aimed;
 use reference::count::Count;
@@ -13,14 +11,7 @@ use reference::damage;
 use reference::gen::{self, Random};
 use reference::numbers::printed;
 use reference::plan::{self, MOST_BYTES};
-
-/// What a program wrote, and whether it ended well.
-#[derive(PartialEq, Eq)]
-struct Ended {
-    output: Vec<u8>,
-    errors: Vec<u8>,
-    well: bool,
-}
+use reference::program::{note, pieces_of, run_on, run_on_pieces, Ended};
 
 struct Programs {
     program: PathBuf,
@@ -29,65 +20,44 @@ struct Programs {
     met: [usize; 11],
 }
 
-/// Runs the program on a text that is handed over in pieces of this size.
-fn run(program: &Path, text: &[u8], piece: usize) -> std::io::Result<Ended> {
-    let mut child = Command::new(program)
-        .stdin(Stdio::piped())
-        .stdout(Stdio::piped())
-        .stderr(Stdio::piped())
-        .spawn()?;
-    let mut input = child.stdin.take().expect("its input is a pipe");
-    let text = text.to_vec();
-    let writer = std::thread::spawn(move || {
-        for part in text.chunks(piece) {
-            // A program that has read enough may have ended.
-            if input.write_all(part).and_then(|()| input.flush()).is_err() {
-                return;
-            }
-            if piece < text.len() {
-                std::thread::sleep(Duration::from_millis(2));
-            }
-        }
-    });
-    let mut output = Vec::new();
-    let mut pipe = child.stdout.take().expect("its output is a pipe");
-    pipe.read_to_end(&mut output)?;
-    let rest = child.wait_with_output()?;
-    writer.join().expect("the writer ends");
-    Ok(Ended {
-        output,
-        errors: rest.stderr,
-        well: rest.status.success(),
-    })
-}
-
 impl Programs {
-    /// Compares what is written for a text with what is to be written.
-    fn writes(&mut self, group: &str, text: &[u8], piece: usize, wanted: &[u8]) {
+    /// Compares what was written for a text with what is to be written.
+    fn compare(&mut self, group: &str, text: &[u8], found: std::io::Result<Ended>, wanted: &[u8]) {
         let wanted = Ended {
             output: wanted.to_vec(),
             errors: Vec::new(),
-            well: true,
+            status: Some(0),
         };
-        let failure = match run(&self.program, text, piece) {
-            Err(error) => Some(format!("{group}: not run: {error}")),
-            Ok(found) if found == wanted => None,
-            Ok(found) => Some(format!(
-                "{group}: found {:?} (errors {:?}, well {}), wanted {:?}",
-                String::from_utf8_lossy(&found.output),
-                String::from_utf8_lossy(&found.errors),
-                found.well,
-                String::from_utf8_lossy(&wanted.output)
-            )),
+        let fault = |found: Ended| {
+            (found != wanted).then(|| {
+                format!(
+                    "found {:?} (errors {:?}, status {:?}), wanted {:?}",
+                    String::from_utf8_lossy(&found.output),
+                    String::from_utf8_lossy(&found.errors),
+                    found.status,
+                    String::from_utf8_lossy(&wanted.output)
+                )
+            })
         };
-        self.count.note(failure, || text.to_vec());
+        note(&mut self.count, group, found, fault, || text.to_vec());
+    }
+
+    /// The same for a text that is handed over as a whole.
+    fn writes(&mut self, group: &str, text: &[u8], wanted: &[u8]) {
+        let found = run_on(Command::new(&self.program), text);
+        self.compare(group, text, found, wanted);
+    }
+
+    /// The same for one that is handed over in pieces of this size.
+    fn in_pieces(&mut self, text: &[u8], size: usize) {
+        let found = run_on_pieces(Command::new(&self.program), pieces_of(text, size));
+        self.compare("in pieces", text, found, printed(text).as_bytes());
     }
 
     fn text(&mut self, group: &str, text: &[u8]) {
         let refusal = plan::read(text, 512).err();
         self.met[refusal.map_or(0, |refusal| refusal.0 as usize)] += 1;
-        let wanted = printed(text);
-        self.writes(group, text, text.len().max(1), wanted.as_bytes());
+        self.writes(group, text, printed(text).as_bytes());
     }
 }
 
@@ -100,7 +70,7 @@ fn examples(programs: &mut Programs, folder: &Path) -> std::io::Result<usize> {
             let text = std::fs::read(&file)?;
             let listing = std::fs::read(file.with_extension("listing"))?;
             let group = file.display().to_string();
-            programs.writes(&group, &text, text.len(), &listing);
+            programs.writes(&group, &text, &listing);
             let same = printed(&text).as_bytes() == listing;
             let what = format!("{group} has the reference's listing");
             programs.count.holds(same, &what);
@@ -127,13 +97,13 @@ fn lengths(programs: &mut Programs) {
             programs.text("an input of one byte", &vec![fill; length]);
         }
     }
-    for piece in [1, 7, 50] {
-        programs.writes("in pieces", plan, piece, printed(plan).as_bytes());
+    for size in [1, 7, 50] {
+        programs.in_pieces(plan, size);
     }
-    for (length, piece) in [(MOST_BYTES, 4_096), (MOST_BYTES + 1, 5_000)] {
+    for (length, size) in [(MOST_BYTES, 4_096), (MOST_BYTES + 1, 5_000)] {
         let mut text = plan.to_vec();
         text.resize(length, b' ');
-        programs.writes("in pieces", &text, piece, printed(&text).as_bytes());
+        programs.in_pieces(&text, size);
     }
 }
 

@@ -29,6 +29,14 @@ impl Word {
 }
 
 #[derive(Clone, Copy, Debug, PartialEq, Eq)]
+pub enum Call {
+    Release,
+    /// A point with a reading.
+    Report(u64, u64),
+    End(u64),
+}
+
+#[derive(Clone, Copy, Debug, PartialEq, Eq)]
 pub enum Answer {
     /// Of a release or report.
     Decision {
@@ -117,6 +125,25 @@ impl<'a, N: Numbers> Controller<'a, N> {
         }
     }
 
+    /// The last reading with which the next report of this point still goes on,
+    /// below 0 where none does; None where the point cannot come next.
+    pub fn turning(&self, point: u64) -> Option<i128> {
+        let next = self
+            .numbers
+            .report(self.place()?, usize::try_from(point).ok()?)?;
+        let plan = self.numbers.plan();
+        let needed = self.numbers.remaining(&next) + self.numbers.stretch_at(&next) + plan.switch;
+        Some(i128::from(plan.deadline) - i128::from(needed))
+    }
+
+    pub fn call(&mut self, call: Call) -> Answer {
+        match call {
+            Call::Release => self.release(),
+            Call::Report(number, reading) => self.report(number, reading),
+            Call::End(reading) => self.end(reading),
+        }
+    }
+
     pub fn release(&mut self) -> Answer {
         if self.is_running() {
             return Answer::Refused(12);
@@ -175,10 +202,7 @@ impl<'a, N: Numbers> Controller<'a, N> {
     fn decide(&mut self, place: N::Place, reading: u64, suspended: bool) -> Answer {
         let plan = self.numbers.plan();
         let remaining = self.numbers.remaining(&place);
-        let stretch = match self.numbers.last_point(&place) {
-            None => self.numbers.release_stretch(),
-            Some(leaf) => self.numbers.stretch(leaf),
-        };
+        let stretch = self.numbers.stretch_at(&place);
         let margin = margin(plan.deadline, reading, remaining, stretch, plan.switch);
         let word = match (suspended, margin >= 0) {
             (true, _) => Word::Stay,

@@ -1,7 +1,7 @@
 //! Counting comparisons, showing those that fail and keeping what they were
 //! about.
 
-use std::path::PathBuf;
+use std::path::{Path, PathBuf};
 
 /// Failures past this many are counted but neither shown nor kept.
 const SHOWN: usize = 20;
@@ -13,10 +13,13 @@ pub struct Count {
     folder: PathBuf,
     /// Whether the first failure ends the test.
     hasty: bool,
+    /// The one part of the test that is run; None where all are.
+    only: Option<String>,
 }
 
 impl Count {
-    /// From a program's words: the folder, then perhaps `hasty`.
+    /// From a program's words: the folder, then perhaps `hasty`, then perhaps the
+    /// name of the one part that is run.
     pub fn new(words: impl Iterator<Item = String>) -> Count {
         let words: Vec<String> = words.collect();
         let folder = words.first().map_or(".", |word| word.as_str());
@@ -25,7 +28,12 @@ impl Count {
             failed: 0,
             folder: PathBuf::from(folder),
             hasty: words.get(1).is_some_and(|word| word == "hasty"),
+            only: words.get(2).cloned(),
         }
+    }
+
+    pub fn folder(&self) -> &Path {
+        &self.folder
     }
 
     /// Counts one comparison, with what is wrong if something is.
@@ -54,8 +62,12 @@ impl Count {
     }
 
     /// How many comparisons were made.
-    pub fn compared(&self) -> usize {
+    fn compared(&self) -> usize {
         self.passed + self.failed
+    }
+
+    fn wants(&self, part: &str) -> bool {
+        self.only.as_ref().is_none_or(|only| only == part)
     }
 
     /// Prints the counts and ends the test.
@@ -63,4 +75,20 @@ impl Count {
         println!("{} passed, {} failed", self.passed, self.failed);
         std::process::exit(i32::from(self.failed > 0));
     }
+}
+
+/// A part of a test and its name.
+pub type Part<T> = (&'static str, fn(&mut T));
+
+/// Runs the parts of a test that are wanted, and ends it. `count` says where it
+/// counts its comparisons.
+pub fn run<T>(mut test: T, parts: &[Part<T>], count: fn(&T) -> &Count) -> ! {
+    for &(name, compare_all) in parts {
+        if count(&test).wants(name) {
+            let before = count(&test).compared();
+            compare_all(&mut test);
+            println!("{name}: {} checks", count(&test).compared() - before);
+        }
+    }
+    count(&test).finish()
 }

@@ -1,5 +1,5 @@
-//! A second opinion on plans, tables and calls, written from the sentences
-//! of document 01 alone. The tests compare the proved code with it.
+//! A second opinion on plans, tables, calls and logs, written from the sentences
+//! of documents 01 and 02 alone. The tests compare the proved code with it.
 
 pub mod aimed;
 mod aimed_lines;
@@ -14,8 +14,12 @@ pub mod lines;
 pub mod listed;
 pub mod numbers;
 pub mod plan;
+pub mod planted;
+pub mod program;
 pub mod records;
+pub mod replay;
 pub mod rules;
 pub mod runs;
 pub mod table;
 pub mod worked;
+pub mod worked_logs;

@@ -40,6 +40,14 @@ pub trait Numbers {
     fn times(&self, place: &Self::Place) -> Times;
     /// Level of the last point in the run; 0 at the release.
     fn level_in_run(&self, place: &Self::Place) -> usize;
+
+    /// The stretch of the last point of a place, or of the release.
+    fn stretch_at(&self, place: &Self::Place) -> u64 {
+        match self.last_point(place) {
+            None => self.release_stretch(),
+            Some(leaf) => self.stretch(leaf),
+        }
+    }
 }
 
 /// What the table program prints for an accepted plan.

@@ -22,6 +22,7 @@ macro_rules! smallest {
         concat!("(task ", $deadline, " 3\n(fun\n(leaf s 7 9)\n)\n)\n")
     };
 }
+pub(crate) use smallest;
 
 /// Calls one after the other, each line `release`, `report N R` or `end R`
 /// followed by ` -> ` and the printed answer wanted.

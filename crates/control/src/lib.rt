@@ -1,7 +1,7 @@
 // The controller's state, and its calls on a table.
 ghost use mathlib.Core.Path.{_≡_};
 ghost use mathlib.Core.Option.{some};
-ghost use Prim.Native.Nat.{_+_, _-_, _*_, _^_, _≤_};
+ghost use Prim.Native.Nat.{_+_, _*_, _^_, _≤_};
 ghost use lib.ListN.{length};
 ghost use lib.Signed.{nonNeg};
 ghost use Rattle.model.specs.Forms.{main};
@@ -13,7 +13,7 @@ ghost use Rattle.model.specs.Controller.{idle, next-levels, can-close, ending};
 ghost use Rattle.rows.specs.Rows.{point-at};
 ghost use Rattle.rows.specs.Answers.{Says};
 ghost use Rattle.place.specs.Stack.{NextStack};
-ghost use Rattle.table.specs.Table.{table-at};
+ghost use Rattle.table.specs.Table.{table-at, good};
 ghost use Rattle.control.specs.State.{fresh, standing};
 ghost use Rattle.control.specs.Calls.{place-of, running-at, reply, call-on, as-step, call-of};
 ghost use Rattle.control.specs.Private.{terms, weighing, opened, arrived, Headed, Rowed, Lent, WholeTable, spot, GoodState, GoodOnRow};
@@ -35,6 +35,7 @@ use place::times_ok;
 use place::zero_above;
 use rows::POINT;
 use rows::STRIDE;
+use rows::less;
 use table::Head;
 use table::check;
 
@@ -100,13 +101,6 @@ pub fn fresh() -> State
         earlier: [0; 33],
         times: [0; 33],
     }
-}
-
-// a less b, and 0 where b is more.
-fn less(a: u64, b: u64) -> u64
-    ensures { λ r. ⌜ r ≡ a - b ⌝ }
-{
-    if a < b { 0 } else { a - b }
 }
 
 // The margin, held at -2^62: what is left of D and 2^62 together, less 2^62.
@@ -439,8 +433,10 @@ fn running_call(
     }
 }
 
-// A call on a table. Release: 11, 12, 13, or the decision. Report: 11, 14, 15, 16, 17, or the decision. End: 11, 14, 16, 17, or resume or ended.
-pub fn call(
+// A call on a table of which it is known whether it is that of an accepted plan. Release: 11, 12, 13, or the decision. Report: 11, 14, 15, 16, 17, or the
+// decision. End: 11, 14, 16, 17, or resume or ended.
+pub fn checked_call(
+    checked: bool,
     row: &[u64],
     turns: &[u64],
     tails: &[u64],
@@ -449,9 +445,10 @@ pub fn call(
     state: State,
     call: Call,
 ) -> Step
+    requires { ⌜ checked ≡ good (table-at (now row) (now turns) (now tails) (now stretches) head) ⌝ }
     ensures { λ r. ⌜ r ≡ as-step (call-on (table-at (now (row .entry)) (now (turns .entry)) (now (tails .entry)) (now (stretches .entry)) head) state call) ⌝ }
 {
-    if !check(row, turns, tails, stretches, head) {
+    if !checked {
         return refusal(state, BROKEN);
     }
     if !state.running {
@@ -471,6 +468,22 @@ pub fn call(
         state,
         call,
     )
+}
+
+// A call on a table.
+pub fn call(
+    row: &[u64],
+    turns: &[u64],
+    tails: &[u64],
+    stretches: &[u64],
+    head: Head,
+    state: State,
+    call: Call,
+) -> Step
+    ensures { λ r. ⌜ r ≡ as-step (call-on (table-at (now (row .entry)) (now (turns .entry)) (now (tails .entry)) (now (stretches .entry)) head) state call) ⌝ }
+{
+    let checked = check(row, turns, tails, stretches, head);
+    checked_call(checked, row, turns, tails, stretches, head, state, call)
 }
 
 // The calls by number, for callers that hold them as numbers.

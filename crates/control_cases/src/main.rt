@@ -5,6 +5,7 @@ use control::call_from;
 use control::fresh;
 use libc::STDOUT_FILENO;
 use model::Answer;
+use print::SIZE;
 use print::answer_line;
 use rows::MAX_LEAVES;
 use rows::ROW;
@@ -17,8 +18,8 @@ const CALLS: usize = 7;
 
 // Prints an answer.
 fn show(answer: Answer) {
-    let mut out = [0; 128];
-    let size = answer_line(&mut out, answer);
+    let mut out = [0; SIZE];
+    let size = answer_line(&mut out, 0, answer);
     io::write_all(STDOUT_FILENO, &out[..size]);
 }
 

@@ -9,3 +9,4 @@ pub mod Reached
 pub mod Cases
 pub mod Worst
 pub mod Theorems
+pub mod Replay

@@ -1,5 +1,5 @@
 pub mod Laws
+pub mod OneLine
 pub mod Signed
 pub mod Theorems
 pub mod Examples
-pub mod Room

@@ -1,4 +1,4 @@
--- The lines that the programs print (01, 'Calls' and 'Plans worked through').
+-- The lines that the programs print (01, 'Calls' and 'Plans worked through'; 02, L1).
 -- Assumes nothing: these are definitions.
 use Prim.Native.Nat.{ℕ, suc}
 use mathlib.Core.List.{List, _++_}
@@ -60,3 +60,7 @@ unfoldable pub answer-line : Answer → List ℕ
 answer-line (Refused number) = bytes "refused" ++ (number-field number ++ bytes "\n")
 answer-line (Decided w remaining margin late) = word-text w ++ (number-field remaining ++ (signed-field margin ++ late-mark late))
 answer-line (Closed w late) = ending-text w ++ late-mark late
+
+-- The ticks of a release (02, L1): shared, suspended and their sum.
+unfoldable pub ticks-line : ℕ → ℕ → ℕ → List ℕ
+ticks-line shared suspended sum = decimal shared ++ (number-field suspended ++ (number-field sum ++ bytes "\n"))

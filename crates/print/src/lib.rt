@@ -1,22 +1,20 @@
-// The lines that the programs print (document 01, 'Calls' and 'Plans worked through'): those of a listing at a place of a lent buffer, as far as it has room,
-// and the answers of the calls from the start of one that has room for any.
+// The lines that the programs print (document 01, 'Calls' and 'Plans worked through'; document 02, L1), each at a place of a lent buffer, as far as it has
+// room.
 ghost use mathlib.Core.Path.{_≡_};
 ghost use mathlib.Core.List.{[], _∷_};
-ghost use Prim.Native.Nat.{_+_, _<_, _≤_};
-ghost use lib.ListN.{length};
+ghost use Prim.Native.Nat.{_+_, _<_};
 ghost use lib.IntN.{natAbs};
-ghost use lib.Seq.{sets};
 ghost use Rattle.text.specs.Spelling.{decimal};
 ghost use Rattle.model.specs.declared.Answer.the-variants.{Refused, Decided, Closed};
 ghost use Rattle.print.specs.Printed.{Printed, PrintedWithin};
 ghost use Rattle.print.specs.Lines.{number-field, signed-field, late-mark, word-text, ending-text, four};
-ghost use Rattle.print.specs.Lines.{task-line, point-line, refused-plan-line, answer-line};
+ghost use Rattle.print.specs.Lines.{task-line, point-line, refused-plan-line, ticks-line, answer-line};
 use model::Answer;
 use model::Ending;
 use model::Word;
 use text::TEN;
 
-// How many bytes the buffer of an answer has: more than any line.
+// How many bytes a buffer for one line has: more than any line.
 pub const SIZE: usize = 128;
 
 // Writes a text at a place, as far as there is room, and gives the place after it.
@@ -106,24 +104,24 @@ fn put_mark(out: &mut [u8], at: usize, late: bool) -> usize
     put_bytes(out, at, b" 0\n")
 }
 
-// Writes the word of a decision at the start of a line.
-fn put_word(out: &mut [u8], word: Word) -> usize
-    ensures { λ r. ⌜ PrintedWithin 7 (now (out .entry)) 0 (word-text word) (now (out .exit)) r ⌝ }
+// Writes the word of a decision at a place.
+fn put_word(out: &mut [u8], at: usize, word: Word) -> usize
+    ensures { λ r. ⌜ PrintedWithin 7 (now (out .entry)) at (word-text word) (now (out .exit)) r ⌝ }
 {
     match word {
-        Word::Go => put_bytes(out, 0, b"go"),
-        Word::Suspend => put_bytes(out, 0, b"suspend"),
-        Word::Stay => put_bytes(out, 0, b"stay"),
+        Word::Go => put_bytes(out, at, b"go"),
+        Word::Suspend => put_bytes(out, at, b"suspend"),
+        Word::Stay => put_bytes(out, at, b"stay"),
     }
 }
 
-// Writes the word of an end at the start of a line.
-fn put_ending(out: &mut [u8], ending: Ending) -> usize
-    ensures { λ r. ⌜ PrintedWithin 6 (now (out .entry)) 0 (ending-text ending) (now (out .exit)) r ⌝ }
+// Writes the word of an end at a place.
+fn put_ending(out: &mut [u8], at: usize, ending: Ending) -> usize
+    ensures { λ r. ⌜ PrintedWithin 6 (now (out .entry)) at (ending-text ending) (now (out .exit)) r ⌝ }
 {
     match ending {
-        Ending::Resume => put_bytes(out, 0, b"resume"),
-        Ending::Ended => put_bytes(out, 0, b"ended"),
+        Ending::Resume => put_bytes(out, at, b"resume"),
+        Ending::Ended => put_bytes(out, at, b"ended"),
     }
 }
 
@@ -178,54 +176,64 @@ pub fn refused_plan_line(out: &mut [u8], at: usize, number: u64, line: u64) -> u
     put_byte(out, end, b'\n')
 }
 
-// Writes the line of a refused call, and gives its length.
-fn refused_call_line(out: &mut [u8; SIZE], number: u64) -> usize
-    ensures line { λ r. ⌜ now (out .exit) ≡ sets (now (out .entry)) 0 (answer-line (Refused number)) ⌝ }
-    ensures size { λ r. ⌜ r ≡ length (answer-line (Refused number)) ⌝ }
-    ensures fits { λ r. ⌜ r ≤ 128 ⌝ }
+// Writes the ticks of a release at a place: shared, suspended and their sum; and gives the place after them.
+pub fn ticks_line(out: &mut [u8], at: usize, shared: u64, suspended: u64, sum: u64) -> usize
+    ensures { λ r. ⌜ PrintedWithin 63 (now (out .entry)) at (ticks-line shared suspended sum) (now (out .exit)) r ⌝ }
 {
-    let first = put_bytes(out, 0, b"refused");
+    let first = put_number(out, at, shared);
+    let second = put_field(out, first, suspended);
+    let end = put_field(out, second, sum);
+    put_byte(out, end, b'\n')
+}
+
+// Writes the line of a refused call at a place.
+fn refused_call_line(out: &mut [u8], at: usize, number: u64) -> usize
+    ensures { λ r. ⌜ PrintedWithin 29 (now (out .entry)) at (answer-line (Refused number)) (now (out .exit)) r ⌝ }
+{
+    let first = put_bytes(out, at, b"refused");
     let end = put_field(out, first, number);
     put_byte(out, end, b'\n')
 }
 
-// Writes the answer of a release or a report, and gives its length.
-fn decision_line(out: &mut [u8; SIZE], word: Word, remaining: u64, margin: i64, late: bool) -> usize
-    ensures line { λ r. ⌜ now (out .exit) ≡ sets (now (out .entry)) 0 (answer-line (Decided word remaining margin late)) ⌝ }
-    ensures size { λ r. ⌜ r ≡ length (answer-line (Decided word remaining margin late)) ⌝ }
-    ensures fits { λ r. ⌜ r ≤ 128 ⌝ }
+// Writes the answer of a release or a report at a place.
+fn decision_line(
+    out: &mut [u8],
+    at: usize,
+    word: Word,
+    remaining: u64,
+    margin: i64,
+    late: bool,
+) -> usize
+    ensures { λ r. ⌜ PrintedWithin 53 (now (out .entry)) at (answer-line (Decided word remaining margin late)) (now (out .exit)) r ⌝ }
 {
-    let first = put_word(out, word);
+    let first = put_word(out, at, word);
     let second = put_field(out, first, remaining);
     let third = put_signed(out, second, margin);
     put_mark(out, third, late)
 }
 
-// Writes the answer of an end, and gives its length.
-fn end_line(out: &mut [u8; SIZE], ending: Ending, late: bool) -> usize
-    ensures line { λ r. ⌜ now (out .exit) ≡ sets (now (out .entry)) 0 (answer-line (Closed ending late)) ⌝ }
-    ensures size { λ r. ⌜ r ≡ length (answer-line (Closed ending late)) ⌝ }
-    ensures fits { λ r. ⌜ r ≤ 128 ⌝ }
+// Writes the answer of an end at a place.
+fn end_line(out: &mut [u8], at: usize, ending: Ending, late: bool) -> usize
+    ensures { λ r. ⌜ PrintedWithin 9 (now (out .entry)) at (answer-line (Closed ending late)) (now (out .exit)) r ⌝ }
 {
-    let first = put_ending(out, ending);
+    let first = put_ending(out, at, ending);
     put_mark(out, first, late)
 }
 
-// Writes the line of an answer from the start of a lent buffer, and gives its length.
-pub fn answer_line(out: &mut [u8; SIZE], answer: Answer) -> usize
-    ensures line { λ r. ⌜ now (out .exit) ≡ sets (now (out .entry)) 0 (answer-line answer) ⌝ }
-    ensures size { λ r. ⌜ r ≡ length (answer-line answer) ⌝ }
-    ensures fits { λ r. ⌜ r ≤ 128 ⌝ }
+// Writes the line of an answer at a place, and gives the place after it.
+pub fn answer_line(out: &mut [u8], at: usize, answer: Answer) -> usize
+    ensures { λ r. ⌜ PrintedWithin 53 (now (out .entry)) at (answer-line answer) (now (out .exit)) r ⌝ }
 {
     match answer {
-        Answer::Refused(number) => refused_call_line(out, number),
+        Answer::Refused(number) => refused_call_line(out, at, number),
         Answer::Decided(word, remaining, margin, late) => decision_line(
             out,
+            at,
             word,
             remaining,
             margin,
             late,
         ),
-        Answer::Closed(ending, late) => end_line(out, ending, late),
+        Answer::Closed(ending, late) => end_line(out, at, ending, late),
     }
 }

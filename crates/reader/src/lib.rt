@@ -87,6 +87,9 @@ enum Inside {
 // The most bytes of a text.
 const MAX_TEXT: usize = 65536;
 
+// How many bytes of a text are read at most: one more than it may have, so that a longer one is seen to be.
+pub const TEXT: usize = MAX_TEXT + 1;
+
 // The greatest number that a call may name.
 const MAX_TARGET: u64 = MAX_FUNCTIONS as u64 - 1;
 

@@ -1,6 +1,6 @@
 // A plan's forms as a row of numbers, a record of eight for each leaf in text order: its fields, its kinds and its limits, for every crate.
 ghost use mathlib.Core.Path.{_≡_};
-ghost use Prim.Native.Nat.{_+_, _*_, _≤_, _<_};
+ghost use Prim.Native.Nat.{_+_, _-_, _*_, _≤_, _<_};
 ghost use lib.ListN.{length};
 ghost use Rattle.rows.specs.Rows.{field, kind-at, after-at};
 
@@ -111,4 +111,11 @@ pub fn larger(x: u64, y: u64) -> u64
     ensures { λ r. ⌜ r ≡ Prim.Native.Nat.max x y ⌝ }
 {
     if x < y { y } else { x }
+}
+
+// a less b, and 0 where b is more.
+pub fn less(a: u64, b: u64) -> u64
+    ensures { λ r. ⌜ r ≡ a - b ⌝ }
+{
+    if a < b { 0 } else { a - b }
 }

@@ -3,9 +3,7 @@ use libc::STDIN_FILENO;
 use libc::STDOUT_FILENO;
 use listing::LISTING;
 use listing::list_text;
-
-// How many bytes are read at most: one more than a text may have, so that a longer one is seen to be.
-const TEXT: usize = 65537;
+use reader::TEXT;
 
 fn main() {
     let mut text = [0u8; TEXT];

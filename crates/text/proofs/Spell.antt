@@ -19,17 +19,17 @@ use Rattle.text.proofs.Decimal.{Apart, never-some, number-decimal}
 -- LINES OF A TEXT
 
 -- Whether a text is empty.
-nothing : List ℕ → Bool
+unfoldable pub nothing : List ℕ → Bool
 nothing [] = true
 nothing (b ∷ bs) = false
 
 -- Whether a line feed stands at the end of a text, and nowhere else.
-ends : List ℕ → Bool
+unfoldable pub ends : List ℕ → Bool
 ends [] = false
 ends (b ∷ bs) = pick (eqb b 10) (nothing bs) (ends bs)
 
 -- Such a text is the first line of any that begins with it.
-lines-one : (l t : List ℕ) → ends l ≡ true → lines (l ++ t) ≡ l ∷ lines t
+pub lines-one : (l t : List ℕ) → ends l ≡ true → lines (l ++ t) ≡ l ∷ lines t
 unfolding lines ends nothing
 lines-one [] t e = let z : _≡_ {A = ℕ} 0 1 = cc in absurd (omega arith)
 lines-one (b ∷ bs) t e = go bs (eqb b 10) refl (lines-one bs t) e
@@ -54,7 +54,7 @@ ends-numerals (suc k) n r h =
     far : (b : ℕ) → 48 ≤ b → ends (b ∷ r) ≡ ends r
     far b h = unfold ends in rw (ne-eqb b 10 (λ e. omega arith))
 
-ends-decimal : (n : ℕ) (r : List ℕ) → ends (decimal n ++ r) ≡ ends r
+pub ends-decimal : (n : ℕ) (r : List ℕ) → ends (decimal n ++ r) ≡ ends r
 unfolding decimal
 ends-decimal n r = ends-numerals (suc n) n r (omega arith)
 
@@ -95,7 +95,7 @@ number-feed b l n r h = go (eqb b 10) refl
     go false e = refl
 
 -- A number sign of a pattern takes a printed number.
-item-decimal : (t n : ℕ) (r : List ℕ) → eqb t 75 ≡ false → is-upper t ≡ true → Apart r → item t (decimal n ++ r) ≡ fit-number n r
+pub item-decimal : (t n : ℕ) (r : List ℕ) → eqb t 75 ≡ false → is-upper t ≡ true → Apart r → item t (decimal n ++ r) ≡ fit-number n r
 unfolding item number
 item-decimal t n r e u a = go (decimal n ++ r) (number-decimal n r a)
   where

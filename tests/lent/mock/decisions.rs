@@ -5,7 +5,7 @@ use reference::composed::Composed;
 use reference::numbers::Numbers;
 
 use super::super::calls::Call;
-use super::super::law::{self, Outcome};
+use super::super::law::Outcome;
 use super::super::places;
 use super::super::state::{EARLIER, LEVEL, SUSPENDED};
 use super::{Asked, Difference};
@@ -74,7 +74,7 @@ fn of_outcome(asked: &Asked, outcome: &Outcome) -> Option<Decision> {
         reading: asked.reading(),
         deadline: composed.plan().deadline,
         switch: composed.plan().switch,
-        stretch: law::stretch(&composed, &place),
+        stretch: composed.stretch_at(&place),
         release_stretch: composed.release_stretch(),
         first_remaining: composed.remaining(&places::by_forms(&composed, &first)?),
     })

@@ -1,8 +1,6 @@
 //! Every difference that can be planted, behind the test that is to find it, and
 //! of tests/calls the part of it; the scripts read the names here.
 
-use std::sync::OnceLock;
-
 const PLANTED: &[&str] = &[
     "reader/line-after",
     "reader/line-left-out",
@@ -211,21 +209,6 @@ const PLANTED: &[&str] = &[
     "calls/timed/refusal-makes-fresh",
 ];
 
-/// The name of what is planted; empty where nothing is.
-fn name() -> &'static str {
-    static NAME: OnceLock<String> = OnceLock::new();
-    NAME.get_or_init(|| std::env::var("PLANTED").unwrap_or_default())
-}
-
-/// Whether the difference of this name is planted. Where nothing is, every name
-/// that is asked for must be one that some test is to find.
 pub fn planted(name: &str) -> bool {
-    if self::name().is_empty() {
-        let mut entries = PLANTED.iter().map(|entry| entry.rsplit('/').next());
-        assert!(
-            entries.any(|known| known == Some(name)),
-            "no test is to find {name}"
-        );
-    }
-    self::name() == name
+    reference::planted::planted(PLANTED, name)
 }

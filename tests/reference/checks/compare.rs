@@ -118,18 +118,6 @@ impl Met {
     }
 }
 
-/// The reading up to which the next report of this point goes on.
-fn turning(composed: &Composed, controller: &Controller<Composed>, leaf: usize) -> u64 {
-    let next = controller
-        .place()
-        .and_then(|place| composed.report(place, leaf));
-    let plan = composed.plan();
-    next.map_or(0, |place| {
-        let taken = composed.remaining(&place) + composed.stretch(leaf) + plan.switch;
-        plan.deadline.saturating_sub(taken)
-    })
-}
-
 /// Both ways on the same calls.
 struct Both<'a> {
     listed: &'a Listed<'a>,
@@ -189,8 +177,8 @@ impl<'a> Both<'a> {
             _ if !self.by_runs.is_running() && random.chance(90) => self.release(),
             roll => {
                 let number = self.number(random, roll == 2);
-                let turning = turning(self.composed, &self.by_forms, number as usize);
-                self.report(number, reading(random, plan, last, turning))
+                let turning = self.by_forms.turning(number).unwrap_or(0).max(0);
+                self.report(number, reading(random, plan, last, turning as u64))
             }
         }
     }

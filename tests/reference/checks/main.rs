@@ -1,10 +1,12 @@
-//! The reference's own checks: the worked plans, the readings taken, the aimed
-//! texts, the two ways of finding the numbers against each other, and timed runs.
+//! The reference's own checks: the worked plans and logs, the readings taken, the
+//! aimed texts, the two ways of finding the numbers against each other, and timed
+//! runs.
 
 mod compare;
 mod large;
 mod readings_of_calls;
 mod readings_of_texts;
+mod replay;
 mod tally;
 mod texts;
 mod timed;
@@ -16,11 +18,12 @@ use tally::Tally;
 
 fn main() {
     let mut tally = Tally::new();
-    let parts: [(&str, fn(&mut Tally)); 7] = [
+    let parts: [(&str, fn(&mut Tally)); 8] = [
         ("worked plans", worked::check),
         ("readings of texts", readings_of_texts::check),
         ("readings of calls", readings_of_calls::check),
         ("texts", texts::check),
+        ("logs", replay::check),
         ("listed against composed", compare::check),
         ("large plans", large::check),
         ("timed runs", timed::check),

@@ -59,10 +59,7 @@ impl Timed<'_> {
         let Some(place) = self.controller.place() else {
             return true;
         };
-        let stretch = match self.composed.last_point(place) {
-            None => self.composed.release_stretch(),
-            Some(leaf) => self.composed.stretch(leaf),
-        };
+        let stretch = self.composed.stretch_at(place);
         let needed = self.composed.remaining(place) + stretch + self.plan.switch;
         reading <= self.plan.deadline && needed <= self.plan.deadline - reading
     }

@@ -1,0 +1,11 @@
+pub mod Holding
+pub mod Telling
+pub mod Feeding
+pub mod Effects
+pub mod Counting
+pub mod Replaying
+pub mod Printing
+pub mod Said
+pub mod Unbroken
+pub mod Examples
+pub mod Theorems
