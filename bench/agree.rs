@@ -1,5 +1,7 @@
 //! Whether both sides answer alike and leave the same memory: on what is measured, on random texts, histories, damaged tables and damaged states.
 
+use std::collections::BTreeMap;
+
 use crate::edges;
 use crate::jobs::{jobs, Call};
 use crate::memory::{Head, Leaf, Reply, State, FUNCTIONS, LEVELS};
@@ -19,7 +21,7 @@ pub struct Tally {
     pub passed: usize,
     pub failed: usize,
     /// How often each refusal and each word was answered, by their numbers.
-    refusals: [usize; 18],
+    refusals: BTreeMap<u64, usize>,
     words: [usize; 6],
 }
 
@@ -56,7 +58,7 @@ impl Tally {
         self.note(alike, || {
             format!("{proved:?} {ruling:?} of {}", String::from_utf8_lossy(text))
         });
-        self.refusals[ruling.number as usize] += 1;
+        *self.refusals.entry(ruling.number).or_default() += 1;
         (ruling.number == 0).then_some((row, head))
     }
 
@@ -74,7 +76,7 @@ impl Tally {
         self.note(alike, || {
             format!("{what}: {proved:?} {reply:?} from {state:?}")
         });
-        self.refusals[reply.number as usize] += 1;
+        *self.refusals.entry(reply.number).or_default() += 1;
         self.words[reply.word as usize] += 1;
         by_reference
     }
@@ -360,10 +362,12 @@ pub fn agree(plans: &[Plan]) -> Tally {
     texts(&mut tally, &mut random);
     let Tally {
         refusals, words, ..
-    } = tally;
+    } = &tally;
     println!("answers by refusal, 0 for none: {refusals:?}");
     println!("answers of calls by word, 0 for refused: {words:?}");
-    let all_met = !refusals.contains(&0) && !words.contains(&0);
+    // 18 is for lines of logs.
+    let mut numbers = (0..=17).chain([19]);
+    let all_met = numbers.all(|number| refusals.contains_key(&number)) && !words.contains(&0);
     tally.note(all_met, || "not every refusal and word was met".to_string());
     tally
 }

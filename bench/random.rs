@@ -30,6 +30,9 @@ pub fn spoil(random: &mut Random, text: &mut Vec<u8>) {
     }
 }
 
+/// How often, in a hundred, points of a text may cost nothing.
+const COSTLESS: u64 = 10;
+
 struct Writer<'a> {
     random: &'a mut Random,
     lines: Vec<String>,
@@ -39,6 +42,8 @@ struct Writer<'a> {
     points: u64,
     calls: u64,
     cost: u64,
+    /// Whether points may cost nothing, and the text is refused for them.
+    costless: bool,
 }
 
 impl Writer<'_> {
@@ -55,8 +60,9 @@ impl Writer<'_> {
     fn form(&mut self, depth: usize, silent: bool) {
         let point = !silent && self.random.chance(self.points);
         let mark = if point { 'p' } else { 's' };
-        let max_load = self.random.below(self.cost + 1);
-        let isolated = self.random.below(max_load + 1);
+        let least = u64::from(point && !self.costless);
+        let max_load = self.random.below(self.cost + 1).max(least);
+        let isolated = self.random.below(max_load + 1).max(least);
         let inner = depth > 0 && self.random.chance(50);
         if inner && self.random.chance(50) {
             let bound = 1 + self.random.below(3);
@@ -104,6 +110,7 @@ pub fn random_text(random: &mut Random) -> Vec<u8> {
     let depth = 1 + random.index(5);
     let (points, calls) = (random.pick(&[30, 60, 90]), random.pick(&[5, 30]));
     let cost = random.pick(&[1, 10, 1 << 20]);
+    let costless = random.chance(COSTLESS);
     let mut writer = Writer {
         leaves: 4 + random.index(40),
         random,
@@ -112,6 +119,7 @@ pub fn random_text(random: &mut Random) -> Vec<u8> {
         points,
         calls,
         cost,
+        costless,
     };
     for _ in 0..functions {
         writer.function(depth);

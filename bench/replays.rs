@@ -36,6 +36,9 @@ const ANSWERS: [&str; 11] = [
 const GREATEST: &str = "release\npoint 0 18446744073709551615\npoint 1 18446744073709551616\n\
     point 1 18446744073709551615\nend 18446744073709551615\n";
 
+/// Plans that are refused: by 2, and by 19.
+const REFUSED: [&str; 2] = ["(task 9 0\n)\n", "(task 9 0\n(fun\n(leaf p 0 1)\n)\n)\n"];
+
 /// A line longer than two pieces.
 const LONG: usize = 10_000;
 
@@ -70,6 +73,14 @@ fn compare(tally: &mut Tally, programs: &Programs, what: &str) -> io::Result<Vec
     Ok(proved)
 }
 
+fn refused_plans(tally: &mut Tally, programs: &Programs) -> io::Result<()> {
+    for plan in REFUSED {
+        programs.lay(plan.as_bytes(), b"release\n")?;
+        compare(tally, programs, "a refused plan")?;
+    }
+    Ok(())
+}
+
 pub fn agree(tally: &mut Tally, programs: &Programs) -> io::Result<()> {
     let mut all = String::new();
     for (what, plan, log) in compared() {
@@ -80,9 +91,7 @@ pub fn agree(tally: &mut Tally, programs: &Programs) -> io::Result<()> {
         let met = all.lines().any(|line| line.starts_with(answer));
         tally.note(met, || format!("no replay answers {answer}"));
     }
-    programs.lay(b"(task 9 0\n)\n", b"release\n")?;
-    compare(tally, programs, "a refused plan")?;
-    Ok(())
+    refused_plans(tally, programs)
 }
 
 /// A plan that is measured, and the lines of its logs: for seconds, and for instructions.

@@ -27,7 +27,7 @@ extern "C" {
 #endif
 
 /* The version of this header, to be compared by #if: 10000 * major + 100 * minor + patch. The library carries none: take both from one dist/. */
-#define ROLSIPAY_VERSION 10100            /* 1.1.0 */
+#define ROLSIPAY_VERSION 10200            /* 1.2.0 */
 
 /* The most stack that a call takes, in bytes, whatever it is given; docs/MEMORY.md tells how it was measured. */
 #define ROLSIPAY_STACK_READ 124928        /* rolsipay_read */
@@ -51,7 +51,8 @@ extern "C" {
 #define ROLSIPAY_RESUME 4
 #define ROLSIPAY_ENDED 5
 
-/* The numbers of refusals. A plan is asked for 1; then line by line, in a line for 2 to 7; then for 8, 9, 10. The calls say below what they ask for. */
+/* The numbers of refusals. A plan is asked for 1; then line by line, in a line for 2, 3, 4, 5, 19, 6, 7 in this order; then for 8, 9, 10. The calls say below
+ * what they ask for. No call answers 18: by that number the program that replays flight logs refuses a line. */
 #define ROLSIPAY_OVERSIZE 1               /* text over 65,536 bytes */
 #define ROLSIPAY_FORM 2                   /* line or nesting not of the grammar, or text ends early or goes on */
 #define ROLSIPAY_RANGE 3                  /* a number outside its range, of any number of digits */
@@ -69,6 +70,7 @@ extern "C" {
 #define ROLSIPAY_STRANGER 15              /* the number is not that of a point of the plan */
 #define ROLSIPAY_BACKWARD 16              /* reading below the last accepted one */
 #define ROLSIPAY_ASTRAY 17                /* no run has these reports in this order; for end, no run can end here */
+#define ROLSIPAY_COSTLESS 19              /* a point whose C, the cost alone, is 0 */
 
 /* A leaf's record: 88 bytes. */
 typedef struct {

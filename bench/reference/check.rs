@@ -17,7 +17,7 @@ struct Structure<'a> {
 }
 
 impl Structure<'_> {
-    /// What is inside the forms at this level, where so many brackets may open; None where they break one of rules 3 to 8.
+    /// What is inside the forms at this level, where so many brackets may open; None where they break one of rules 3 to 8 and 19.
     fn forms(&mut self, from: usize, to: usize, level: u64, left: usize) -> Option<Inside> {
         let mut inside = Inside::default();
         let mut at = from;
@@ -69,7 +69,7 @@ impl Structure<'_> {
         })
     }
 
-    /// Whether the functions with these bounds keep rules 3 to 9.
+    /// Whether the functions with these bounds keep rules 3 to 9 and 19.
     fn functions(&mut self, bounds: &[u64]) -> bool {
         for pair in bounds.windows(2) {
             let (from, to) = (pair[0], pair[1]);
@@ -90,7 +90,9 @@ impl Structure<'_> {
 
 /// Whether point, costs, level and end of a leaf are right, whatever its kind.
 fn placed(leaf: &Leaf, at: usize, to: usize, level: u64) -> bool {
+    // A point costs a tick at least, a silent leaf perhaps nothing.
     leaf.point <= 1
+        && leaf.point <= leaf.isolated
         && leaf.isolated <= leaf.max_load
         && leaf.max_load <= MOST_COST
         && leaf.level == level

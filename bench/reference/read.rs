@@ -18,6 +18,7 @@ const DEPTH: u64 = 7;
 const UNSEEN: u64 = 8;
 const UNCALLED: u64 = 9;
 const LONG: u64 = 10;
+const COSTLESS: u64 = 19;
 
 const EMPTY: Leaf = Leaf {
     kind: 0,
@@ -62,7 +63,7 @@ impl Reader<'_> {
         }
     }
 
-    /// Rules 3 to 7 for a leaf.
+    /// Rules 3, 4, 5, 19, 6 and 7 for a leaf, in this order.
     fn judge(&self, block: &Block, level: u64, open: usize) -> Result<(), u64> {
         let detail_fits = match block.kind {
             CALL => block.detail <= MOST_TARGET,
@@ -77,6 +78,9 @@ impl Reader<'_> {
         }
         if block.max_load < block.isolated {
             return Err(LOAD);
+        }
+        if block.point && block.isolated == 0 {
+            return Err(COSTLESS);
         }
         let mut height = level;
         if block.kind == CALL {
@@ -168,7 +172,7 @@ impl Reader<'_> {
         Ok(())
     }
 
-    /// Rules 2 to 7: the lines.
+    /// Rules 2 to 7 and 19: the lines.
     fn task(&mut self) -> Result<(), u64> {
         let Line::Task(deadline, switching) = self.take()? else {
             return Err(FORM);

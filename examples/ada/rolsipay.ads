@@ -7,7 +7,7 @@ with System;
 package Rolsipay is
 
    --  The version of this binding. The library carries none: take both from one dist/.
-   Version : constant := 10_100;
+   Version : constant := 10_200;
 
    --  The most stack that a call takes, in bytes: Read; Release, Report and Finish, each.
    Stack_Read : constant := 124_928;
@@ -48,6 +48,7 @@ package Rolsipay is
    Stranger     : constant := 15;
    Backward     : constant := 16;
    Astray       : constant := 17;
+   Costless     : constant := 19;
 
    --  The layout that the library was compiled for: every component below has 64 bits or is an array of such, and the sizes of the records are the sums of
    --  their components' sizes, so that the compiler refuses to pad one; convention C keeps the order.

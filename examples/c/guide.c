@@ -29,10 +29,10 @@ static const struct run runs[] = {
     {"plan A, late", "examples/plan-a.plan", {R(0, 0), R(1, 100), R(1, 101), E(102)}},
     {"plan B, else part", "examples/plan-b.plan", {R(1, 0), R(4, 13), R(0, 15), E(19)}},
     {"plan B, then part", "examples/plan-b.plan", {R(1, 0), R(0, 3), R(2, 3), R(0, 5), R(4, 9), R(0, 11), E(15)}},
-    {"trap 1", "examples/traps/1-two-paths.plan", {R(0, 0), R(3, 11), E(41)}},
+    {"trap 1", "examples/traps/1-two-paths.plan", {R(0, 0), R(3, 12), E(42)}},
     {"trap 2", "examples/traps/2-stretch.plan", {R(0, 0), R(1, 6), E(16)}},
     {"trap 3", "examples/traps/3-release.plan", {R(1, 6), E(16)}},
-    {"trap 4", "examples/traps/4-visits.plan", {R(2, 0), R(0, 0), R(0, 22), R(3, 24), R(0, 24), R(0, 46), E(48)}},
+    {"trap 4", "examples/traps/4-visits.plan", {R(2, 0), R(0, 1), R(0, 23), R(3, 25), R(0, 26), R(0, 48), E(50)}},
 };
 
 /* Plays a run from a fresh state. */

@@ -18,12 +18,23 @@ static void begin(void)
     release();
 }
 
-/* A table, then a running state, with one number changed, and the state mended. */
+/* The table that plan A would have if leaf 0, a point, cost nothing. Its numbers agree with one another, but that plan is refused by 19. */
+static void costless(void)
+{
+    row[0].isolated = 0;
+    row[0].tail = head.total = head.totals[0] = 44;
+    show("broken, release on the table that plan A would have if leaf 0 cost nothing", release());
+    row[0].isolated = 5;
+    row[0].tail = head.total = head.totals[0] = 49;
+}
+
+/* A table that is no plan's, then a running state with one number changed, and the state mended. */
 static void broken(void)
 {
     row[2].isolated = 11;
     show("broken, release on a row with a cost changed from 10 to 11", release());
     row[2].isolated = 10;
+    costless();
     begin();
     state.times[0] = 48;
     show("broken, report 0 at 0 with the total in the state changed from 49 to 48", report(0, 0));

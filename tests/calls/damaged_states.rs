@@ -7,7 +7,7 @@ use lent::places::{self, Standings};
 use lent::state::{Frame, State, EARLIER, LEAVES, LEVEL, RUNNING, STATE, SUSPENDED};
 use lent::tally::Tally;
 use reference::composed::Composed;
-use reference::gen::{self, Random, Shape};
+use reference::gen::{self, Random};
 use reference::listed::Listed;
 use reference::numbers::Numbers;
 use reference::plan::{self, Form, Kind, Plan};
@@ -125,13 +125,13 @@ fn near_stack(random: &mut Random, leaves: u64, mut stack: Vec<Frame>) -> Vec<Fr
     stack
 }
 
-/// In plans without costs all times are 0, so that the stack alone decides.
+/// Good stacks, near ones and any. The times of a stack at which no run stands are
+/// worked out as those of a good one, so that they do not tell.
 fn stacks(tally: &mut Tally) {
     let mut random = Random::new(87);
     let mut plans = 0;
     while plans < 300 {
-        let shape = gen::small_shape(&mut random);
-        let plan = gen::valid_plan(&mut random, Shape { cost: 0, ..shape });
+        let plan = gen::small_plan(&mut random);
         let Some(small) = Small::new(&plan) else {
             continue;
         };
@@ -141,13 +141,17 @@ fn stacks(tally: &mut Tally) {
         let mut all: Vec<Vec<Frame>> = pairs.map(|frame| vec![frame]).collect();
         for _ in 0..100 {
             all.push(any_stack(&mut random, leaves));
-            let good = small.standings.state(&mut random, &small.listed).stack();
-            let good = good.unwrap_or_default();
-            all.push(near_stack(&mut random, leaves, good.clone()));
-            all.push(good);
+            let good = small.standings.state(&mut random, &small.listed);
+            let stack = good.stack().unwrap_or_default();
+            let times = places::times_along(&small.composed, &stack);
+            tally.holds(times[..] == *good.times(), || {
+                format!("times along {stack:?} in {plan:?}")
+            });
+            all.push(near_stack(&mut random, leaves, stack.clone()));
+            all.push(stack);
         }
         for stack in all.iter().filter(|stack| stack.len() <= 32) {
-            let state = State::standing(stack, &[0; 33]);
+            let state = State::standing(stack, &places::times_along(&small.composed, stack));
             small.calls(tally, &mut random, "a stack where no times tell", &state);
         }
     }

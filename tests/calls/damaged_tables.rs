@@ -1,7 +1,11 @@
-//! Tables with numbers changed, or records cut off.
+//! Tables with numbers changed, or records cut off, and tables that are right but for a
+//! point that costs nothing.
 
+use lent::calls::Call;
 use lent::law;
+use reference::calls::Answer;
 use reference::composed::Composed;
+use reference::costless::{self, Costless};
 use reference::gen::{self, Random};
 use reference::plan::Plan;
 use reference::table;
@@ -10,6 +14,9 @@ use super::damage::{any_call, change_one, fitting_call, some_state};
 use super::deep;
 use lent::state::State;
 use lent::tally::Tally;
+
+/// Calls on each table with a point that costs nothing.
+const CALLS: usize = 6;
 
 /// Every number of a table changed, with an idle and a running state.
 fn every_number_of_table(tally: &mut Tally, random: &mut Random, plan: &Plan) {
@@ -74,7 +81,47 @@ fn shorter_rows(tally: &mut Tally) {
     }
 }
 
+/// Makes these calls on a plan's table, on a fresh state and on one that stands in the
+/// plan; gives how many of them rule 11 is to refuse.
+fn calls_on(tally: &mut Tally, random: &mut Random, group: &str, plan: &Plan) -> usize {
+    let composed = Composed::new(plan);
+    let table = table::table(&composed);
+    let standing = some_state(random, &composed);
+    let reading = standing.reading();
+    let calls: [(State, Call); CALLS] = [
+        (State::fresh(), Call::Release),
+        (State::fresh(), any_call(random, plan, &standing)),
+        (standing.clone(), Call::Release),
+        (standing.clone(), Call::Report(0, reading)),
+        (standing.clone(), Call::End(reading)),
+        (standing.clone(), fitting_call(random, &composed, &standing)),
+    ];
+    let mut refused = 0;
+    for (state, call) in calls {
+        let wanted = law::on_table(&table, &state, call);
+        refused += usize::from(wanted.answer == Answer::Refused(11));
+        tally.call(group, &table, &state, call, &wanted);
+    }
+    refused
+}
+
+/// No call takes a table with a point that costs nothing, in every kind of leaf, where
+/// all numbers are right but for that. With the leaf silent, each takes it.
+fn costless_points(tally: &mut Tally) {
+    let mut random = Random::new(91);
+    for Costless { plan, silent, .. } in costless::plans(&mut random, 100) {
+        let refused = calls_on(tally, &mut random, "a point that costs nothing", &plan);
+        tally.holds(refused == CALLS, || format!("{refused} of {plan:?}"));
+        if let Some(silent) = silent {
+            let group = "a silent leaf that costs nothing";
+            let refused = calls_on(tally, &mut random, group, &silent);
+            tally.holds(refused == 0, || format!("{refused} of {silent:?}"));
+        }
+    }
+}
+
 pub fn compare_all(tally: &mut Tally) {
     tables(tally);
     shorter_rows(tally);
+    costless_points(tally);
 }

@@ -9,7 +9,7 @@ use reference::plan::{self, Plan, MOST_LEAVES};
 fn loops(count: usize, bound: u64) -> Vec<String> {
     let open = format!("(loop p {bound} 1 2");
     nest(
-        &[&open, "(leaf p 0 1)"],
+        &[&open, "(leaf p 1 2)"],
         count,
         &["(leaf p 1 1)", "(leaf s 1 3)"],
         &["(leaf s 0 2)", ")"],
@@ -63,7 +63,7 @@ fn with_deadline(mut plan: Plan) -> Plan {
 /// Each with its name.
 pub fn plans() -> Vec<(&'static str, Plan)> {
     let most_rounds = nest(
-        &["(loop p 65535 1 1", "(leaf p 0 1)"],
+        &["(loop p 65535 1 1", "(leaf p 1 2)"],
         2,
         &["(leaf s 3 5)"],
         &[")"],

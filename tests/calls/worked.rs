@@ -129,14 +129,14 @@ fn plan_b(tally: &mut Tally) {
 /// After the second call of the loop and its second visit there.
 fn visits_anew(tally: &mut Tally) {
     let lines = [
-        "release -> go 4 95 0",
-        "report 1 0 -> go 4 95 0",
-        "report 0 0 -> go 4 94 0",
-        "report 2 0 -> go 2 97 0",
+        "release -> go 6 93 0",
+        "report 1 0 -> go 6 92 0",
+        "report 0 0 -> go 5 93 0",
+        "report 2 0 -> go 3 95 0",
         "report 0 0 -> go 2 96 0",
         "report 0 0 -> go 1 97 0",
     ];
-    let wanted = (0, false, &[(2, 0), (0, 1)][..], &[4, 2, 1][..]);
+    let wanted = (0, false, &[(2, 0), (0, 1)][..], &[6, 3, 1][..]);
     calls_to(tally, "two calls of a loop", TWICE, &lines, wanted);
 }
 

@@ -6,11 +6,11 @@ use std::collections::HashMap;
 use reference::composed::{Composed, Place};
 use reference::gen::Random;
 use reference::listed::Listed;
-use reference::numbers::Numbers;
+use reference::numbers::{Numbers, Times};
 use reference::plan::{Form, Kind, Plan};
 use reference::runs;
 
-use super::state::{Frame, State};
+use super::state::{Frame, State, LEVELS};
 
 /// Two histories, the first and the last in the list of runs, for each stack at
 /// which some run stands, the release's among them.
@@ -125,6 +125,31 @@ pub fn by_forms(composed: &Composed, state: &State) -> Option<Place> {
         [] => Some(composed.release()),
         stack => decoded(plan, &plan.functions[plan.main()], stack),
     }
+}
+
+/// The remaining times that tails, turns and totals give along a stack, whether or not a
+/// run stands there: each from the one below it. They wrap where a loop was visited too
+/// often, and end where the stack leaves the plan.
+pub fn times_along<N: Numbers>(numbers: &N, stack: &[Frame]) -> Times {
+    let leaves = numbers.plan().leaves();
+    let mut times = [0; LEVELS];
+    times[0] = numbers.total();
+    // What remains below up to the end of the forms of this level.
+    let mut below = times[0];
+    for (at, &(leaf, earlier)) in stack.iter().enumerate() {
+        let Some(&(_, form)) = leaves.get(leaf as usize) else {
+            break;
+        };
+        let (tail, turn) = (numbers.tail(form.leaf), numbers.turn(form.leaf));
+        let first = times[at].wrapping_sub(below).wrapping_add(tail);
+        times[at + 1] = first.wrapping_sub(earlier.wrapping_mul(turn));
+        below = match form.kind {
+            Kind::Loop(..) => tail,
+            Kind::Call(target) => form.isolated + numbers.function_total(target),
+            Kind::Leaf | Kind::If(..) => form.isolated,
+        };
+    }
+    times
 }
 
 /// A number of earlier visits, often at an edge.

@@ -6,6 +6,7 @@ use reference::count::Count;
 use reference::gen::Random;
 use reference::numbers::Numbers;
 use reference::plan::{self, Refusal};
+use reference::rulings::Rulings;
 use reference::table::{self, Table};
 
 use super::answers::Ruling;
@@ -47,8 +48,8 @@ impl Met {
 pub struct Tally {
     pub count: Count,
     pub met: Met,
-    /// How often each refusal of a text was wanted; the first is for accepted ones.
-    pub texts: [usize; 11],
+    /// How often each ruling on a text was wanted.
+    pub texts: Rulings,
     pub random: Random,
 }
 
@@ -72,7 +73,7 @@ impl Tally {
         Tally {
             count,
             met: Met::default(),
-            texts: [0; 11],
+            texts: Rulings::default(),
             random: Random::new(81),
         }
     }
@@ -98,8 +99,9 @@ impl Tally {
         records: usize,
         wanted: &Result<Table, Refusal>,
     ) -> Table {
-        let (number, line) = wanted.as_ref().err().copied().unwrap_or((0, 0));
-        self.texts[number as usize] += 1;
+        let refusal = wanted.as_ref().err().copied();
+        self.texts.note(refusal);
+        let (number, line) = refusal.unwrap_or((0, 0));
         let mut found = Memory::new(&mut self.random, records);
         let mut after = found.clone();
         if let Ok(table) = wanted {

@@ -92,6 +92,10 @@ static void refused_lines(void)
         {"(if p 1 1\n", ROLSIPAY_DEPTH},
         {"(call p 0 1 1)\n", ROLSIPAY_TARGET},
         {"(leaf p 2 1)\n", ROLSIPAY_LOAD},
+        {"(leaf p 0 1)\n", ROLSIPAY_COSTLESS},
+        {"(call p 0 0 1)\n", ROLSIPAY_COSTLESS},
+        {"(loop p 1 0 1\n", ROLSIPAY_COSTLESS},
+        {"(if p 0 1\n", ROLSIPAY_COSTLESS},
         {"(leaf p 1048577 1048577)\n", ROLSIPAY_RANGE},
         {digits, ROLSIPAY_RANGE},
         {"(then\n", ROLSIPAY_FORM},
@@ -160,16 +164,21 @@ static void nested_row(uint64_t ifs, int otherwise)
     }
 }
 
-/* Tables of no plan: the deepest plan's with one number changed, with a record too deep, and rows whose records nest 512 deep. */
+/* Tables of no plan: the deepest plan's with one number changed, with its deepest point costing nothing, with a record too deep, and rows whose records nest
+ * 512 deep. */
 static void broken_tables(void)
 {
     write_nesting(&DEEPEST);
-    uint64_t *const changed[] = {&head.stretch, &head.max_load_total, &head.total, &row[0].stretch, &row[46].stretch, &row[46].tail, &row[46].turn, &row[46].level};
+    uint64_t *const changed[] = {&head.stretch, &head.max_load_total, &head.total, &row[0].stretch, &row[46].stretch, &row[46].tail, &row[46].turn,
+                                 &row[46].level};
     for (size_t i = 0; i < sizeof changed / sizeof *changed; i++) {
         read_accepted("deepest");
         *changed[i] += 1;
         broken("a number changed");
     }
+    read_accepted("deepest");
+    row[46].isolated = 0;
+    broken("a point that costs nothing");
     read_accepted("deepest");
     for (int i = 0; i < 47; i++)
         row[i].after = 48;

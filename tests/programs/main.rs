@@ -12,12 +12,13 @@ use reference::gen::{self, Random};
 use reference::numbers::printed;
 use reference::plan::{self, MOST_BYTES};
 use reference::program::{note, pieces_of, run_on, run_on_pieces, Ended};
+use reference::rulings::{Rulings, ALL_RULINGS};
 
 struct Programs {
     program: PathBuf,
     count: Count,
-    /// How often each refusal was wanted; the first is for accepted texts.
-    met: [usize; 11],
+    /// How often each ruling was wanted.
+    rulings: Rulings,
 }
 
 impl Programs {
@@ -55,8 +56,7 @@ impl Programs {
     }
 
     fn text(&mut self, group: &str, text: &[u8]) {
-        let refusal = plan::read(text, 512).err();
-        self.met[refusal.map_or(0, |refusal| refusal.0 as usize)] += 1;
+        self.rulings.note(plan::read(text, 512).err());
         self.writes(group, text, printed(text).as_bytes());
     }
 }
@@ -120,7 +120,7 @@ fn texts(programs: &mut Programs) {
         let valid = plan::text(&gen::valid_plan(&mut random, shape));
         programs.text("a valid plan", &valid);
         let loose = plan::text(&gen::loose_plan(&mut random, shape));
-        programs.text("a plan that may break 7 to 10", &loose);
+        programs.text("a plan that may break rules", &loose);
         let changed = damage::damaged(&mut random, &valid);
         programs.text("a damaged text", &changed);
     }
@@ -134,7 +134,7 @@ fn main() {
     let mut programs = Programs {
         program,
         count: Count::new(words),
-        met: [0; 11],
+        rulings: Rulings::default(),
     };
     let found = examples(&mut programs, &plans);
     let what = format!("examples: {found:?}");
@@ -143,9 +143,8 @@ fn main() {
         .holds(found.is_ok_and(|count| count > 0), &what);
     lengths(&mut programs);
     texts(&mut programs);
-    println!("texts accepted and refused by 1 to 10: {:?}", programs.met);
-    // A rule that no text meets would be a rule that was not compared.
-    let met = programs.met.iter().all(|&count| count > 0);
+    println!("texts accepted (0) and refused: {}", programs.rulings);
+    let met = programs.rulings.met(&ALL_RULINGS, 1);
     programs.count.holds(met, "each answer is met");
     programs.count.finish();
 }

@@ -3,6 +3,7 @@
 
 use std::io::{Read, Write};
 
+use reference::damage::silenced;
 use reference::numbers::printed;
 use reference::plan::{self, MOST_BYTES, MOST_LEAVES};
 
@@ -21,6 +22,7 @@ const PLANTED: &[&str] = &[
     "cut-at-65536",
     "oversize-from-65536",
     "oversize-with-line",
+    "costless-listed",
 ];
 
 fn planted(name: &str) -> bool {
@@ -42,6 +44,14 @@ fn input() -> Vec<u8> {
         text.truncate(MOST_BYTES);
     }
     text
+}
+
+/// What the reference prints, or that of the text with a point that costs nothing silent.
+fn listed(text: &[u8]) -> String {
+    match plan::read(text, MOST_LEAVES) {
+        Err((19, line)) if planted("costless-listed") => printed(&silenced(text, line)),
+        _ => printed(text),
+    }
 }
 
 /// The listing with a line for every leaf, silent ones with the stretch 0.
@@ -102,7 +112,7 @@ fn plant_bytes(mut listing: String) -> String {
 
 fn main() {
     let text = input();
-    let listing = plant_bytes(plant_numbers(&text, printed(&text)));
+    let listing = plant_bytes(plant_numbers(&text, listed(&text)));
     if planted("words-on-errors") {
         eprintln!("done");
     }

@@ -42,11 +42,16 @@ fn known_texts(tally: &mut Tally) {
 fn changed_texts(tally: &mut Tally, base: &[u8]) {
     with_rows(tally, "a base text", base);
     let any_byte = (0..base.len()).flat_map(|at| damage::every_byte_at(base, at));
+    let costless = damage::every_point_costless(base).into_iter();
     let groups = [
         ("a number at an edge", damage::every_number_at_edges(base)),
         (
             "a byte dropped or doubled",
             damage::every_byte_dropped_or_doubled(base),
+        ),
+        (
+            "a point that costs nothing",
+            costless.map(|(_, text)| text).collect(),
         ),
         ("a line moved", damage::every_line_moved(base)),
         ("a beginning", damage::every_beginning(base)),

@@ -24,6 +24,8 @@ struct Held {
     ifs: usize,
     calls: usize,
     silent: usize,
+    /// Silent leaves that cost nothing.
+    free: usize,
     points: usize,
     several: usize,
 }
@@ -39,6 +41,7 @@ impl Held {
         self.ifs += any(&|form| matches!(form.kind, Kind::If(..)));
         self.calls += any(&|form| matches!(form.kind, Kind::Call(_)));
         self.silent += any(&|form| !form.point);
+        self.free += any(&|form| !form.point && form.isolated == 0);
         self.points += any(&|form| form.point);
         self.several += usize::from(plan.functions.len() > 1);
     }
@@ -49,6 +52,7 @@ impl Held {
             self.ifs,
             self.calls,
             self.silent,
+            self.free,
             self.points,
             self.several,
         ];
@@ -96,7 +100,7 @@ fn any_texts(tally: &mut Tally) {
         let deep = gen::deep_text(&mut random);
         for (group, text, often) in [
             ("a valid plan", &valid, 2),
-            ("a plan that may break 7 to 10", &loose, 2),
+            ("a plan that may break rules", &loose, 2),
             ("a deep plan", &deep, 16),
         ] {
             compare(tally, &mut random, group, text, round % often == 0);

@@ -2,6 +2,7 @@
 
 use super::aimed_lines;
 use super::plan::Refusal;
+use super::two_faults;
 
 pub struct Case {
     pub name: String,
@@ -12,10 +13,12 @@ pub struct Case {
     pub refusal: Option<Refusal>,
 }
 
-const LEAF: &str = "(leaf s 0 0)";
+pub const LEAF: &str = "(leaf s 0 0)";
 const POINT: &str = "(leaf p 1 1)";
 const SILENT: &str = "(leaf s 1 1)";
 const CALL: &str = "(call s 0 0 0)";
+const CALL_POINT: &str = "(call p 0 1 1)";
+const COSTLESS: &str = "(leaf p 0 1)";
 
 /// Five leaves, on lines 3, 4, 5, 7 and 10 of a plan of this one function.
 const FIVE_LEAVES: [&str; 11] = [
@@ -34,10 +37,11 @@ const FIVE_LEAVES: [&str; 11] = [
 
 pub const SMALLEST: &str = "(task 10 3\n(fun\n(leaf s 7 9)\n)\n)\n";
 
-/// One of every form, so that each line's bytes can be changed.
+/// One of every form, so that each line's bytes can be changed. One byte makes a point
+/// of a silent leaf that costs nothing.
 pub const EVERY_FORM: &str =
-    "(task 900 5\n(fun\n(leaf s 1 2)\n)\n(fun\n(call s 0 1 3)\n(loop p 7 2 4\n\
-    (if p 3 5\n(then\n(leaf p 10 20)\n)\n(else\n(call p 0 0 0)\n)\n)\n)\n(leaf s 6 8)\n)\n)\n";
+    "(task 900 5\n(fun\n(leaf s 0 2)\n)\n(fun\n(call s 0 0 3)\n(loop p 7 2 4\n\
+    (if p 3 5\n(then\n(leaf p 10 20)\n)\n(else\n(call p 0 1 1)\n)\n)\n)\n(leaf s 6 8)\n)\n)\n";
 
 pub fn joined<S: AsRef<str>>(lines: &[S]) -> String {
     lines
@@ -129,12 +133,6 @@ fn brackets(cases: &mut Cases) {
     odd.extend((0..30).flat_map(|_| words(&[")", "(else", ")", ")"])));
     odd.push(")".to_string());
     cases.accept("a loop is the 64th bracket", &[odd]);
-    cases.refuse(
-        "65th bracket with M below C",
-        &[ifs(31, &["(loop s 1 1 0"])],
-        5,
-        65,
-    );
 }
 
 /// Levels 32 and 33 by loops alone.
@@ -144,13 +142,6 @@ fn levels(cases: &mut Cases) {
     cases.refuse("leaf at level 33", &[loops(32, &[LEAF])], 7, 35);
     cases.refuse("loop at level 33", &[loops(33, &[])], 7, 35);
     cases.refuse("if at level 33", &[loops(32, &["(if s 0 0"])], 7, 35);
-    cases.refuse("own call at level 33", &[loops(32, &[CALL])], 6, 35);
-    cases.refuse(
-        "leaf at level 33 with M below C",
-        &[loops(32, &["(leaf s 1 0)"])],
-        5,
-        35,
-    );
 }
 
 /// Levels 32 and 33 by a call of function 0, which adds what it calls.
@@ -211,24 +202,13 @@ fn levels_of_calls(cases: &mut Cases) {
     cases.refuse("a 17th function", &steps(17), 4, 50);
 }
 
-/// 512 leaves and 513, and what else the 513th may break.
+/// 512 leaves and 513.
 fn counts(cases: &mut Cases) {
     cases.accept("512 leaves", &[many(LEAF, 512)]);
     cases.refuse("513 leaves", &[many(LEAF, 513)], 4, 515);
     let after = |line: &str| [[many(LEAF, 512), words(&[line])].concat()];
-    cases.refuse("513th leaf with M below C", &after("(leaf s 2 1)"), 4, 515);
-    cases.refuse("513th leaf calls its own", &after(CALL), 4, 515);
-    cases.refuse(
-        "513th leaf out of range",
-        &after("(leaf s 0 1048577)"),
-        3,
-        515,
-    );
     cases.refuse("513th leaf is a loop", &after("(loop s 1 0 0"), 4, 515);
     cases.refuse("513th leaf is an if", &after("(if s 0 0"), 4, 515);
-    cases.refuse("513th leaf of no form", &after("(leaf s 0 0"), 2, 515);
-    let deep = [many(LEAF, 480), loops(32, &[LEAF])].concat();
-    cases.refuse("513th leaf at level 33", &[deep], 4, 515);
     let full: Vec<Vec<String>> = (0..16)
         .map(|f: usize| match f.checked_sub(1) {
             None => many(LEAF, 32),
@@ -264,7 +244,7 @@ fn points_in_silence(cases: &mut Cases) {
     let in_if = nest(
         &["(loop s 1 0 0", "(if s 0 0", "(then"],
         1,
-        &["(leaf p 0 0)"],
+        &[POINT],
         &[")", "(else", ")", ")", ")"],
     );
     cases.refuse("point in a silent if in a silent loop", &[in_if], 8, 0);
@@ -277,14 +257,29 @@ fn points_in_silence(cases: &mut Cases) {
     cases.accept("silent call of silence", &[silent, call]);
     cases.accept(
         "call that is a point",
-        &[point.clone(), words(&["(call p 0 0 0)"])],
+        &[point.clone(), words(&[CALL_POINT])],
     );
-    let far = [
-        point,
-        ifs(1, &["(call p 0 0 0)"]),
-        words(&["(call s 1 0 0)"]),
-    ];
+    let far = [point, ifs(1, &[CALL_POINT]), words(&["(call s 1 0 0)"])];
     cases.refuse("silent call of a call of a point", &far, 8, 0);
+}
+
+/// Rule 19 comes on its line, before the rules of whole plans.
+fn costless_points(cases: &mut Cases) {
+    let (silent, costless) = (words(&[SILENT]), words(&[COSTLESS]));
+    cases.refuse("19 before 8", &[loops(1, &[COSTLESS])], 19, 4);
+    cases.refuse("19 before 9", &[silent.clone(), costless.clone()], 19, 6);
+    let unnamed = [costless, silent];
+    cases.refuse("19 in a function that no call names", &unnamed, 19, 3);
+    let most = nest(&["(loop s 65535 0 1048576"], 2, &[COSTLESS], &[")"]);
+    cases.refuse("19 before 10", &[most], 19, 5);
+    let after_512 = [many(LEAF, 511), words(&[COSTLESS, LEAF])].concat();
+    cases.refuse("19 on the 512th leaf", &[after_512], 19, 514);
+    for row in [0, 1, 2] {
+        let text = task(&[words(&[LEAF, COSTLESS])]);
+        let number = if row < 2 { 4 } else { 19 };
+        let refusal = Some((number, 3 + row.min(1)));
+        cases.add("19 and other rows", text, row, refusal);
+    }
 }
 
 /// Rule 9, and rule 8 before it.
@@ -359,6 +354,7 @@ pub fn cases() -> Vec<Case> {
         aimed_lines::forms,
         aimed_lines::ranges,
         aimed_lines::first_refusals,
+        two_faults::lines,
         brackets,
         levels,
         called_levels,
@@ -366,6 +362,7 @@ pub fn cases() -> Vec<Case> {
         counts,
         lent_rows,
         points_in_silence,
+        costless_points,
         uncalled_functions,
         totals,
         wrapping_totals,

@@ -178,6 +178,9 @@ const WHOLE_TEXTS: &[(&str, Refusal)] = &[
     ("(task 9 0\n(fun\n(leaf s 9 8)", (2, 3)),
     ("(task 9 0\n(fun\n(leaf s 9 8)\n", (5, 3)),
     ("(task 9 0\n(fun\n(leaf s 8 9)\n", (2, 4)),
+    ("(task 9 0\n(fun\n(leaf p 0 9)", (2, 3)),
+    ("(task 9 0\n(fun\n(leaf p 0 9)\n", (19, 3)),
+    ("(task 9 0\n(fun\n(leaf s 0 9)\n", (2, 4)),
     ("(task 9 0\r\n(fun\r\n)\r\n)\r\n", (2, 1)),
     (" (task 9 0\n", (2, 1)),
 ];
@@ -253,6 +256,9 @@ const TASK_LINES: &[(&str, Option<u32>)] = &[
     ("(task 9 4294967296", Some(3)),
 ];
 
+/// What follows the line of an if with empty parts.
+const PARTS: &str = "(then\n)\n(else\n)\n)";
+
 /// Forms on line 6, in function 1: each with what follows it and the number of its refusal, if it has one.
 const FORM_LINES: &[(&str, &str, Option<u32>)] = &[
     ("(leaf s 1048576 1048576)", "", None),
@@ -264,6 +270,10 @@ const FORM_LINES: &[(&str, &str, Option<u32>)] = &[
     ("(leaf s 5 5)", "", None),
     ("(leaf s 6 5)", "", Some(5)),
     ("(leaf p 1 0)", "", Some(5)),
+    ("(leaf p 1 1)", "", None),
+    ("(leaf p 0 0)", "", Some(19)),
+    ("(leaf p 0 7)", "", Some(19)),
+    ("(leaf s 0 7)", "", None),
     ("(call s 0 0 1048576)", "", None),
     ("(call s 0 0 1048577)", "", Some(3)),
     ("(call s 16 0 0)", "", Some(3)),
@@ -276,6 +286,11 @@ const FORM_LINES: &[(&str, &str, Option<u32>)] = &[
     ("(call s 0 3 2)", "", Some(5)),
     ("(call s 4294967296 0 0)", "", Some(3)),
     ("(call s 18446744073709551616 0 0)", "", Some(3)),
+    ("(call p 0 1 1)", "", None),
+    ("(call p 0 0 0)", "", Some(19)),
+    ("(call p 0 0 7)", "", Some(19)),
+    ("(call s 0 0 0)", "", None),
+    ("(call s 0 0 7)", "", None),
     ("(loop s 1 0 0", ")", None),
     ("(loop s 65535 1 1", ")", None),
     ("(loop s 65536 0 0", ")", Some(3)),
@@ -284,9 +299,18 @@ const FORM_LINES: &[(&str, &str, Option<u32>)] = &[
     ("(loop s 1 1 0", ")", Some(5)),
     ("(loop s 1 1048577 1048577", ")", Some(3)),
     ("(loop s 1 0 1048577", ")", Some(3)),
-    ("(if s 1048577 1048577", "(then\n)\n(else\n)\n)", Some(3)),
-    ("(if s 1048576 1048576", "(then\n)\n(else\n)\n)", None),
-    ("(if s 2 1", "(then\n)\n(else\n)\n)", Some(5)),
+    ("(loop p 1 1 1", ")", None),
+    ("(loop p 1 0 0", ")", Some(19)),
+    ("(loop p 65535 0 7", ")", Some(19)),
+    ("(loop s 65535 0 7", ")", None),
+    ("(if s 1048577 1048577", PARTS, Some(3)),
+    ("(if s 1048576 1048576", PARTS, None),
+    ("(if s 2 1", PARTS, Some(5)),
+    ("(if p 1 1", PARTS, None),
+    ("(if p 0 0", PARTS, Some(19)),
+    ("(if p 0 7", PARTS, Some(19)),
+    ("(if s 0 0", PARTS, None),
+    ("(if s 0 7", PARTS, None),
 ];
 
 pub fn ranges(cases: &mut Cases) {
@@ -311,6 +335,10 @@ const WRONG_TWICE: &[(&[&str], Refusal)] = &[
     (&["(leaf s 0 1048577)", "(leaf s 2 1)"], (3, 3)),
     (&["(call s 0 0 0)", "("], (6, 3)),
     (&["(leaf s 0 0)", "(leaf s 2 1)", "(call s 16 0 0)"], (5, 4)),
+    (&["(leaf p 0 0)", "x"], (19, 3)),
+    (&["(leaf p 0 1)", "(leaf s 2 1)"], (19, 3)),
+    (&["(leaf s 2 1)", "(leaf p 0 1)"], (5, 3)),
+    (&["(leaf s 0 1)", "(loop p 1 0 1", "(loop p 0 1 1"], (19, 4)),
 ];
 
 pub fn first_refusals(cases: &mut Cases) {

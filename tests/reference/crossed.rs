@@ -1,7 +1,9 @@
 //! Lines that break several rules at once, in every surrounding that can add
-//! one more. The first of the broken rules, 2 to 7, is the one to be named.
+//! one more. The first of the broken rules, in the order of a line, is the one to be
+//! named.
 
 use super::aimed::{task, words, Case};
+use super::plan::LINE_RULES;
 
 /// A line, what follows it if it opens a bracket, and the rules it breaks by
 /// itself in function 1, where only function 0 can be called.
@@ -12,15 +14,21 @@ struct Tried {
     calls: bool,
 }
 
-/// Fields C and M and what they break.
-const COSTS: &[(&str, &[u32])] = &[
-    ("0 0", &[]),
-    ("1048576 1048576", &[]),
-    ("2 1", &[5]),
-    ("0 1048577", &[3]),
-    ("1048577 1048576", &[3, 5]),
-    ("0 00", &[2]),
-    ("01048577 0", &[2, 3, 5]),
+/// Field K, fields C and M, and what they break.
+const COSTS: &[(&str, &str, &[u32])] = &[
+    ("s", "0 0", &[]),
+    ("s", "0 1048576", &[]),
+    ("s", "1048576 1048576", &[]),
+    ("s", "2 1", &[5]),
+    ("s", "0 1048577", &[3]),
+    ("s", "1048577 1048576", &[3, 5]),
+    ("s", "0 00", &[2]),
+    ("s", "01048577 0", &[2, 3, 5]),
+    ("p", "0 0", &[19]),
+    ("p", "0 1048576", &[19]),
+    ("p", "0 1048577", &[3, 19]),
+    ("p", "0 00", &[2, 19]),
+    ("p", "1 0", &[5]),
 ];
 
 const TARGETS: &[(&str, &[u32])] = &[
@@ -51,16 +59,16 @@ fn tried_lines() -> Vec<Tried> {
             calls,
         });
     };
-    for &(costs, by_costs) in COSTS {
-        add(format!("(leaf s {costs})"), "", [by_costs, &[]], false);
+    for &(k, costs, by_costs) in COSTS {
+        add(format!("(leaf {k} {costs})"), "", [by_costs, &[]], false);
         let parts = "(then\n)\n(else\n)\n)";
-        add(format!("(if s {costs}"), parts, [by_costs, &[]], false);
+        add(format!("(if {k} {costs}"), parts, [by_costs, &[]], false);
         for &(target, by_target) in TARGETS {
-            let line = format!("(call s {target} {costs})");
+            let line = format!("(call {k} {target} {costs})");
             add(line, "", [by_costs, by_target], true);
         }
         for &(bound, by_bound) in BOUNDS {
-            let line = format!("(loop s {bound} {costs}");
+            let line = format!("(loop {k} {bound} {costs}");
             add(line, ")", [by_costs, by_bound], false);
         }
     }
@@ -93,7 +101,7 @@ fn surrounded(tried: &Tried, before: usize, loops: usize, ifs: usize, row: usize
     }
     main.extend(vec![")\n(else\n)\n)".to_string(); ifs]);
     main.extend(vec![")".to_string(); loops]);
-    let refusal = match breaks.into_iter().min() {
+    let refusal = match LINE_RULES.into_iter().find(|rule| breaks.contains(rule)) {
         Some(number) => Some((number, line)),
         // An if that takes the last bracket leaves none for its parts.
         None if brackets == 63 && tried.rest.starts_with("(then") => Some((7, line + 1)),

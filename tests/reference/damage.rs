@@ -1,6 +1,7 @@
 //! Texts with something wrong in them, or changed and perhaps still right.
 
 use super::gen::Random;
+use super::lines::shape;
 
 /// Numbers at and around every range edge, and forms that are no numbers.
 const EDGES: [&str; 45] = [
@@ -115,7 +116,7 @@ fn change_bytes(random: &mut Random, text: &mut Vec<u8>) {
 }
 
 /// Lines that are put where they may not stand.
-const STRAY_LINES: [&[u8]; 17] = [
+const STRAY_LINES: [&[u8]; 22] = [
     b"\n",
     b")\n",
     b"(fun\n",
@@ -132,6 +133,11 @@ const STRAY_LINES: [&[u8]; 17] = [
     b"(call s 0 0 0)\n",
     b"(call s 15 1 0)\n",
     b"(call s 16 0 0)\n",
+    b"(leaf p 0 0)\n",
+    b"(call p 15 0 0)\n",
+    b"(loop p 1 0 1\n",
+    b"(loop p 0 0 0\n",
+    b"(if p 0 1\n",
     b" \n",
 ];
 
@@ -193,6 +199,61 @@ fn change_fields(random: &mut Random, text: &mut Vec<u8>) {
     *text = all.concat();
 }
 
+/// A line with one of its fields, counted from 0, set to another.
+fn with_field(line: &[u8], at: usize, field: &[u8]) -> Vec<u8> {
+    let mut fields: Vec<&[u8]> = line.split(|&byte| byte == b' ').collect();
+    fields[at] = field;
+    fields.join(&b' ')
+}
+
+/// A leaf's line as that of a point that costs nothing: of a point C is set to 0, of a
+/// silent leaf that costs nothing K to p. None where it is another line.
+fn costless(line: &[u8]) -> Option<Vec<u8>> {
+    let (point, isolated, _) = shape(line.strip_suffix(b"\n")?)?.leaf()?;
+    let last = line.split(|&byte| byte == b' ').count() - 1;
+    match (point, isolated) {
+        (true, _) => Some(with_field(line, last - 1, b"0")),
+        (false, 0) => Some(with_field(line, 1, b"p")),
+        (false, _) => None,
+    }
+}
+
+/// The lines that can be made those of points that cost nothing: where each stands,
+/// counted from 0, and what it is made.
+fn costless_lines(all: &[Vec<u8>]) -> Vec<(usize, Vec<u8>)> {
+    let changed = all.iter().map(|line| costless(line)).enumerate();
+    changed.filter_map(|(at, line)| Some((at, line?))).collect()
+}
+
+fn change_costs(random: &mut Random, text: &mut Vec<u8>) {
+    let mut all = lines(text);
+    let mut changed = costless_lines(&all);
+    if !changed.is_empty() {
+        let (at, line) = changed.swap_remove(random.index(changed.len()));
+        all[at] = line;
+        *text = all.concat();
+    }
+}
+
+/// Every leaf that can be made a point that costs nothing made one, one at a time, with
+/// the number of its line.
+pub fn every_point_costless(text: &[u8]) -> Vec<(usize, Vec<u8>)> {
+    let all = lines(text);
+    let with = |(at, line): (usize, Vec<u8>)| {
+        let mut changed = all.clone();
+        changed[at] = line;
+        (at + 1, changed.concat())
+    };
+    costless_lines(&all).into_iter().map(with).collect()
+}
+
+/// The text with the leaf on this line silent.
+pub fn silenced(text: &[u8], line: usize) -> Vec<u8> {
+    let mut all = lines(text);
+    all[line - 1] = with_field(&all[line - 1], 1, b"s");
+    all.concat()
+}
+
 /// Changes of the text's ends.
 fn change_ends(random: &mut Random, text: &mut Vec<u8>) {
     match random.below(5) {
@@ -222,11 +283,12 @@ pub fn damaged(random: &mut Random, text: &[u8]) -> Vec<u8> {
         if text.is_empty() {
             break;
         }
-        match random.below(10) {
+        match random.below(11) {
             0..=2 => change_bytes(random, &mut text),
             3 | 4 => change_lines(random, &mut text),
             5 | 6 => change_number(random, &mut text),
             7 | 8 => change_fields(random, &mut text),
+            9 => change_costs(random, &mut text),
             _ => change_ends(random, &mut text),
         }
     }

@@ -51,12 +51,22 @@ fn level_costs(forms: &mut [Form]) {
     }
 }
 
-/// The main function as it is, in the dearer part of an if, or called by another.
-fn wrapped(random: &mut Random, mut plan: Plan) -> Plan {
+/// What is done with a main function that has its sum.
+#[derive(Clone, Copy, PartialEq, Eq)]
+enum Wrap {
+    /// It stays as it is.
+    Bare,
+    /// It becomes a part of an if, the dearer one.
+    Part,
+    /// Another calls it, by a point that costs 1.
+    Called,
+}
+
+fn wrapped(random: &mut Random, mut plan: Plan, wrap: Wrap) -> Plan {
     let main = plan.main();
-    match random.below(3) {
-        0 => {}
-        1 => {
+    match wrap {
+        Wrap::Bare => {}
+        Wrap::Part => {
             let forms = std::mem::take(&mut plan.functions[main]);
             let cheap = vec![silent(0, 1, Kind::Leaf)];
             let parts = match random.chance(50) {
@@ -65,8 +75,8 @@ fn wrapped(random: &mut Random, mut plan: Plan) -> Plan {
             };
             plan.functions[main].push(silent(0, 0, parts));
         }
-        _ => {
-            let mut call = silent(0, 0, Kind::Call(main));
+        Wrap::Called => {
+            let mut call = silent(1, 1, Kind::Call(main));
             call.point = true;
             plan.functions.push(vec![call]);
         }
@@ -92,7 +102,9 @@ pub fn topped(random: &mut Random, plan: &Plan) -> Vec<(&'static str, Plan, Opti
             (MOST_TOTAL, None),
             (MOST_TOTAL + 1, LONG),
         ] {
-            let Some(sum) = target.checked_sub(total) else {
+            let wrap = random.pick(&[Wrap::Bare, Wrap::Part, Wrap::Called]);
+            let own = u64::from(wrap == Wrap::Called);
+            let Some(sum) = target.checked_sub(total + own) else {
                 continue;
             };
             let mut plan = base.clone();
@@ -103,7 +115,7 @@ pub fn topped(random: &mut Random, plan: &Plan) -> Vec<(&'static str, Plan, Opti
                 true => "a plan with both totals at 2^40",
                 false => "a plan with its max-load total at 2^40",
             };
-            all.push((name, wrapped(random, plan), refusal));
+            all.push((name, wrapped(random, plan, wrap), refusal));
         }
     }
     all
@@ -160,7 +172,7 @@ type Case = (&'static str, Vec<Vec<String>>, Option<Refusal>);
 /// Plans of most leaves, brackets, levels and functions.
 fn of_leaves() -> Vec<Case> {
     let silent = vec![many("(leaf s 1023 2047)", 512)];
-    let points = vec![many("(leaf p 0 1048576)", 512)];
+    let points = vec![many("(leaf p 1 1048576)", 512)];
     let mixed = vec![nest(&["(leaf p 1 2)", "(leaf s 3 5)"], 256, &[], &[])];
     let (quiet, loud) = (["(loop s 9 2 3", ")"], ["(loop p 7 1 4", ")"]);
     let loops = vec![nest(&quiet, 256, &[], &loud)];
@@ -201,29 +213,34 @@ fn rounds(opens: &[&str], leaf: &str) -> Vec<Vec<String>> {
 
 /// Plans of most rounds, and totals at 2^40 by loops and calls.
 fn of_rounds() -> Vec<Case> {
-    let costless = ["(loop s 65535 0 0"; 31];
-    let reported = ["(loop p 65535 0 0"; 31];
-    let mut dear = costless;
+    let free = ["(loop s 65535 0 0"; 31];
+    let mut dear = free;
     dear[0] = "(loop p 65535 16 1024";
+    let reported = ["(loop p 65535 1 1"; 3];
     let two = &reported[..2];
-    let quiet = rounds(&costless, "(leaf s 0 0)");
-    let loud = rounds(&reported, "(leaf p 0 0)");
+    let quiet = rounds(&free, "(leaf s 0 0)");
     let dear = rounds(&dear, "(leaf s 0 0)");
-    let over = rounds(&costless, "(leaf s 0 1)");
-    let near = rounds(two, "(leaf s 1 256)");
-    let past = rounds(two, "(leaf s 1 257)");
+    let over = rounds(&free, "(leaf s 0 1)");
+    let loud = rounds(&["(loop p 2 1 1"; 31], "(leaf p 1 1)");
+    let near = rounds(two, "(leaf s 1 255)");
+    let past = rounds(two, "(leaf s 1 256)");
+    let three = rounds(&reported, "(leaf s 0 0)");
+    let costless = rounds(&["(loop p 65535 0 0"; 31], "(leaf p 0 0)");
     vec![
-        ("31 costless loops of most rounds", quiet, None),
-        ("31 reported loops of most rounds", loud, None),
+        ("31 free loops of most rounds", quiet, None),
         // 16 + 65,535 * 16 = 2^20 alone, 2^26 under load.
         ("a dear loop around 30 others", dear, None),
         ("31 loops of most rounds, cost 1", over, LONG),
-        // 65,535^2 * 256 is 33,554,176 below 2^40, and 65,535^2 is more than that.
+        // 2^33 - 3: the leaf takes 1, each loop 3 more than twice what is inside.
+        ("31 reported loops of two rounds", loud, None),
+        // 1 + 2 * 65,535 + 65,535^2 * 256 is 33,423,105 below 2^40, less than 65,535^2.
         ("65,535^2 * 256", near, None),
         ("65,535^2 * 257", past, LONG),
+        ("three reported loops of most rounds", three, LONG),
+        ("31 loops that cost nothing", costless, Some((19, 3))),
         // 32 * 2^20 * 2^15 = 2^40.
-        ("2^40 by calls", doubled("(leaf p 0 0)"), None),
-        ("2^40 + 1 by calls", doubled("(leaf p 0 1)"), LONG),
+        ("2^40 by calls", doubled("(leaf s 0 0)"), None),
+        ("2^40 + 1 by calls", doubled("(leaf s 0 1)"), LONG),
         (
             "2^40 + 1 by calls, alone too",
             doubled("(leaf p 1 1)"),

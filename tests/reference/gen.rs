@@ -107,9 +107,22 @@ pub fn large_shape(random: &mut Random) -> Shape {
     }
 }
 
+/// How often, in a hundred, a plan that may break rules has points that cost nothing.
+const COSTLESS: u64 = 20;
+
+/// Rule 19 kept: a point that costs nothing gets the cost 1.
+fn price(form: &mut Form) {
+    if form.point && form.isolated == 0 {
+        form.isolated = 1;
+        form.loaded = form.loaded.max(1);
+    }
+}
+
 struct Builder<'a> {
     random: &'a mut Random,
     shape: Shape,
+    /// Whether points may cost nothing.
+    costless: bool,
 }
 
 impl Builder<'_> {
@@ -132,13 +145,17 @@ impl Builder<'_> {
     fn form(&mut self, kind: Kind) -> Form {
         let (isolated, loaded) = self.costs();
         let point = self.random.chance(self.shape.points);
-        Form {
+        let mut form = Form {
             leaf: 0,
             point,
             isolated,
             loaded,
             kind,
+        };
+        if !self.costless {
+            price(&mut form);
         }
+        form
     }
 
     fn forms(
@@ -178,8 +195,9 @@ impl Builder<'_> {
     }
 }
 
-/// A plan by the grammar that may break rules 7 to 10.
+/// A plan by the grammar that may break rules 7 to 10 and 19.
 pub fn loose_plan(random: &mut Random, shape: Shape) -> Plan {
+    let costless = random.chance(COSTLESS);
     let mut functions = Vec::new();
     let share = shape.leaves / shape.functions + 1;
     let mut left = shape.leaves;
@@ -187,6 +205,7 @@ pub fn loose_plan(random: &mut Random, shape: Shape) -> Plan {
         let mut builder = Builder {
             random: &mut *random,
             shape,
+            costless,
         };
         let mut budget = share.min(left);
         let before = budget;
@@ -223,7 +242,8 @@ fn call_all(random: &mut Random, plan: &mut Plan, cost: u64) {
     plan.renumber();
 }
 
-/// Rule 8 kept: silent loops and calls with a point inside become points.
+/// Rules 8 and 19 kept: silent loops and calls with a point inside become points, and
+/// every point costs something.
 fn show_points(plan: &mut Plan) {
     fn show(called: &[bool], forms: &mut [Form]) {
         for form in forms {
@@ -232,11 +252,12 @@ fn show_points(plan: &mut Plan) {
                 Kind::If(then_part, else_part) => {
                     show(called, then_part);
                     show(called, else_part);
-                    continue;
                 }
                 Kind::Leaf | Kind::Call(_) => {}
             }
-            form.point |= rules::point_inside(called, form);
+            let looked_at = !matches!(form.kind, Kind::If(..));
+            form.point |= looked_at && rules::point_inside(called, form);
+            price(form);
         }
     }
     for function in 0..plan.functions.len() {
@@ -404,7 +425,8 @@ fn deep_function(random: &mut Random, function: usize) -> Vec<String> {
 }
 
 /// A text of one to four functions that nest near the caps on brackets and
-/// levels, with calls that add what they call; it may pass either cap.
+/// levels, with calls that add what they call; it may pass either cap, and sometimes
+/// has a point, which costs nothing.
 pub fn deep_text(random: &mut Random) -> Vec<u8> {
     let functions = 1 + random.index(4);
     let mut lines = vec!["(task 1000 1".to_string()];
@@ -412,6 +434,10 @@ pub fn deep_text(random: &mut Random) -> Vec<u8> {
         lines.extend(deep_function(random, function));
     }
     lines.push(")".to_string());
+    if random.chance(COSTLESS) {
+        let at = random.index(lines.len());
+        lines[at] = lines[at].replacen(" s ", " p ", 1);
+    }
     lines
         .iter()
         .flat_map(|line| format!("{line}\n").into_bytes())

@@ -13,6 +13,17 @@ pub enum Line {
     Close,
 }
 
+impl Line {
+    /// Of a line that is a leaf: whether it is a point, C and M.
+    pub fn leaf(&self) -> Option<(bool, u64, u64)> {
+        match *self {
+            Line::Leaf(k, c, m) | Line::If(k, c, m) => Some((k, c, m)),
+            Line::Call(k, _, c, m) | Line::Loop(k, _, c, m) => Some((k, c, m)),
+            Line::Task(..) | Line::Fun | Line::Then | Line::Else | Line::Close => None,
+        }
+    }
+}
+
 /// A number without a leading zero; one too large for 64 bits stands at the
 /// largest, which is outside every range.
 fn number(field: &[u8]) -> Option<u64> {

@@ -1,4 +1,4 @@
-//! The plan tree, its reader (refusals 1 to 10) and its printer.
+//! The plan tree, its reader (refusals 1 to 10 and 19) and its printer.
 
 use super::lines::{shape, Line};
 use super::rules;
@@ -15,6 +15,9 @@ pub const MOST_TARGET: u64 = 15;
 
 /// A refusal: its number and the line it is on (0 where none is named).
 pub type Refusal = (u32, usize);
+
+/// The rules that one line can break, in the order in which they are named there.
+pub const LINE_RULES: [u32; 7] = [2, 3, 4, 5, 19, 6, 7];
 
 #[derive(Clone, Debug, PartialEq, Eq)]
 pub enum Kind {
@@ -68,6 +71,28 @@ impl Plan {
         all
     }
 
+    /// Changes the leaf with this number.
+    pub fn change(&mut self, leaf: usize, by: impl Fn(&mut Form)) {
+        fn change(forms: &mut [Form], leaf: usize, by: &dyn Fn(&mut Form)) {
+            for form in forms {
+                match &mut form.kind {
+                    Kind::Leaf | Kind::Call(_) => {}
+                    Kind::Loop(_, body) => change(body, leaf, by),
+                    Kind::If(then_part, else_part) => {
+                        change(then_part, leaf, by);
+                        change(else_part, leaf, by);
+                    }
+                }
+                if form.leaf == leaf {
+                    by(form);
+                }
+            }
+        }
+        for forms in &mut self.functions {
+            change(forms, leaf, &by);
+        }
+    }
+
     /// Numbers the leaves anew in text order, for plans built or changed in memory.
     pub fn renumber(&mut self) {
         fn number(forms: &mut [Form], next: &mut usize) {
@@ -99,6 +124,18 @@ enum Open {
     If(Form, Vec<Vec<Form>>),
     Then(Vec<Form>),
     Else(Vec<Form>),
+}
+
+/// Refusal 3: whether every number of the line is within its range.
+fn in_range(line: &Line) -> bool {
+    let costs = |c: u64, m: u64| c <= MOST_COST && m <= MOST_COST;
+    match *line {
+        Line::Task(d, t) => (1..=MOST_DEADLINE).contains(&d) && t <= MOST_COST,
+        Line::Leaf(_, c, m) | Line::If(_, c, m) => costs(c, m),
+        Line::Call(_, f, c, m) => f <= MOST_TARGET && costs(c, m),
+        Line::Loop(_, b, c, m) => (1..=MOST_BOUND).contains(&b) && costs(c, m),
+        Line::Fun | Line::Then | Line::Else | Line::Close => true,
+    }
 }
 
 struct Reader {
@@ -137,33 +174,24 @@ impl Reader {
         }
     }
 
-    /// Refusals 3 to 7 on a line that fits, in this order.
+    /// Refusals 3, 4, 5, 19, 6 and 7 on a line that fits, in this order.
     fn judge(&self, line: &Line) -> Result<(), u32> {
-        let costs = |c: u64, m: u64| c <= MOST_COST && m <= MOST_COST;
-        let in_range = match *line {
-            Line::Task(d, t) => (1..=MOST_DEADLINE).contains(&d) && t <= MOST_COST,
-            Line::Leaf(_, c, m) | Line::If(_, c, m) => costs(c, m),
-            Line::Call(_, f, c, m) => f <= MOST_TARGET && costs(c, m),
-            Line::Loop(_, b, c, m) => (1..=MOST_BOUND).contains(&b) && costs(c, m),
-            Line::Fun | Line::Then | Line::Else | Line::Close => true,
-        };
-        if !in_range {
+        if !in_range(line) {
             return Err(3);
         }
         let own = self.plan.functions.len();
-        let leaf_costs = match *line {
-            Line::Leaf(_, c, m) | Line::If(_, c, m) => Some((c, m)),
-            Line::Call(_, _, c, m) | Line::Loop(_, _, c, m) => Some((c, m)),
-            _ => None,
-        };
-        if leaf_costs.is_some() && self.leaves == self.room {
+        let leaf = line.leaf();
+        if leaf.is_some() && self.leaves == self.room {
             return Err(4);
         }
         if matches!(line, Line::Fun) && own == MOST_FUNCTIONS {
             return Err(4);
         }
-        if leaf_costs.is_some_and(|(c, m)| m < c) {
+        if leaf.is_some_and(|(_, c, m)| m < c) {
             return Err(5);
+        }
+        if leaf.is_some_and(|(point, c, _)| point && c == 0) {
+            return Err(19);
         }
         if matches!(*line, Line::Call(_, f, _, _) if f >= own as u64) {
             return Err(6);
@@ -172,7 +200,7 @@ impl Reader {
         if opens && self.open.len() == MOST_BRACKETS {
             return Err(7);
         }
-        if leaf_costs.is_some() && self.reach(line) > MOST_LEVEL {
+        if leaf.is_some() && self.reach(line) > MOST_LEVEL {
             return Err(7);
         }
         Ok(())
@@ -207,10 +235,7 @@ impl Reader {
     /// leaves before.
     fn count(&mut self, line: &Line) -> usize {
         let before = self.leaves;
-        if matches!(
-            line,
-            Line::Leaf(..) | Line::Call(..) | Line::Loop(..) | Line::If(..)
-        ) {
+        if line.leaf().is_some() {
             self.height = self.height.max(self.reach(line));
             self.leaves += 1;
         }
@@ -284,7 +309,7 @@ impl Reader {
     }
 }
 
-/// Refusals 1 to 7. `row` is the number of records lent.
+/// Refusals 1 to 7 and 19. `row` is the number of records lent.
 pub fn read_lines(text: &[u8], row: usize) -> Result<Plan, Refusal> {
     if text.len() > MOST_BYTES {
         return Err((1, 0));
@@ -319,7 +344,7 @@ pub fn read_lines(text: &[u8], row: usize) -> Result<Plan, Refusal> {
     Ok(reader.plan)
 }
 
-/// Refusals 1 to 10.
+/// Refusals 1 to 10 and 19.
 pub fn read(text: &[u8], row: usize) -> Result<Plan, Refusal> {
     let plan = read_lines(text, row)?;
     rules::judge(&plan).map_err(|number| (number, 0))?;

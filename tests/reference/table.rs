@@ -122,7 +122,7 @@ pub fn table<N: Numbers>(numbers: &N) -> Table {
 }
 
 /// The table of a plan whose costs are all 0: so is every derived number.
-pub fn costless(plan: &Plan) -> Table {
+pub fn free(plan: &Plan) -> Table {
     Table {
         row: records::row(plan),
         head: head(plan, [0; 3], Vec::new()),

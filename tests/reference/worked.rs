@@ -14,7 +14,7 @@ pub const EMPTY: &str = "(task 1 0\n(fun\n)\n)\n";
 
 /// Two calls of a function that is a loop of one round.
 pub const TWICE: &str =
-    "(task 99 0\n(fun\n(loop p 1 1 1\n)\n)\n(fun\n(call p 0 0 0)\n(call p 0 0 0)\n)\n)\n";
+    "(task 99 0\n(fun\n(loop p 1 1 1\n)\n)\n(fun\n(call p 0 1 1)\n(call p 0 1 1)\n)\n)\n";
 
 /// The smallest plan with this deadline.
 macro_rules! smallest {
@@ -213,12 +213,12 @@ const ON_SMALL_PLANS: &[Case] = &[
         name: "loop visits start anew with each call of a function",
         plan: TWICE,
         calls: &[
-            "release -> go 4 95 0",
-            "report 1 0 -> go 4 95 0",
+            "release -> go 6 93 0",
+            "report 1 0 -> go 6 92 0",
+            "report 0 0 -> go 5 93 0",
             "report 0 0 -> go 4 94 0",
-            "report 0 0 -> go 3 95 0",
             "report 0 0 -> refused 17",
-            "report 2 0 -> go 2 97 0",
+            "report 2 0 -> go 3 95 0",
             "report 0 0 -> go 2 96 0",
             "report 0 0 -> go 1 97 0",
             "report 0 0 -> refused 17",

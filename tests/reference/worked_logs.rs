@@ -162,6 +162,19 @@ const ENDS: &[Case] = &[
         printed: "refused 5 3\n",
     },
     Case {
+        name: "a plan with a point that costs nothing",
+        plan: "(task 100 4\n(fun\n(leaf s 0 5)\n(loop p 3 0 4\n)\n)\n)\n",
+        log: "release\nend 0\n",
+        printed: "refused 19 4\n",
+    },
+    // Alone it takes nothing, under load 5 + 4 + 3 * 4 up to its end; 100 - 21 - 4 = 75.
+    Case {
+        name: "the same plan with a silent leaf that costs nothing",
+        plan: "(task 100 4\n(fun\n(leaf s 0 5)\n(loop s 3 0 4\n)\n)\n)\n",
+        log: "release\npoint 1 0\nend 9\n",
+        printed: "go 0 75 0\nrefused 15\nended 0\n9 0 9\n",
+    },
+    Case {
         name: "an empty plan",
         plan: "",
         log: "release\nend 0\n",

@@ -1,7 +1,6 @@
 //! Words and files: wrong counts of words, files that are missing or directories,
 //! odd names, and plans that are refused, for which no log is opened.
 
-use std::collections::BTreeSet;
 use std::ffi::{c_char, CString, OsStr, OsString};
 use std::io;
 use std::os::unix::ffi::{OsStrExt, OsStringExt};
@@ -11,6 +10,7 @@ use reference::aimed;
 use reference::numbers::printed as listing;
 use reference::plan::{self, MOST_BYTES, MOST_LEAVES};
 use reference::program::{run, run_on};
+use reference::rulings::{Rulings, ALL_RULINGS};
 use reference::worked::PLAN_A;
 
 use super::replays::{Replays, Wanted};
@@ -165,18 +165,17 @@ fn refused_plans(replays: &mut Replays) {
 
 /// Plans at every rule's edge, refused and accepted.
 fn aimed_plans(replays: &mut Replays) {
-    let mut met = BTreeSet::new();
+    let mut rulings = Rulings::default();
     for case in aimed::cases() {
         if case.row == MOST_LEAVES {
-            let refusal = plan::read(&case.text, MOST_LEAVES).err();
-            met.insert(refusal.map_or(0, |refusal| refusal.0));
+            rulings.note(plan::read(&case.text, MOST_LEAVES).err());
             replays.log(&case.name, &case.text, b"release\n");
         }
     }
-    let all = met.into_iter().eq(0..=10);
+    let met = rulings.met(&ALL_RULINGS, 1);
     replays
         .count
-        .holds(all, "plans are accepted, and refused by 1 to 10");
+        .holds(met, "plans are accepted, and refused by each rule");
 }
 
 /// Plans of 65,536 bytes and around.

@@ -7,9 +7,11 @@ use lent::law;
 use lent::state::{State, LEVELS};
 use lent::tally::Tally;
 use reference::composed::Composed;
+use reference::costless::{self, Costless};
 use reference::edges;
 use reference::gen::{self, Random};
 use reference::plan::{self, Plan, MOST_LEAVES};
+use reference::rulings::Rulings;
 use reference::table::{self, Finding, Table, COLUMNS, FUNCTIONS, LEAVES, PARTS, TOTAL};
 
 use super::broken;
@@ -191,16 +193,31 @@ pub fn rows_and_counts(tally: &mut Tally) {
 /// Plans that break one rule, with numbers that are right but for that.
 pub fn broken_rules(tally: &mut Tally) {
     let mut random = Random::new(76);
-    let mut broken = [0; 11];
+    let mut broken = Rulings::default();
     for table in broken::tables(&mut random) {
         let finding = judge(tally, "a plan that may break a rule", &table);
         if let Finding::Refused(number) = finding {
-            broken[number as usize] += 1;
+            broken.note(Some((number, 0)));
         }
     }
-    println!("  tables bad for one rule alone: {:?}", &broken[3..]);
-    let met = (3..=10).all(|number| broken[number] > 0);
+    println!("  tables bad for one rule alone: {broken}");
+    let met = broken.met(&[3, 4, 5, 6, 7, 8, 9, 10, 19], 1);
     tally.holds(met, || {
-        "each of the rules 3 to 10 alone makes a table bad".to_string()
+        "each of the rules 3 to 10 and 19 alone makes a table bad".to_string()
     });
+}
+
+/// Plans with a point that costs nothing, in every kind of leaf: no call takes their
+/// tables, which are right but for that. With the leaf silent, each takes them.
+pub fn costless_points(tally: &mut Tally) {
+    let mut random = Random::new(78);
+    for Costless { plan, silent, .. } in costless::plans(&mut random, 300) {
+        let finding = judge(tally, "a point that costs nothing", &of_plan(&plan));
+        tally.holds(finding == Finding::Refused(19), || {
+            format!("{finding:?}: {plan:?}")
+        });
+        if let Some(silent) = silent {
+            judge_good(tally, "a silent leaf that costs nothing", &of_plan(&silent));
+        }
+    }
 }

@@ -13,6 +13,7 @@ const PARTS: &[Part] = &[
     ("mixed tables", checking::mixed_tables),
     ("rows and counts", checking::rows_and_counts),
     ("broken rules", checking::broken_rules),
+    ("costless", checking::costless_points),
     ("met", all_met),
 ];
 

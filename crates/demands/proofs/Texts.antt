@@ -36,7 +36,7 @@ outcome-long capacity text h = rw (lt-leb (length text) 65536 h)
 abbrev Tests : Plan → Bool → Bool → Bool → Outcome
 Tests p seen called short = pick seen (pick called (pick short (plan p) (refused 10 0)) (refused 9 0)) (refused 8 0)
 
--- Behind the lines of a plan that keeps rules 3 to 7 these tests decide.
+-- Behind the lines of a plan that keeps rules 3 to 7 and 19 these tests decide.
 read-outcome : (capacity : ℕ) (text : List ℕ) (p : Plan) → Read capacity text p → verdict capacity text ≡ judged p
 read-outcome capacity text p r = ap (λ o. after-lines o) (reader.accepted capacity text p .1 (r .text-is, r .formed, r .fits))
 
@@ -95,7 +95,7 @@ judged-ruled capacity text p r =
     by true d false h z i = uncalled r (seen-all-exactly [] (p .functions) .0 d) (failed _ (called-exactly (p .functions)) h)
     by false d y h z i = unseen r (failed _ (seen-all-exactly [] (p .functions)) d)
 
--- A refusal by the reader is by 1, of an oversize text, or by one of 2 to 7.
+-- A refusal by the reader is by 1, of an oversize text, or by one of 2 to 7 and 19.
 reader-ruled : (capacity : ℕ) (text : List ℕ) (k j : ℕ) → outcome capacity text ≡ refused k j → Ruled capacity text k j
 reader-ruled capacity text k j e =
     elim (decLe (length text) 65536) [

@@ -67,7 +67,7 @@ refused-call-keeps-state = delivering.refused-keeps
 pub plan-accepted-exactly : (text : List ℕ) (m : Memory) → (read-answer text m ≡ reading.Accepted) ↔ ((p : Plan) × ReadAs text m p)
 plan-accepted-exactly = tables.text-accepted
 
--- It is read as the plan p exactly when it is the one text of p, p keeps the rules 3 to 10, and the lent row holds the leaves of p.
+-- It is read as the plan p exactly when it is the one text of p, p keeps the rules 3 to 10 and 19, and the lent row holds the leaves of p.
 pub read-as-exactly : (text : List ℕ) (m : Memory) (p : Plan) → ReadAs text m p ↔ ((text ≡ print p) × Accepted p × Fits (length (m .row)) p)
 read-as-exactly text m p = table.read-as-plan (length (m .row)) text p
 

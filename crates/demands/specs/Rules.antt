@@ -1,4 +1,4 @@
--- What the rules of document 01 say of a text and of a call ('Calls', the table of refusals and the order below it).
+-- What the rules of document 01, and of 02, L2, say of a text and of a call ('Calls', the table of refusals and the order below it).
 -- Assumes nothing: these are definitions.
 use mathlib.Core.Bool.{true, false}
 use mathlib.Core.List.{List, [], _∷_, _++_}
@@ -23,9 +23,9 @@ use Rattle.control.specs.State.{stack-of}
 use Rattle.control.specs.Meaning.{StandsSomewhere}
 use Rattle.demands.specs.Delivered.{Memory, after-read}
 
--- READING A PLAN: 1; THEN LINE BY LINE, IN A LINE 2 TO 7; THEN 8, 9, 10
+-- READING A PLAN: 1; THEN LINE BY LINE, IN A LINE 2, 3, 4, 5, 19, 6, 7; THEN 8, 9, 10
 
--- The text is that of a plan that keeps rules 3 to 7 and whose leaves the lent row holds.
+-- The text is that of a plan that keeps rules 3 to 7 and 19 and whose leaves the lent row holds.
 pub record Read (capacity : ℕ) (text : List ℕ) (p : Plan) : Type 0 where
   pub text-is : text ≡ print p
   pub formed : Formed p
@@ -35,7 +35,7 @@ pub record Read (capacity : ℕ) (text : List ℕ) (p : Plan) : Type 0 where
 pub data Ruled (capacity : ℕ) (text : List ℕ) : ℕ → ℕ → Type 0 where
   -- 1: it has over 65,536 bytes.
   oversize : 65536 < length text → Ruled capacity text 1 0
-  -- 2 to 7: no line before line j breaks one of them, and k is the first that line j breaks; or the text ends early (2).
+  -- 2 to 7 and 19: no line before line j breaks one of them, and k is the first that line j breaks; or the text ends early (2).
   line-refused : {k j : ℕ} → length text ≤ 65536 → RefusedAt capacity text k j → Ruled capacity text k j
   -- 8: a silent loop or call has a point inside it or in what it calls.
   unseen : {p : Plan} → Read capacity text p → ¬ Seen-all [] (p .functions) → Ruled capacity text 8 0

@@ -253,7 +253,7 @@ module _ {s : List ℕ} {room : ℕ} {hs : List ℕ} {d L at i n : ℕ} {R₀ : 
   pub form-leaf : (k : Bool) (c m : ℕ) {R : List ℕ} → at ≤ length s → i ≤ at → fault room d L n hs (Leaf k c m) ≡ 0 → R ≡ sets R₀ (8 * n) (entry 0 (block n k c m) 0 0 (n + 1) L) →
       FormAt s room hs d L at i n (Leaf k c m) R₀ R (Closed at (i + 1) (n + 1) 1)
   form-leaf k c m a b e f us w =
-      let (x, y, z, u, v) = allowed room d L n hs (Leaf k c m) e in
+      let (x, y, z, u, o, v) = allowed room d L n hs (Leaf k c m) e in
       done-form (record { past = omega arith; within = a; numbered = omega arith; fits = omega arith; low = omega arith })
       (forming-leaf (forming-start n i us) (w .split) k c m (leads-held w) e) (omega arith) f
 
@@ -261,7 +261,7 @@ module _ {s : List ℕ} {room : ℕ} {hs : List ℕ} {d L at i n : ℕ} {R₀ : 
   pub form-call : (k : Bool) (t c m : ℕ) {R : List ℕ} {h : ℕ} → at ≤ length s → i ≤ at → fault room d L n hs (Call k t c m) ≡ 0 → h ≡ 1 + getD hs t 0 →
       R ≡ sets R₀ (8 * n) (entry 1 (block n k c m) t 0 (n + 1) L) → FormAt s room hs d L at i n (Call k t c m) R₀ R (Closed at (i + 1) (n + 1) h)
   form-call k t c m a b e q f us w =
-      let (o, x, y, z, u, r, v) = allowed room d L n hs (Call k t c m) e in
+      let (o, x, y, z, u, p, r, v) = allowed room d L n hs (Call k t c m) e in
       done-form (record { past = omega arith; within = a; numbered = omega arith; fits = omega arith; low = omega arith })
       (forming-call (forming-start n i us) (w .split) k t c m (leads-held w) e) (omega arith) f
 
@@ -270,7 +270,7 @@ module _ {s : List ℕ} {room : ℕ} {hs : List ℕ} {d L at i n : ℕ} {R₀ : 
       FormsDone s room hs (d + 1) (L + 1) at (i + 1) (n + 1) R₀ R e j o h → R′ ≡ sets R (8 * n) (entry 2 (block n k c m) t 0 o L) →
       FormAt s room hs d L at i n (Loop k t c m) R₀ R′ (Closed e j o (1 + h))
   form-loop k t c m {R} {R′} {e} {j} {o} {h} f q g us w =
-      let (o₁, o₂, x, y, z, u, r, v) = allowed room d L n hs (Loop k t c m) f in
+      let (o₁, o₂, x, y, z, u, p, r, v) = allowed room d L n hs (Loop k t c m) f in
       done-form
       (record {
         past = q .came .past;
@@ -328,7 +328,7 @@ module _ {room : ℕ} {hs : List ℕ} {d L i n : ℕ} (k : Bool) (c m : ℕ) (e 
             pub form-if : {z h : ℕ} {R : List ℕ} → Found s y Close z → h ≡ max 1 (max h₁ h₂) → R ≡ sets R₂ (8 * n) (entry 3 (block n k c m) 0 mid end L) →
                 FormAt s room hs d L at i n (If k c m) R₀ R (Closed z (l + 1) end h)
             form-if {z} {h} {R} w₃ t f us w =
-                let (p, q, r, u, v, x) = allowed room d L n hs (If k c m) e in
+                let (p, q, r, u, y, v, x) = allowed room d L n hs (If k c m) e in
                 done-form
                 (record {
                   past = omega (arith, w₁ .past, got₁ .came .past, w₂ .past, got₂ .came .past, w₃ .past);

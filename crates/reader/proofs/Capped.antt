@@ -10,6 +10,7 @@ use Rattle.text.specs.declared.Form.{Form}
 use Rattle.text.specs.declared.Form.the-variants.{Task, Fun, Then, Else, Close, Leaf, Call, Loop, If}
 use Rattle.text.specs.Grammar.{line-form, form, cap-form, Found}
 use Rattle.model.specs.Levels.{heights}
+use Rattle.model.specs.Places.{bit}
 use Rattle.text.specs.Text.{line-at}
 use Rattle.text.specs.Patterns.{capped}
 use Rattle.text.proofs.Theorems.{cap-high, cap-low, cap-same}
@@ -31,10 +32,11 @@ high a b k x y h g =
 
 module _ (room d L n : ℕ) (hs : List ℕ) where
   -- of costs, with what follows
-  costs : (c m : ℕ) (x y : ℕ) → (cap c ≡ c → cap m ≡ m → x ≡ y) →
-      refuse-unless (leb (cap c) (2 ^ 20)) 3 (refuse-unless (leb (cap m) (2 ^ 20)) 3 (refuse-unless (ltb n room) 4 (refuse-unless (leb (cap c) (cap m)) 5 x))) ≡
-      refuse-unless (leb c (2 ^ 20)) 3 (refuse-unless (leb m (2 ^ 20)) 3 (refuse-unless (ltb n room) 4 (refuse-unless (leb c m) 5 y)))
-  costs c m x y h = high c (2 ^ 20) 3 _ _ (omega arith) (λ l e. high m (2 ^ 20) 3 _ _ (omega arith) (λ l′ e′. rw (e, e′, h e e′)))
+  costs : (k : Bool) (c m : ℕ) (x y : ℕ) → (cap c ≡ c → cap m ≡ m → x ≡ y) →
+      refuse-unless (leb (cap c) (2 ^ 20)) 3 (refuse-unless (leb (cap m) (2 ^ 20)) 3 (refuse-unless (ltb n room) 4 (refuse-unless (leb (cap c) (cap m)) 5
+      (refuse-unless (leb (bit k) (cap c)) 19 x)))) ≡
+      refuse-unless (leb c (2 ^ 20)) 3 (refuse-unless (leb m (2 ^ 20)) 3 (refuse-unless (ltb n room) 4 (refuse-unless (leb c m) 5 (refuse-unless (leb (bit k) c) 19 y))))
+  costs k c m x y h = high c (2 ^ 20) 3 _ _ (omega arith) (λ l e. high m (2 ^ 20) 3 _ _ (omega arith) (λ l′ e′. rw (e, e′, h e e′)))
 
   cap-fault : (f : Form) → fault room d L n hs (cap-form f) ≡ fault room d L n hs f
   unfolding fault
@@ -44,10 +46,10 @@ module _ (room d L n : ℕ) (hs : List ℕ) where
   cap-fault Then = refl
   cap-fault Else = refl
   cap-fault Close = refl
-  cap-fault (Leaf k c m) = costs c m _ _ (λ e e′. refl)
-  cap-fault (Call k f c m) = high f 15 3 _ _ (omega arith) (λ l q. costs c m _ _ (λ e e′. rw q))
-  cap-fault (Loop k b c m) = both _ _ 3 _ _ (cap-low (2 ^ 41) b (omega arith)) (λ _. high b 65535 3 _ _ (omega arith) (λ l q. costs c m _ _ (λ e e′. refl)))
-  cap-fault (If k c m) = costs c m _ _ (λ e e′. refl)
+  cap-fault (Leaf k c m) = costs k c m _ _ (λ e e′. refl)
+  cap-fault (Call k f c m) = high f 15 3 _ _ (omega arith) (λ l q. costs k c m _ _ (λ e e′. rw q))
+  cap-fault (Loop k b c m) = both _ _ 3 _ _ (cap-low (2 ^ 41) b (omega arith)) (λ _. high b 65535 3 _ _ (omega arith) (λ l q. costs k c m _ _ (λ e e′. refl)))
+  cap-fault (If k c m) = costs k c m _ _ (λ e e′. refl)
 
 -- where nothing is at fault nothing was held
 uncapped : (room d L n : ℕ) (hs : List ℕ) (f : Form) → Allowed room d L n hs f → cap-form f ≡ f
@@ -56,12 +58,12 @@ uncapped room d L n hs Fun a = refl
 uncapped room d L n hs Then a = refl
 uncapped room d L n hs Else a = refl
 uncapped room d L n hs Close a = refl
-uncapped room d L n hs (Leaf k c m) (p, q, r, s, t) = rw (cap-same (2 ^ 41) c (omega arith), cap-same (2 ^ 41) m (omega arith))
-uncapped room d L n hs (Call k f c m) (o, p, q, r, s, t, u) =
+uncapped room d L n hs (Leaf k c m) (p, q, r, s, z, t) = rw (cap-same (2 ^ 41) c (omega arith), cap-same (2 ^ 41) m (omega arith))
+uncapped room d L n hs (Call k f c m) (o, p, q, r, s, z, t, u) =
     rw (cap-same (2 ^ 41) f (omega arith), cap-same (2 ^ 41) c (omega arith), cap-same (2 ^ 41) m (omega arith))
-uncapped room d L n hs (Loop k b c m) (v, o, p, q, r, s, t, u) =
+uncapped room d L n hs (Loop k b c m) (v, o, p, q, r, s, z, t, u) =
     rw (cap-same (2 ^ 41) b (omega arith), cap-same (2 ^ 41) c (omega arith), cap-same (2 ^ 41) m (omega arith))
-uncapped room d L n hs (If k c m) (p, q, r, s, t, u) = rw (cap-same (2 ^ 41) c (omega arith), cap-same (2 ^ 41) m (omega arith))
+uncapped room d L n hs (If k c m) (p, q, r, s, z, t, u) = rw (cap-same (2 ^ 41) c (omega arith), cap-same (2 ^ 41) m (omega arith))
 
 -- where something is, only that matters: which fault, and whether the form may stand there
 verdict : Next → ℕ → Turn

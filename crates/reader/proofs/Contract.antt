@@ -30,7 +30,7 @@ judge : (room : ℕ) (S : ParserState) (n i : ℕ) {us : List (List ℕ)} {l : L
 unfolding run
 judge room S n i {us} {l} {ks} f z a = ap (run room S n i) z ∙ ap (λ (t : Turn). onwards t i (λ S′ n′. run room S′ n′ (i + 1) ks)) (turn-held room S n l f a)
 
--- A form that may stand there and meets none of the refusals 3 to 7 is taken.
+-- A form that may stand there and meets none of the refusals 3 to 7 and 19 is taken.
 pub taken : (room : ℕ) (S S′ : ParserState) (n i : ℕ) {us : List (List ℕ)} {l : List ℕ} {ks : List (List ℕ)} (f : Form) → us ≡ l ∷ ks → Held l f → next S n f ≡ to S′ →
     fault room (brackets S) (level S) n (heights [] (functions-of S)) f ≡ 0 → run room S n i us ≡ run room S′ (counted n f) (i + 1) ks
 taken room S S′ n i f z a b c = judge room S n i f z a ∙ rw (b, c)

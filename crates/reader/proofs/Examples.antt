@@ -1,4 +1,4 @@
--- Texts worked through: plans A and B (01, 'Plans worked through'), and a text or several for each of the refusals 1 to 7 and for their order.
+-- Texts worked through: plans A and B (01, 'Plans worked through'), and a text or several for each of the refusals 1 to 7 and 19 and for their order.
 use Prim.Native.Nat.{ℕ}
 use mathlib.Core.Path.{_≡_, refl}
 use mathlib.Core.List.{List, [], _∷_, _++_}
@@ -140,6 +140,41 @@ function-17 = refl
 load-below : outcome 512 (bytes "(task 1 0\n(fun\n(leaf p 2 1)\n") ≡ refused 5 3
 unfolding outcome run fault brackets-in brackets level-in level functions-of heights height _⧺_ line-form lines matched item number digits
 load-below = refl
+
+-- 19, costless: a point of each kind, whatever its M.
+costless-leaf : outcome 512 (bytes "(task 1 0\n(fun\n(leaf p 0 1)\n") ≡ refused 19 3
+unfolding outcome run fault brackets-in brackets level-in level functions-of heights height _⧺_ line-form lines matched item number digits
+costless-leaf = refl
+
+costless-call : outcome 512 (bytes "(task 1 0\n(fun\n)\n(fun\n(call p 0 0 0)\n") ≡ refused 19 5
+unfolding outcome run fault brackets-in brackets level-in level functions-of heights height _⧺_ line-form lines matched item number digits
+costless-call = refl
+
+costless-loop : outcome 512 (bytes "(task 1 0\n(fun\n(loop p 1 0 0\n") ≡ refused 19 3
+unfolding outcome run fault brackets-in brackets level-in level functions-of heights height _⧺_ line-form lines matched item number digits
+costless-loop = refl
+
+costless-if : outcome 512 (bytes "(task 1 0\n(fun\n(if p 0 9\n") ≡ refused 19 3
+unfolding outcome run fault brackets-in brackets level-in level functions-of heights height _⧺_ line-form lines matched item number digits
+costless-if = refl
+
+-- Silent leaves of cost 0 pass, and then the text ends early.
+silent-costless : outcome 512 (bytes "(task 1 0\n(fun\n)\n(fun\n(leaf s 0 0)\n(call s 0 0 1)\n(if s 0 0\n(then\n(loop s 1 0 0\n") ≡ refused 2 10
+unfolding outcome run fault brackets-in brackets level-in level functions-of heights height _⧺_ line-form lines matched item number digits
+silent-costless = refl
+
+-- 19 comes behind range and count and before target; a bound of 0 is range.
+range-before-costless : outcome 512 (bytes "(task 1 0\n(fun\n(loop p 0 0 0\n") ≡ refused 3 3
+unfolding outcome run fault brackets-in brackets level-in level functions-of heights height _⧺_ line-form lines matched item number digits
+range-before-costless = refl
+
+count-before-costless : outcome 0 (bytes "(task 1 0\n(fun\n(leaf p 0 0)\n") ≡ refused 4 3
+unfolding outcome run fault brackets-in brackets level-in level functions-of heights height _⧺_ line-form lines matched item number digits
+count-before-costless = refl
+
+costless-before-target : outcome 512 (bytes "(task 1 0\n(fun\n(call p 0 0 1)\n") ≡ refused 19 3
+unfolding outcome run fault brackets-in brackets level-in level functions-of heights height _⧺_ line-form lines matched item number digits
+costless-before-target = refl
 
 -- 6, target; load comes before it.
 calls-itself : outcome 512 (bytes "(task 1 0\n(fun\n(call p 0 1 1)\n") ≡ refused 6 3

@@ -1,4 +1,4 @@
--- The refusals 3 to 7 of a leaf, test by test as the code makes them.
+-- The refusals 3 to 7 and 19 of a leaf, test by test as the code makes them.
 use Prim.Native.Nat.{ℕ, zero, suc, _+_, _-_, _≤_, _<_, _^_}
 use mathlib.Core.Path.{_≡_, refl, ap, ap₂, _∙_}
 use mathlib.Core.List.{List, [], _∷_}
@@ -12,6 +12,7 @@ use denote.Enum.Declared.{tagOf}
 use Rattle.text.specs.declared.Form.{Form}
 use Rattle.text.specs.declared.Form.the-variants.{Task, Fun, Then, Else, Close, Leaf, Call, Loop, If}
 use Rattle.text.proofs.Form as Form-type
+use Rattle.model.specs.Places.{bit}
 use Rattle.reader.specs.Machine.{refuse-unless, of-leaf, fault}
 use Rattle.reader.specs.declared.Step.the-variants.{Stop}
 use Rattle.reader.specs.declared.Head.the-variants.{Not}
@@ -34,37 +35,39 @@ first-second true false k later = refl
 first-second false u k later = refl
 
 -- The costs and the room of a leaf first, then what the later tests say.
-first-leaf : (room n c m later : ℕ) → first-of (of-leaf room n c m 0) later ≡ of-leaf room n c m later
-first-leaf room n c m later = here (leb c (2 ^ 20)) (leb m (2 ^ 20)) (ltb n room) (leb c m)
+first-leaf : (room n : ℕ) (k : Bool) (c m later : ℕ) → first-of (of-leaf room n k c m 0) later ≡ of-leaf room n k c m later
+first-leaf room n k c m later = here (leb c (2 ^ 20)) (leb m (2 ^ 20)) (ltb n room) (leb c m) (leb (bit k) c)
   where
-    here : (t u v w : Bool) → first-of (refuse-unless t 3 (refuse-unless u 3 (refuse-unless v 4 (refuse-unless w 5 0)))) later ≡ refuse-unless t 3 (refuse-unless u 3 (refuse-unless v 4 (refuse-unless w 5 later)))
-    here true true true true = refl
-    here true true true false = refl
-    here true true false w = refl
-    here true false v w = refl
-    here false u v w = refl
+    here : (t u v w x : Bool) → first-of (refuse-unless t 3 (refuse-unless u 3 (refuse-unless v 4 (refuse-unless w 5 (refuse-unless x 19 0))))) later ≡
+        refuse-unless t 3 (refuse-unless u 3 (refuse-unless v 4 (refuse-unless w 5 (refuse-unless x 19 later))))
+    here true true true true true = refl
+    here true true true true false = refl
+    here true true true false x = refl
+    here true true false w x = refl
+    here true false v w x = refl
+    here false u v w x = refl
 
 -- The refusals of a leaf, from those of its parts.
 module _ (room d L n : ℕ) (hs : List ℕ) (k : Bool) where
-  pub fault-leaf : (c m : ℕ) {r x y : ℕ} → r ≡ first-of x y → x ≡ of-leaf room n c m 0 → y ≡ refuse-unless (leb L 32) 7 0 → r ≡ fault room d L n hs (Leaf k c m)
+  pub fault-leaf : (c m : ℕ) {r x y : ℕ} → r ≡ first-of x y → x ≡ of-leaf room n k c m 0 → y ≡ refuse-unless (leb L 32) 7 0 → r ≡ fault room d L n hs (Leaf k c m)
   unfolding fault
-  fault-leaf c m p a b = p ∙ (ap₂ first-of a b ∙ first-leaf room n c m (refuse-unless (leb L 32) 7 0))
+  fault-leaf c m p a b = p ∙ (ap₂ first-of a b ∙ first-leaf room n k c m (refuse-unless (leb L 32) 7 0))
 
-  pub fault-call : (f c m : ℕ) {r x y z w : ℕ} → r ≡ first-of x y → x ≡ refuse-unless (leb f 15) 3 0 → y ≡ first-of z w → z ≡ of-leaf room n c m 0 → w ≡ of-target L hs f →
+  pub fault-call : (f c m : ℕ) {r x y z w : ℕ} → r ≡ first-of x y → x ≡ refuse-unless (leb f 15) 3 0 → y ≡ first-of z w → z ≡ of-leaf room n k c m 0 → w ≡ of-target L hs f →
       r ≡ fault room d L n hs (Call k f c m)
   unfolding fault
   fault-call f c m p a q b e =
-      p ∙ (ap₂ first-of a (q ∙ (ap₂ first-of b e ∙ first-leaf room n c m (of-target L hs f))) ∙ first-unless (leb f 15) 2 (of-leaf room n c m (of-target L hs f)))
+      p ∙ (ap₂ first-of a (q ∙ (ap₂ first-of b e ∙ first-leaf room n k c m (of-target L hs f))) ∙ first-unless (leb f 15) 2 (of-leaf room n k c m (of-target L hs f)))
 
-  pub fault-loop : (t c m : ℕ) {r x y z w : ℕ} → r ≡ first-of x y → x ≡ of-bound t → y ≡ first-of z w → z ≡ of-leaf room n c m 0 → w ≡ of-open L d →
+  pub fault-loop : (t c m : ℕ) {r x y z w : ℕ} → r ≡ first-of x y → x ≡ of-bound t → y ≡ first-of z w → z ≡ of-leaf room n k c m 0 → w ≡ of-open L d →
       r ≡ fault room d L n hs (Loop k t c m)
   unfolding fault
   fault-loop t c m p a q b e =
-      p ∙ (ap₂ first-of a (q ∙ (ap₂ first-of b e ∙ first-leaf room n c m (of-open L d))) ∙ first-second (leb 1 t) (leb t 65535) 2 (of-leaf room n c m (of-open L d)))
+      p ∙ (ap₂ first-of a (q ∙ (ap₂ first-of b e ∙ first-leaf room n k c m (of-open L d))) ∙ first-second (leb 1 t) (leb t 65535) 2 (of-leaf room n k c m (of-open L d)))
 
-  pub fault-if : (c m : ℕ) {r x y : ℕ} → r ≡ first-of x y → x ≡ of-leaf room n c m 0 → y ≡ of-open L d → r ≡ fault room d L n hs (If k c m)
+  pub fault-if : (c m : ℕ) {r x y : ℕ} → r ≡ first-of x y → x ≡ of-leaf room n k c m 0 → y ≡ of-open L d → r ≡ fault room d L n hs (If k c m)
   unfolding fault
-  fault-if c m p a b = p ∙ (ap₂ first-of a b ∙ first-leaf room n c m (of-open L d))
+  fault-if c m p a b = p ∙ (ap₂ first-of a b ∙ first-leaf room n k c m (of-open L d))
 
 -- The first numbers of a list.
 pub length-first : (own : ℕ) (hs : List ℕ) → own ≤ length hs → length (take own hs) ≡ own

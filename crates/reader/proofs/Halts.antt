@@ -65,7 +65,7 @@ module _ {room : ℕ} {hs : List ℕ} {d L : ℕ} where
     pub refuses-misplaced : (f : Form) → Held l f → ((p : Plan) (K : Around) (fs : Lines) → in-body n p K fs f ≡ stuck) → Refuses room hs d L n i us 2 i
     refuses-misplaced f a b = record { stops = λ p K fs st. misplaced room (body p K fs) n i f z a (b p K fs) }
 
-    -- A form that may stand in a body and meets one of the refusals 3 to 7.
+    -- A form that may stand in a body and meets one of the refusals 3 to 7 and 19.
     pub refuses-fault : (f : Form) (k : ℕ) → Held l f → ((p : Plan) (K : Around) (fs : Lines) → (S : ParserState) × (in-body n p K fs f ≡ to S)) →
         fault room d L n hs f ≡ suc k → Refuses room hs d L n i us (suc k) i
     unfolding brackets level functions-of

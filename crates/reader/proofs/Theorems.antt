@@ -20,15 +20,15 @@ use Rattle.rows.proofs.Records as counts
 use Rattle.reader.proofs.Records as rows
 use Rattle.reader.proofs.OneRow as one-row
 
--- A text in which the reader finds a plan is the text of this plan, which keeps the rules 3 to 7 and fits the lent row.
+-- A text in which the reader finds a plan is the text of this plan, which keeps the rules 3 to 7 and 19 and fits the lent row.
 pub sound : (row : ℕ) (text : List ℕ) (p : Plan) → outcome row text ≡ plan p → (text ≡ print p) × Formed p × Fits row p
 sound = soundness.sound
 
--- In the text of a plan that keeps the rules 3 to 7 and fits the lent row the reader finds this plan.
+-- In the text of a plan that keeps the rules 3 to 7 and 19 and fits the lent row the reader finds this plan.
 pub complete : (row : ℕ) (p : Plan) → Formed p → Fits row p → outcome row (print p) ≡ plan p
 complete = completeness.complete
 
--- The two as one: the reader finds p in exactly one text, and only if p keeps the rules 3 to 7 and fits the lent row.
+-- The two as one: the reader finds p in exactly one text, and only if p keeps the rules 3 to 7 and 19 and fits the lent row.
 pub accepted : (row : ℕ) (text : List ℕ) (p : Plan) → (outcome row text ≡ plan p) ↔ ((text ≡ print p) × Formed p × Fits row p)
 accepted row text p = (sound row text p, λ (e, w, h). ap (outcome row) e ∙ complete row p w h)
 
@@ -46,7 +46,7 @@ print-one p q v w e =
     let a : plan p ≡ plan q = sym (complete 512 p v (v .few-leaves)) ∙ (ap (outcome 512) e ∙ complete 512 q w (w .few-leaves)) in
     cc
 
--- A refused text is that of no plan that keeps the rules 3 to 7 and fits the lent row.
+-- A refused text is that of no plan that keeps the rules 3 to 7 and 19 and fits the lent row.
 pub refused-none : (row : ℕ) (text : List ℕ) (k j : ℕ) → outcome row text ≡ refused k j → (p : Plan) → Formed p → Fits row p → text ≡ print p → ⊥
 refused-none row text k j e p w fit q =
     let a : plan p ≡ refused k j = sym (complete row p w fit) ∙ (ap (outcome row) (sym q) ∙ e) in

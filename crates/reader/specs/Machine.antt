@@ -1,4 +1,4 @@
--- What the reader is to make of a text (01, 'A plan, one form a line' and 'Calls', refusals 1 to 7): a machine that takes one line at a time and
+-- What the reader is to make of a text (01, 'A plan, one form a line' and 'Calls', refusals 1 to 7, and 19 of 02): a machine that takes one line at a time and
 -- holds what was read and which brackets are open.
 -- Assumes nothing: these are definitions.
 use Prim.Native.Nat.{ℕ, zero, suc, _+_, _^_, min}
@@ -10,7 +10,7 @@ use Rattle.model.specs.Plan.{Block, Lines, close, leaf-line, call-line, loop-li
 use Rattle.model.specs.Levels.{heights}
 use Rattle.text.specs.declared.Form.{Form}
 use Rattle.text.specs.declared.Form.the-variants.{Task, Fun, Then, Else, Close, Leaf, Call, Loop, If}
-use Rattle.model.specs.Places.{pick}
+use Rattle.model.specs.Places.{pick, bit}
 use Rattle.text.specs.Text.{lines}
 use Rattle.text.specs.Grammar.{Line, no-form, form, line-form}
 use Rattle.reader.specs.Outcome.{Outcome, plan, refused}
@@ -180,24 +180,25 @@ next (await-else p K b then fs) n f = only 3 f (body p (in-else b then fs K) clo
 next (await-close p K b then else fs) n f = only 4 f (body p K (fs ⧺ if-line b then else close))
 next (done p) n f = stuck
 
--- REFUSALS 3 TO 7, in this order whatever the order of the fields
+-- REFUSALS 3, 4, 5, 19, 6 AND 7, in this order whatever the order of the fields
 
 -- Where the test fails, refusal k; where it holds, what the later tests say.
 abbrev pub refuse-unless : Bool → ℕ → ℕ → ℕ
 refuse-unless ok k later = pick ok later k
 
 -- Of a leaf, call, loop or if line: C and M from 0 to 2^20, else range (3); n leaves read and room in the lent row for one more, else count (4);
--- M not below C, else load (5); then what its kind asks.
-abbrev pub of-leaf : ℕ → ℕ → ℕ → ℕ → ℕ → ℕ
-of-leaf room n c m later =
+-- M not below C, else load (5); C not 0 if it is a point, else costless (19); then what its kind asks.
+abbrev pub of-leaf : ℕ → ℕ → Bool → ℕ → ℕ → ℕ → ℕ
+of-leaf room n k c m later =
     refuse-unless (leb c (2 ^ 20)) 3
     (refuse-unless (leb m (2 ^ 20)) 3
     (refuse-unless (ltb n room) 4
-    (refuse-unless (leb c m) 5 later)))
+    (refuse-unless (leb c m) 5
+    (refuse-unless (leb (bit k) c) 19 later))))
 
--- The first of the refusals range (3), count (4), load (5), target (6) and depth (7) that a form meets, or 0 for none. The lent row has room for so
--- many leaves and n are read; d brackets are open; L is the level; hs are the heights of the closed functions, so that `length hs` is the number
--- of the function that is being read.
+-- The first of the refusals range (3), count (4), load (5), costless (19), target (6) and depth (7) that a form meets, or 0 for none. The lent row
+-- has room for so many leaves and n are read; d brackets are open; L is the level; hs are the heights of the closed functions, so that `length hs` is
+-- the number of the function that is being read.
 unfoldable pub fault : ℕ → ℕ → ℕ → ℕ → List ℕ → Form → ℕ
 fault room d L n hs (Task D t) =
     refuse-unless (leb 1 D) 3
@@ -210,20 +211,20 @@ fault room d L n hs Fun =
 fault room d L n hs Then = refuse-unless (ltb d 64) 7 0
 fault room d L n hs Else = refuse-unless (ltb d 64) 7 0
 fault room d L n hs Close = 0
-fault room d L n hs (Leaf k c m) = of-leaf room n c m (refuse-unless (leb L 32) 7 0)
+fault room d L n hs (Leaf k c m) = of-leaf room n k c m (refuse-unless (leb L 32) 7 0)
 fault room d L n hs (Call k f c m) =
     refuse-unless (leb f 15) 3
-    (of-leaf room n c m
+    (of-leaf room n k c m
     (refuse-unless (ltb f (length hs)) 6
     (refuse-unless (leb (L + getD hs f 0) 32) 7 0)))
 fault room d L n hs (Loop k b c m) =
     refuse-unless (leb 1 b) 3
     (refuse-unless (leb b 65535) 3
-    (of-leaf room n c m
+    (of-leaf room n k c m
     (refuse-unless (leb L 32) 7
     (refuse-unless (ltb d 64) 7 0))))
 fault room d L n hs (If k c m) =
-    of-leaf room n c m
+    of-leaf room n k c m
     (refuse-unless (leb L 32) 7
     (refuse-unless (ltb d 64) 7 0))
 

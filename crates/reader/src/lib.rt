@@ -1,4 +1,5 @@
-// The plan reader: makes of a text a plan's records in a lent row, or refuses it by one of 1 to 7 (document 01, 'A plan, one form a line').
+// The plan reader: makes of a text a plan's records in a lent row, or refuses it by one of 1 to 7 or by 19 (document 01, 'A plan, one form a line';
+// document 02, L2).
 ghost use mathlib.Core.Path.{_≡_};
 ghost use mathlib.Core.List.{[], _∷_};
 ghost use Prim.Native.Nat.{_+_, _*_, _<_, _≤_, min};
@@ -108,6 +109,8 @@ const TARGET: u64 = 6;
 
 const DEPTH: u64 = 7;
 
+const COSTLESS: u64 = 19;
+
 // The numbers of the lines that have no numbers of their own.
 const FUN: u64 = 1;
 
@@ -124,9 +127,16 @@ fn first(a: u64, b: u64) -> u64
     if a == 0 { b } else { a }
 }
 
-// Tests the costs of a leaf and whether the row has room for it.
-fn leaf_fault(c: u64, m: u64, n: usize, room: usize) -> u64
-    ensures { λ r. ⌜ r ≡ of-leaf room n c m 0 ⌝ }
+// Gives K as a number.
+fn point_mark(k: bool) -> u64
+    ensures { λ r. ⌜ r ≡ bit k ⌝ }
+{
+    if k { 1 } else { 0 }
+}
+
+// Tests the costs of a leaf (a point's C is 1 at least) and whether the row has room for it.
+fn leaf_fault(k: bool, c: u64, m: u64, n: usize, room: usize) -> u64
+    ensures { λ r. ⌜ r ≡ of-leaf room n k c m 0 ⌝ }
 {
     if MAX_COST < c {
         return RANGE;
@@ -137,7 +147,10 @@ fn leaf_fault(c: u64, m: u64, n: usize, room: usize) -> u64
     if room <= n {
         return COUNT;
     }
-    if m < c { LOAD } else { 0 }
+    if m < c {
+        return LOAD;
+    }
+    if c < point_mark(k) { COSTLESS } else { 0 }
 }
 
 // Tests the level of a leaf.
@@ -193,7 +206,7 @@ fn target_fault(f: u64, level: u64, tall: &[u64; MAX_FUNCTIONS], own: usize) -> 
     }
 }
 
-// Finds the first of the refusals 2 to 7 that a line in a body meets, if it does not close it, or 0.
+// Finds the first of the refusals 2 to 7 and 19 that a line in a body meets, if it does not close it, or 0.
 fn body_fault(
     b: Form,
     tall: &[u64; MAX_FUNCTIONS],
@@ -207,19 +220,19 @@ fn body_fault(
     ensures { λ r. ⌜ r ≡ body-fault room d level n (take own (now (tall .entry))) b ⌝ }
 {
     match b {
-        Form::Leaf(_, c, m) => first(leaf_fault(c, m, n, room), level_fault(level)),
-        Form::Call(_, f, c, m) => {
-            let costs = leaf_fault(c, m, n, room);
+        Form::Leaf(k, c, m) => first(leaf_fault(k, c, m, n, room), level_fault(level)),
+        Form::Call(k, f, c, m) => {
+            let costs = leaf_fault(k, c, m, n, room);
             first(
                 range_fault(f),
                 first(costs, target_fault(f, level, tall, own)),
             )
         }
-        Form::Loop(_, t, c, m) => {
-            let costs = leaf_fault(c, m, n, room);
-            first(bound_fault(t), first(costs, open_fault(level, d)))
+        Form::Loop(k, t, c, m) => {
+            let leaf = leaf_fault(k, c, m, n, room);
+            first(bound_fault(t), first(leaf, open_fault(level, d)))
         }
-        Form::If(_, c, m) => first(leaf_fault(c, m, n, room), open_fault(level, d)),
+        Form::If(k, c, m) => first(leaf_fault(k, c, m, n, room), open_fault(level, d)),
         _ => FORM,
     }
 }
@@ -299,13 +312,6 @@ fn in_task(text: &[u8], at: usize) -> Member
     } else {
         Member::Neither
     }
-}
-
-// Gives K as a number.
-fn point_mark(k: bool) -> u64
-    ensures { λ r. ⌜ r ≡ bit k ⌝ }
-{
-    if k { 1 } else { 0 }
 }
 
 // Writes four numbers, one behind the other.

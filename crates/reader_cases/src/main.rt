@@ -132,6 +132,27 @@ fn later_texts() {
     show(b"(task 1 0\n(fun\n(call s 0 2 1)\n)\n)\n", 512);
 }
 
+// Refusal 19, costless.
+fn costless_texts() {
+    // A leaf, a loop and an if in line 3, and a call in line 5, each a point with C = 0, whatever its M.
+    show(b"(task 1 0\n(fun\n(leaf p 0 1)\n)\n)\n", 512);
+    show(b"(task 1 0\n(fun\n(loop p 1 0 0\n)\n)\n)\n", 512);
+    show(
+        b"(task 1 0\n(fun\n(if p 0 9\n(then\n)\n(else\n)\n)\n)\n)\n",
+        512,
+    );
+    show(b"(task 1 0\n(fun\n)\n(fun\n(call p 0 0 0)\n)\n)\n", 512);
+    // The same leaf is one more than a row of no record holds: count comes before costless.
+    show(b"(task 1 0\n(fun\n(leaf p 0 1)\n)\n)\n", 0);
+    // Function 0 calls itself in line 3: costless comes before target.
+    show(b"(task 1 0\n(fun\n(call p 0 0 1)\n)\n)\n", 512);
+    // Silent leaves of cost 0 pass: a leaf in function 0; a call, a loop and an if in function 1.
+    show(
+        b"(task 1 0\n(fun\n(leaf s 0 1)\n)\n(fun\n(call s 0 0 0)\n(loop s 1 0 0\n)\n(if s 0 0\n(then\n)\n(else\n)\n)\n)\n)\n",
+        512,
+    );
+}
+
 // Shows the smallest plan with so many blanks and line feeds behind it.
 fn show_tail(blanks: usize, feeds: usize) {
     let mut text = blank();
@@ -214,6 +235,7 @@ fn main() {
     form_texts();
     range_texts();
     later_texts();
+    costless_texts();
     long_texts();
     deep_texts();
 }

@@ -1,9 +1,10 @@
 -- The rules of lines on cases worked by hand: what is open, levels, which rules a line breaks; and whole texts that are refused by 2 for their nesting or
--- their end. One for each reading of document 01 that could have been another.
-use Prim.Native.Nat.{ℕ, _≤_, zero, suc}
+-- their end. One for each reading of document 01, or of 02, L2, that could have been another.
+use Prim.Native.Nat.{ℕ, _≤_, _<_, zero, suc}
 use mathlib.Core.Path.{_≡_, refl}
 use mathlib.Core.List.{List, [], _∷_, _++_}
-use mathlib.Core.Bool.{true, false}
+use mathlib.Core.Logic.{inl}
+use mathlib.Core.Bool.{Bool, true, false}
 use native.Mathlib.Omega.{arith}
 use lib.ListN.{length, replicate}
 use lib.Dec.{leb}
@@ -16,7 +17,7 @@ use Rattle.text.specs.Grammar.{form, line-form}
 use Rattle.model.specs.Levels.{height, heights}
 use Rattle.reader.specs.Outcome.{refused}
 use Rattle.reader.specs.Machine.{_⧺_, outcome, run, fault, brackets-in, brackets, level-in, level, functions-of}
-use Rattle.refusals.specs.Refusal.{of-leaf, of-call, leaves-among, functions-among, own-function, innermost, open-brackets, LevelAt, own-level, Breaks, target-range, leaf-count, row-count, function-count, load, target, bracket-depth, level-depth, RefusedAt}
+use Rattle.refusals.specs.Refusal.{LeafLine, of-leaf, of-call, of-loop, of-if, leaves-among, functions-among, own-function, innermost, open-brackets, LevelAt, own-level, Breaks, target-range, bound-range, leaf-count, row-count, function-count, load, costless, target, bracket-depth, level-depth, RefusedAt}
 use Rattle.refusals.proofs.Measures.{height-of, height-bounds, height-met}
 use Rattle.refusals.proofs.Refusal.{refused-exactly}
 
@@ -105,6 +106,47 @@ own-light : Breaks 512 (in-main []) (form (Call true 0 2 1)) 5 × Breaks 512 (in
 unfolding functions-among
 own-light = (load {c = 2} {m = 1} of-call (omega arith), target {F = 0} (omega arith))
 
+-- A point with C = 0 that is the 513th leaf: 4 before 19.
+leaf-513-costless : Breaks 600 (in-main (replicate 512 a-leaf)) (form (Leaf true 0 1)) 4 × Breaks 600 (in-main (replicate 512 a-leaf)) (form (Leaf true 0 1)) 19
+unfolding leaves-among
+leaf-513-costless = (
+  let e : leaves-among (in-main (replicate 512 a-leaf)) ≡ 512 = refl in
+      leaf-count {f = Leaf true 0 1} (omega arith),
+  costless of-leaf,
+)
+
+-- A point with C = 0 whose loop has no rounds: 3 before 19.
+no-rounds-costless : Breaks 512 (in-main []) (form (Loop true 0 0 0)) 3 × Breaks 512 (in-main []) (form (Loop true 0 0 0)) 19
+no-rounds-costless = (bound-range {b = 0} (inl (omega arith)), costless of-loop)
+
+-- A point with C = 0 that calls its own function: 19 before 6.
+own-costless : Breaks 512 (in-main []) (form (Call true 0 0 1)) 19 × Breaks 512 (in-main []) (form (Call true 0 0 1)) 6
+unfolding functions-among
+own-costless = (costless of-call, target {F = 0} (omega arith))
+
+-- A point with C = 0 whose bracket is the 65th: 19 before 7.
+bracket-65th-costless : Breaks 512 (in-main (nested-ifs 31)) (form (If true 0 0)) 19 × Breaks 512 (in-main (nested-ifs 31)) (form (If true 0 0)) 7
+unfolding open-brackets nested-ifs
+bracket-65th-costless = (
+  costless of-if,
+  let e : length (open-brackets (in-main (nested-ifs 31))) ≡ 64 = refl in
+      bracket-depth {f = If true 0 0} (omega arith),
+)
+
+-- No line breaks both 5 and 19: no M is below a C of 0.
+load-or-costless : {f : Form} {k : Bool} {c m n : ℕ} → LeafLine f k c m → m < c → LeafLine f true 0 n → ⊥
+load-or-costless of-leaf h of-leaf = omega arith
+load-or-costless of-call h of-call = omega arith
+load-or-costless of-loop h of-loop = omega arith
+load-or-costless of-if h of-if = omega arith
+
+-- No silent line, of whatever kind and costs, is one that 19 speaks of.
+silent-costless : {f : Form} {c m n : ℕ} → LeafLine f false c m → LeafLine f true 0 n → ⊥
+silent-costless of-leaf = elim [ ]
+silent-costless of-call = elim [ ]
+silent-costless of-loop = elim [ ]
+silent-costless of-if = elim [ ]
+
 -- F = 16 is out of its range: 3 before 6.
 called-16th : Breaks 512 (in-main []) (form (Call true 16 1 1)) 3 × Breaks 512 (in-main []) (form (Call true 16 1 1)) 6
 unfolding functions-among
@@ -127,7 +169,7 @@ bracket-65th =
     let e : length (open-brackets (in-main (nested-ifs 31))) ≡ 64 = refl in
     bracket-depth {f = an-if} (omega arith)
 
--- WHOLE TEXTS, refused by 2 at the first line that cannot stand there, or behind the last
+-- WHOLE TEXTS, refused at the first line that breaks a rule, by the first that it breaks, or behind the last
 abbrev by-rules : (capacity : ℕ) (text : List ℕ) (k j : ℕ) → leb (length text) 65536 ≡ true → outcome capacity text ≡ refused k j → RefusedAt capacity text k j
 by-rules capacity text k j h e = refused-exactly capacity text k j (leb-true (length text) 65536 h) .0 e
 
@@ -185,3 +227,18 @@ zero-in-front = by-rules 512 (bytes "(task 1 0\n(fun\n(leaf p 09999999 1)\n") 2 
 nesting-before-range : RefusedAt 512 (bytes "(task 1 0\n(leaf p 9999999 1)\n") 2 2
 unfolding outcome run fault brackets-in brackets level-in level functions-of heights height _⧺_ line-form lines matched item number digits
 nesting-before-range = by-rules 512 (bytes "(task 1 0\n(leaf p 9999999 1)\n") 2 2 refl refl
+
+-- A point with C = 0 that the lent row has no record for: 4, not 19.
+count-not-costless : RefusedAt 0 (bytes "(task 1 0\n(fun\n(leaf p 0 0)\n") 4 3
+unfolding outcome run fault brackets-in brackets level-in level functions-of heights height _⧺_ line-form lines matched item number digits
+count-not-costless = by-rules 0 (bytes "(task 1 0\n(fun\n(leaf p 0 0)\n") 4 3 refl refl
+
+-- A call of its own function with M below C: 5, not 6.
+load-not-target : RefusedAt 512 (bytes "(task 1 0\n(fun\n(call p 0 2 1)\n") 5 3
+unfolding outcome run fault brackets-in brackets level-in level functions-of heights height _⧺_ line-form lines matched item number digits
+load-not-target = by-rules 512 (bytes "(task 1 0\n(fun\n(call p 0 2 1)\n") 5 3 refl refl
+
+-- A call of its own function that is a point with C = 0: 19, not 6.
+costless-not-target : RefusedAt 512 (bytes "(task 1 0\n(fun\n(call p 0 0 1)\n") 19 3
+unfolding outcome run fault brackets-in brackets level-in level functions-of heights height _⧺_ line-form lines matched item number digits
+costless-not-target = by-rules 512 (bytes "(task 1 0\n(fun\n(call p 0 0 1)\n") 19 3 refl refl

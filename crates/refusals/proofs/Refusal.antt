@@ -1,10 +1,10 @@
--- The machine refuses a text by k at line j, 2 to 7, exactly when the rules do, by following the lines before j.
-use Prim.Native.Nat.{ℕ, zero, suc, _+_, _≤_, _<_, min}
+-- The machine refuses a text by k at line j, 2 to 7 or 19, exactly when the rules do, by following the lines before j.
+use Prim.Native.Nat.{ℕ, zero, suc, _+_, _≤_, min}
 use mathlib.Core.Path.{_≡_, refl, sym, ap, _∙_, subst}
 use mathlib.Core.List.{List, [], _∷_, _++_, map, append-nil, append-assoc, reverse, reverse-cons}
 use mathlib.Core.Logic.{_⊎_, _↔_, inl, inr}
+use mathlib.Core.Bool.{Bool}
 use native.Mathlib.Omega.{arith}
-use native.Mathlib.Decide.{decLe}
 use lib.ListN.{length}
 use borrow.Author.Tests.{le-leb}
 use Rattle.text.specs.Text.{lines}
@@ -18,7 +18,7 @@ use Rattle.reader.specs.Machine.{Around, ParserState, start, task, body, await-
 use Rattle.reader.proofs.Allowed.{Allowed, allowed}
 use Rattle.reader.proofs.Appended.{heights-length}
 use Rattle.reader.proofs.Steps.{before, Step, opens-fun, leaf, call, loop, cond, stepped, before-step}
-use Rattle.refusals.specs.Refusal.{PlanLines, LeafLine, of-leaf, of-call, of-loop, of-if, innermost, Breaks, no-line, nesting, NoneBroken, RefusedAt, at-line, at-end}
+use Rattle.refusals.specs.Refusal.{PlanLines, LeafLine, of-leaf, of-call, of-loop, of-if, innermost, Breaks, no-line, nesting, line-order, FirstBroken, this, not-this, NoneBroken, RefusedAt, at-line, at-end}
 use Rattle.refusals.proofs.Nesting.{held-step, begins, stuck-begins, whole-done}
 use Rattle.refusals.proofs.Measures.{levels-at, innermost-in, brackets-at, functions-in, peak, talls, getD-front, NamesClosed, Agrees, agrees-start, agrees-step}
 use Rattle.refusals.proofs.Rulings.{AtLeaf, Values, breaks-rule, Ruling, ruling}
@@ -33,7 +33,7 @@ at-body p K fs a = record {
   heights-are = λ F h. a .tall F ∙ getD-front (heights [] (p .functions)) (peak (heights [] (p .functions)) K fs) F h;
 }
 
-at-leaf : {S S′ : ParserState} {n c m : ℕ} {f : Form} {es : List Form} → LeafLine f c m → Step S n f S′ → Agrees S n es →
+at-leaf : {S S′ : ParserState} {n c m : ℕ} {k : Bool} {f : Form} {es : List Form} → LeafLine f k c m → Step S n f S′ → Agrees S n es →
     AtLeaf es (level S) (heights [] (functions-of S))
 at-leaf of-leaf (leaf {p = p} {K = K} {fs = fs}) a = at-body p K fs a
 at-leaf of-call (call {p = p} {K = K} {fs = fs}) a = at-body p K fs a
@@ -60,26 +60,37 @@ names room d L n S Then a = tt
 names room d L n S Else a = tt
 names room d L n S Close a = tt
 names room d L n S (Leaf k c m) a = tt
-names room d L n S (Call k f c m) (o, p, q, r, s, u, t) = omega (arith, heights-length [] (functions-of S))
+names room d L n S (Call k f c m) (o, p, q, r, s, z, u, t) = omega (arith, heights-length [] (functions-of S))
 names room d L n S (Loop k b c m) a = tt
 names room d L n S (If k c m) a = tt
 
 -- ONE LINE
 
+-- The first rule that a line breaks is one that it breaks, and there is no second one.
+first-breaks : {capacity : ℕ} {es : List Form} {x : Line} {ks : List ℕ} {k : ℕ} → FirstBroken capacity es x ks k → Breaks capacity es x k
+first-breaks (this b) = b
+first-breaks (not-this o b) = first-breaks b
+
+first-once : {capacity : ℕ} {es : List Form} {x : Line} {ks : List ℕ} {k k′ : ℕ} → FirstBroken capacity es x ks k → FirstBroken capacity es x ks k′ → k ≡ k′
+first-once (this b) (this c) = refl
+first-once (this b) (not-this o c) = absurd (o b)
+first-once (not-this o b) (this c) = absurd (o c)
+first-once (not-this o b) (not-this u c) = first-once b c
+
 -- The machine goes on at a line that breaks no rule, and stops by the first rule that a line breaks.
 data Judged (capacity : ℕ) (es : List Form) : Line → Turn → Type 0 where
   goes : {f : Form} {S : ParserState} {n : ℕ} → ((i : ℕ) → ¬ Breaks capacity es (form f) i) → Agrees S n (f ∷ es) → Judged capacity es (form f) (go S n)
-  stops : {x : Line} {k : ℕ} → Breaks capacity es x k → ((i : ℕ) → i < k → ¬ Breaks capacity es x i) → Judged capacity es x (stop k)
+  stops : {x : Line} {k : ℕ} → FirstBroken capacity es x line-order k → Judged capacity es x (stop k)
 
 judge : (capacity : ℕ) {S : ParserState} {n : ℕ} {es : List Form} → Agrees S n es → NoneBroken capacity es → (x : Line) →
     Judged capacity es x (line-turn (min 512 capacity) S n x)
-judge capacity a h no-form = stops no-line (λ i g b. omega (arith, breaks-rule b))
+judge capacity a h no-form = stops (this no-line)
 judge capacity {S} {n} {es} a h (form f) = here (next S n f) refl (fault (min 512 capacity) (brackets S) (level S) n (heights [] (functions-of S)) f) refl
   where
     here : (x : Next) → next S n f ≡ x → (k : ℕ) → fault (min 512 capacity) (brackets S) (level S) n (heights [] (functions-of S)) f ≡ k →
         Judged capacity es (form f) (form-first x k (counted n f))
     here stuck q k r =
-        stops (nesting (stuck-begins (reverse es) S (a .nested) f (ap (λ m. next S m f) (a .leaves-read) ∙ q))) (λ i g b. omega (arith, breaks-rule b))
+        stops (this (nesting (stuck-begins (reverse es) S (a .nested) f (ap (λ m. next S m f) (a .leaves-read) ∙ q))))
     here (to S′) q k r = by k r
       where
         s : Step S n f S′
@@ -100,7 +111,7 @@ judge capacity {S} {n} {es} a h (form f) = here (next S n f) refl (fault (min 51
         by zero r =
             let c : Allowed (min 512 capacity) (brackets S) (level S) n (heights [] (functions-of S)) f = allowed _ _ _ _ _ f r in
             goes (subst (λ k. Ruling capacity es f k) r ruled) (agrees-step a q (names (min 512 capacity) (brackets S) (level S) n S f c))
-        by (suc k) r = let (b, c) = subst (λ k. Ruling capacity es f k) r ruled in stops b c
+        by (suc k) r = stops (subst (λ k. Ruling capacity es f k) r ruled)
 
 -- ALL LINES, as what the grammar makes of them
 unfoldable through : ℕ → ParserState → ℕ → ℕ → List Line → Outcome
@@ -172,7 +183,7 @@ module _ (capacity : ℕ) (text : List ℕ) where
       by x t q (goes {f = f} {S = S′} {n = n′} c b) e ih =
           let z : suc (length es) + 1 ≡ length es + 1 + 1 = omega arith in
           ih S′ n′ (f ∷ es) b (unfold NoneBroken in (h, c)) (q ∙ sym (snoc-lines es f xs)) k j (ap (λ i. through (min 512 capacity) S′ n′ i xs) z ∙ e)
-      by x t q (stops b c) e ih = refused-as e (at-line es xs q h b c)
+      by x t q (stops b) e ih = refused-as e (at-line es xs q h b)
 
 -- FROM THE RULES TO THE MACHINE
 
@@ -203,7 +214,7 @@ leads-on capacity es f r h c = by (line-turn (min 512 capacity) (r .state) (r .l
           (r .led (form f ∷ xs) ∙
           (through-go (min 512 capacity) (r .state) (r .leaves) (length es + 1) (form f) xs S n q ∙ ap (λ i. through (min 512 capacity) S n i xs) z));
     }
-    by t q (stops {k = k} b d) = absurd (c k b)
+    by t q (stops {k = k} b) = absurd (c k (first-breaks b))
 
 leads : (capacity : ℕ) (es : List Form) → NoneBroken capacity es → Led capacity es
 unfolding NoneBroken
@@ -212,21 +223,14 @@ leads capacity (f ∷ es) (h, c) = leads-on capacity es f (leads capacity es h) 
 
 -- The machine stops at the first rule that a line breaks, and at the end of lines that are not those of a plan.
 stops-line : (capacity : ℕ) {S : ParserState} {n : ℕ} {es : List Form} {k : ℕ} (x : Line) (i : ℕ) (xs : List Line) → Agrees S n es → NoneBroken capacity es →
-    Breaks capacity es x k → ((i : ℕ) → i < k → ¬ Breaks capacity es x i) → through (min 512 capacity) S n i (x ∷ xs) ≡ refused k i
+    FirstBroken capacity es x line-order k → through (min 512 capacity) S n i (x ∷ xs) ≡ refused k i
 unfolding through
-stops-line capacity {S} {n} {es} {k} x i xs a h b c = by x (line-turn (min 512 capacity) S n x) b c (judge capacity a h x)
+stops-line capacity {S} {n} {es} {k} x i xs a h b = by x (line-turn (min 512 capacity) S n x) b (judge capacity a h x)
   where
-    by : (x : Line) (t : Turn) → Breaks capacity es x k → ((i : ℕ) → i < k → ¬ Breaks capacity es x i) → Judged capacity es x t →
+    by : (x : Line) (t : Turn) → FirstBroken capacity es x line-order k → Judged capacity es x t →
         onwards t i (λ S′ n′. through (min 512 capacity) S′ n′ (i + 1) xs) ≡ refused k i
-    by x t b c (goes d a) = absurd (d k b)
-    by x t b c (stops {k = k′} d e) =
-        elim (decLe k k′) [
-          | yes h ↦ elim (decLe k′ k) [
-            | yes g ↦ let z : k′ ≡ k = omega arith in ap (λ m. refused m i) z
-            | no g ↦ absurd (e k (omega arith) b)
-          ]
-          | no h ↦ absurd (c k′ (omega arith) d)
-        ]
+    by x t b (goes d a) = absurd (d k (first-breaks b))
+    by x t b (stops d) = ap (λ m. refused m i) (first-once d b)
 
 stops-end : (capacity : ℕ) {S : ParserState} {n : ℕ} {es : List Form} (i : ℕ) → Agrees S n es → ¬ PlanLines (reverse es) →
     through (min 512 capacity) S n i [] ≡ refused 2 i
@@ -240,20 +244,20 @@ stops-end capacity {S} {n} {es} i a o = by (ending S)
 -- The lines of a text that the rules refuse by k at line j are refused so.
 lines-refused : {capacity : ℕ} {text : List ℕ} {k j : ℕ} → RefusedAt capacity text k j →
     through (min 512 capacity) start 0 1 (map line-form (lines text)) ≡ refused k j
-lines-refused {capacity} (at-line es {x = x} rest q h b c) =
+lines-refused {capacity} (at-line es {x = x} rest q h b) =
     let l = leads capacity es h in
-    ap (through (min 512 capacity) start 0 1) q ∙ (l .led (x ∷ rest) ∙ stops-line capacity x (length es + 1) rest (l .agrees) h b c)
+    ap (through (min 512 capacity) start 0 1) q ∙ (l .led (x ∷ rest) ∙ stops-line capacity x (length es + 1) rest (l .agrees) h b)
 lines-refused {capacity} (at-end es q h o) =
     let l = leads capacity es h in
     ap (through (min 512 capacity) start 0 1) (q ∙ sym (append-nil (map form (reverse es)))) ∙ (l .led [] ∙ stops-end capacity (length es + 1) (l .agrees) o)
 
--- The rules refuse a text by one number, from 2 to 7, at one line.
+-- The rules refuse a text by one number, from 2 to 7 or 19, at one line.
 pub refused-once : {capacity : ℕ} {text : List ℕ} {k j k′ j′ : ℕ} → RefusedAt capacity text k j → RefusedAt capacity text k′ j′ → (k ≡ k′) × (j ≡ j′)
 refused-once r s = same-refusal (sym (lines-refused r) ∙ lines-refused s)
 
-pub refused-rule : {capacity : ℕ} {text : List ℕ} {k j : ℕ} → RefusedAt capacity text k j → (2 ≤ k) × (k ≤ 7)
-refused-rule (at-line es rest q h b c) = breaks-rule b
-refused-rule (at-end es q h o) = omega arith
+pub refused-rule : {capacity : ℕ} {text : List ℕ} {k j : ℕ} → RefusedAt capacity text k j → ((2 ≤ k) × (k ≤ 7)) ⊎ (k ≡ 19)
+refused-rule (at-line es rest q h b) = breaks-rule (first-breaks b)
+refused-rule (at-end es q h o) = inl (omega arith)
 
 -- BOTH
 outcome-short : (capacity : ℕ) (text : List ℕ) → length text ≤ 65536 →

@@ -1,4 +1,4 @@
--- Rules 3 to 7: the first refusal that the machine finds at a line is the first rule that the line breaks behind the lines before it, since each of its
+-- Rules 3 to 7 and 19: the first refusal that the machine finds at a line is the first rule that the line breaks behind the lines before it, since each of its
 -- tests fails exactly where the line breaks the rule.
 use Prim.Native.Nat.{ℕ, zero, suc, _+_, _^_, _≤_, _<_, min}
 use mathlib.Core.Path.{_≡_, refl, sym, ap, _∙_, subst}
@@ -10,12 +10,13 @@ use native.Mathlib.Decide.{decLe}
 use lib.ListN.{length, getD, length-drop}
 use lib.Dec.{leb, ltb, eqb}
 use borrow.Author.Tests.{lt-leb, le-ltb, leb-false, ltb-false, ltb-true}
-use Rattle.model.specs.Places.{pick}
+use Rattle.model.specs.Places.{pick, bit}
+use Rattle.model.proofs.Bits.{bit-low}
 use Rattle.text.specs.declared.Form.{Form}
 use Rattle.text.specs.declared.Form.the-variants.{Task, Fun, Then, Else, Close, Leaf, Call, Loop, If}
 use Rattle.text.specs.Grammar.{Line, form}
 use Rattle.reader.specs.Machine.{refuse-unless, fault}
-use Rattle.refusals.specs.Refusal.{PlanLines, LeafLine, of-leaf, of-call, of-loop, of-if, leaves-among, functions-among, own-function, innermost, open-brackets, LevelAt, own-level, called-level, Breaks, no-line, nesting, deadline-range, switch-range, cost-range, target-range, bound-range, leaf-count, row-count, function-count, load, target, bracket-depth, level-depth, NoneBroken}
+use Rattle.refusals.specs.Refusal.{PlanLines, LeafLine, of-leaf, of-call, of-loop, of-if, leaves-among, functions-among, own-function, innermost, open-brackets, LevelAt, own-level, called-level, Breaks, no-line, nesting, deadline-range, switch-range, cost-range, target-range, bound-range, leaf-count, row-count, function-count, load, costless, target, bracket-depth, level-depth, line-order, FirstBroken, this, not-this, NoneBroken}
 use Rattle.refusals.proofs.Measures.{highest, height-of, height-bounds, height-met}
 
 -- No test both holds and fails.
@@ -30,11 +31,20 @@ and-right : (s t : Bool) → t ≡ false → (s && t) ≡ false
 and-right true t e = e
 and-right false t e = refl
 
+and-true : (s t : Bool) → (s && t) ≡ true → (s ≡ true) × (t ≡ true)
+and-true true t e = (refl, e)
+and-true false t e = clash e refl
+
 and-false : (s t : Bool) → (s && t) ≡ false → (s ≡ false) ⊎ (t ≡ false)
 and-false true t e = inr e
 and-false false t e = inl refl
 
--- THE TESTS OF THE MACHINE, rule by rule: range, count, load, target, depth
+-- Either way the same.
+alike : (t : Bool) → pick t true true ≡ true
+alike true = refl
+alike false = refl
+
+-- THE TESTS OF THE MACHINE, rule by rule: range, count, load, costless, target, depth
 abbrev costs : ℕ → ℕ → Bool
 costs c m = leb c (2 ^ 20) && leb m (2 ^ 20)
 
@@ -71,6 +81,17 @@ test-5 (Call k f c m) = leb c m
 test-5 (Loop k b c m) = leb c m
 test-5 (If k c m) = leb c m
 
+abbrev test-19 : Form → Bool
+test-19 (Task d t) = true
+test-19 Fun = true
+test-19 Then = true
+test-19 Else = true
+test-19 Close = true
+test-19 (Leaf k c m) = leb (bit k) c
+test-19 (Call k f c m) = leb (bit k) c
+test-19 (Loop k b c m) = leb (bit k) c
+test-19 (If k c m) = leb (bit k) c
+
 abbrev test-6 : List ℕ → Form → Bool
 test-6 hs (Task d t) = true
 test-6 hs Fun = true
@@ -93,68 +114,76 @@ test-7 d L hs (Call k f c m) = leb (L + getD hs f 0) 32
 test-7 d L hs (Loop k b c m) = leb L 32 && ltb d 64
 test-7 d L hs (If k c m) = leb L 32 && ltb d 64
 
--- The number of the first of five tests that fails, 0 if none does; and how the machine's tests of each kind of line make up such a chain.
-abbrev chain : Bool → Bool → Bool → Bool → Bool → ℕ
-chain a b c d e = refuse-unless a 3 (refuse-unless b 4 (refuse-unless c 5 (refuse-unless d 6 (refuse-unless e 7 0))))
+-- The number of the first of six tests that fails, 0 if none does; and how the machine's tests of each kind of line make up such a chain.
+abbrev chain : Bool → Bool → Bool → Bool → Bool → Bool → ℕ
+chain a b c p d e = refuse-unless a 3 (refuse-unless b 4 (refuse-unless c 5 (refuse-unless p 19 (refuse-unless d 6 (refuse-unless e 7 0)))))
 
-three : (a b c y : Bool) → refuse-unless a 3 (refuse-unless b 3 (refuse-unless c 3 (refuse-unless y 7 0))) ≡ chain (a && (b && c)) true true true y
+three : (a b c y : Bool) → refuse-unless a 3 (refuse-unless b 3 (refuse-unless c 3 (refuse-unless y 7 0))) ≡ chain (a && (b && c)) true true true true y
 three false b c y = refl
 three true false c y = refl
 three true true false y = refl
 three true true true y = refl
 
-two : (a b e g h x : Bool) → refuse-unless a 3 (refuse-unless b 3 (refuse-unless e 4 (refuse-unless g 5 (refuse-unless h 6 (refuse-unless x 7 0))))) ≡ chain (a && b) e g h x
-two false b e g h x = refl
-two true false e g h x = refl
-two true true e g h x = refl
+two : (a b e g p h x : Bool) →
+    refuse-unless a 3 (refuse-unless b 3 (refuse-unless e 4 (refuse-unless g 5 (refuse-unless p 19 (refuse-unless h 6 (refuse-unless x 7 0)))))) ≡
+    chain (a && b) e g p h x
+two false b e g p h x = refl
+two true false e g p h x = refl
+two true true e g p h x = refl
 
-twice : (a b e g x y : Bool) → refuse-unless a 3 (refuse-unless b 3 (refuse-unless e 4 (refuse-unless g 5 (refuse-unless x 7 (refuse-unless y 7 0))))) ≡ chain (a && b) e g true (x && y)
-twice false b e g x y = refl
-twice true false e g x y = refl
-twice true true e g true y = refl
-twice true true false g false y = refl
-twice true true true false false y = refl
-twice true true true true false y = refl
+both-7 : (x y : Bool) → refuse-unless x 7 (refuse-unless y 7 0) ≡ refuse-unless (x && y) 7 0
+both-7 true y = refl
+both-7 false y = refl
 
-in-front : (a b e g h x : Bool) → refuse-unless a 3 (chain b e g h x) ≡ chain (a && b) e g h x
-in-front true b e g h x = refl
-in-front false b e g h x = refl
+twice : (a b e g p x y : Bool) →
+    refuse-unless a 3 (refuse-unless b 3 (refuse-unless e 4 (refuse-unless g 5 (refuse-unless p 19 (refuse-unless x 7 (refuse-unless y 7 0)))))) ≡
+    chain (a && b) e g p true (x && y)
+twice a b e g p x y =
+    ap (λ z. refuse-unless a 3 (refuse-unless b 3 (refuse-unless e 4 (refuse-unless g 5 (refuse-unless p 19 z))))) (both-7 x y) ∙ two a b e g p true (x && y)
+
+in-front : (a b e g p h x : Bool) → refuse-unless a 3 (chain b e g p h x) ≡ chain (a && b) e g p h x
+in-front true b e g p h x = refl
+in-front false b e g p h x = refl
 
 -- The machine's refusal at a line is by the first of these tests that fails.
 fault-chain : (room d L n : ℕ) (hs : List ℕ) (f : Form) →
-    fault room d L n hs f ≡ chain (test-3 f) (test-4 room n hs f) (test-5 f) (test-6 hs f) (test-7 d L hs f)
+    fault room d L n hs f ≡ chain (test-3 f) (test-4 room n hs f) (test-5 f) (test-19 f) (test-6 hs f) (test-7 d L hs f)
 unfolding fault
 fault-chain room d L n hs (Task D t) = three (leb 1 D) (leb D (2 ^ 40)) (leb t (2 ^ 20)) (ltb d 64)
 fault-chain room d L n hs Fun = refl
 fault-chain room d L n hs Then = refl
 fault-chain room d L n hs Else = refl
 fault-chain room d L n hs Close = refl
-fault-chain room d L n hs (Leaf k c m) = two (leb c (2 ^ 20)) (leb m (2 ^ 20)) (ltb n room) (leb c m) true (leb L 32)
+fault-chain room d L n hs (Leaf k c m) = two (leb c (2 ^ 20)) (leb m (2 ^ 20)) (ltb n room) (leb c m) (leb (bit k) c) true (leb L 32)
 fault-chain room d L n hs (Call k f c m) =
-    ap (refuse-unless (leb f 15) 3) (two (leb c (2 ^ 20)) (leb m (2 ^ 20)) (ltb n room) (leb c m) (ltb f (length hs)) (leb (L + getD hs f 0) 32)) ∙
-    in-front (leb f 15) (costs c m) (ltb n room) (leb c m) (ltb f (length hs)) (leb (L + getD hs f 0) 32)
+    ap (refuse-unless (leb f 15) 3)
+    (two (leb c (2 ^ 20)) (leb m (2 ^ 20)) (ltb n room) (leb c m) (leb (bit k) c) (ltb f (length hs)) (leb (L + getD hs f 0) 32)) ∙
+    in-front (leb f 15) (costs c m) (ltb n room) (leb c m) (leb (bit k) c) (ltb f (length hs)) (leb (L + getD hs f 0) 32)
 fault-chain room d L n hs (Loop k b c m) =
-    ap (λ x. refuse-unless (leb 1 b) 3 (refuse-unless (leb b 65535) 3 x)) (twice (leb c (2 ^ 20)) (leb m (2 ^ 20)) (ltb n room) (leb c m) (leb L 32) (ltb d 64)) ∙
-    (ap (refuse-unless (leb 1 b) 3) (in-front (leb b 65535) (costs c m) (ltb n room) (leb c m) true (leb L 32 && ltb d 64)) ∙
-    in-front (leb 1 b) (leb b 65535 && costs c m) (ltb n room) (leb c m) true (leb L 32 && ltb d 64))
-fault-chain room d L n hs (If k c m) = twice (leb c (2 ^ 20)) (leb m (2 ^ 20)) (ltb n room) (leb c m) (leb L 32) (ltb d 64)
+    ap (λ x. refuse-unless (leb 1 b) 3 (refuse-unless (leb b 65535) 3 x))
+    (twice (leb c (2 ^ 20)) (leb m (2 ^ 20)) (ltb n room) (leb c m) (leb (bit k) c) (leb L 32) (ltb d 64)) ∙
+    (ap (refuse-unless (leb 1 b) 3) (in-front (leb b 65535) (costs c m) (ltb n room) (leb c m) (leb (bit k) c) true (leb L 32 && ltb d 64)) ∙
+    in-front (leb 1 b) (leb b 65535 && costs c m) (ltb n room) (leb c m) (leb (bit k) c) true (leb L 32 && ltb d 64))
+fault-chain room d L n hs (If k c m) = twice (leb c (2 ^ 20)) (leb m (2 ^ 20)) (ltb n room) (leb c m) (leb (bit k) c) (leb L 32) (ltb d 64)
 
 -- The first test that fails.
-data First (a b c d e : Bool) : ℕ → Type 0 where
-  none : a ≡ true → b ≡ true → c ≡ true → d ≡ true → e ≡ true → First a b c d e 0
-  at-3 : a ≡ false → First a b c d e 3
-  at-4 : a ≡ true → b ≡ false → First a b c d e 4
-  at-5 : a ≡ true → b ≡ true → c ≡ false → First a b c d e 5
-  at-6 : a ≡ true → b ≡ true → c ≡ true → d ≡ false → First a b c d e 6
-  at-7 : a ≡ true → b ≡ true → c ≡ true → d ≡ true → e ≡ false → First a b c d e 7
+data First (a b c p d e : Bool) : ℕ → Type 0 where
+  none : a ≡ true → b ≡ true → c ≡ true → p ≡ true → d ≡ true → e ≡ true → First a b c p d e 0
+  at-3 : a ≡ false → First a b c p d e 3
+  at-4 : a ≡ true → b ≡ false → First a b c p d e 4
+  at-5 : a ≡ true → b ≡ true → c ≡ false → First a b c p d e 5
+  at-19 : a ≡ true → b ≡ true → c ≡ true → p ≡ false → First a b c p d e 19
+  at-6 : a ≡ true → b ≡ true → c ≡ true → p ≡ true → d ≡ false → First a b c p d e 6
+  at-7 : a ≡ true → b ≡ true → c ≡ true → p ≡ true → d ≡ true → e ≡ false → First a b c p d e 7
 
-first : (a b c d e : Bool) → First a b c d e (chain a b c d e)
-first false b c d e = at-3 refl
-first true false c d e = at-4 refl refl
-first true true false d e = at-5 refl refl refl
-first true true true false e = at-6 refl refl refl refl
-first true true true true false = at-7 refl refl refl refl refl
-first true true true true true = none refl refl refl refl refl
+first : (a b c p d e : Bool) → First a b c p d e (chain a b c p d e)
+first false b c p d e = at-3 refl
+first true false c p d e = at-4 refl refl
+first true true false p d e = at-5 refl refl refl
+first true true true false d e = at-19 refl refl refl refl
+first true true true true false e = at-6 refl refl refl refl refl
+first true true true true true false = at-7 refl refl refl refl refl refl
+first true true true true true true = none refl refl refl refl refl refl
 
 -- THE NUMBERS OF THE MACHINE and those of the lines before
 
@@ -169,7 +198,7 @@ pub record Values (es : List Form) (f : Form) (d L n : ℕ) (hs : List ℕ) : Ty
   pub brackets-are : d ≡ length (open-brackets es)
   pub leaves-are : n ≡ leaves-among es
   pub functions-are : f ≡ Fun → length hs ≡ functions-among es
-  pub at-leaf : {c m : ℕ} → LeafLine f c m → AtLeaf es L hs
+  pub at-leaf : {k : Bool} {c m : ℕ} → LeafLine f k c m → AtLeaf es L hs
 
 -- Lines that break no rule are within the limits.
 record Within (capacity : ℕ) (es : List Form) : Type 0 where
@@ -194,7 +223,7 @@ within capacity (f ∷ es) (h, c) = record {
 module _ (capacity : ℕ) (es : List Form) where
   -- WHERE A TEST FAILS, THE RULE IS BROKEN
 
-  costs-broken : {f : Form} {c m : ℕ} → LeafLine f c m → costs c m ≡ false → Breaks capacity es (form f) 3
+  costs-broken : {f : Form} {k : Bool} {c m : ℕ} → LeafLine f k c m → costs c m ≡ false → Breaks capacity es (form f) 3
   costs-broken {f} {c} {m} x e = by (and-false (leb c (2 ^ 20)) (leb m (2 ^ 20)) e)
     where
       by : (leb c (2 ^ 20) ≡ false) ⊎ (leb m (2 ^ 20) ≡ false) → Breaks capacity es (form f) 3
@@ -243,6 +272,22 @@ module _ (capacity : ℕ) (es : List Form) where
   broken-5 (Loop k b c m) e = load of-loop (leb-false c m e)
   broken-5 (If k c m) e = load of-if (leb-false c m e)
 
+  point-broken : {f : Form} (k : Bool) (c m : ℕ) → LeafLine f k c m → leb (bit k) c ≡ false → Breaks capacity es (form f) 19
+  point-broken k (suc c) m x e = absurd (omega (arith, leb-false (bit k) (suc c) e, bit-low k))
+  point-broken true zero m x e = costless x
+  point-broken false zero m x e = absurd (omega (arith, leb-false 0 0 e))
+
+  broken-19 : (f : Form) → test-19 f ≡ false → Breaks capacity es (form f) 19
+  broken-19 (Task d t) e = clash refl e
+  broken-19 Fun e = clash refl e
+  broken-19 Then e = clash refl e
+  broken-19 Else e = clash refl e
+  broken-19 Close e = clash refl e
+  broken-19 (Leaf k c m) e = point-broken k c m of-leaf e
+  broken-19 (Call k f c m) e = point-broken k c m of-call e
+  broken-19 (Loop k b c m) e = point-broken k c m of-loop e
+  broken-19 (If k c m) e = point-broken k c m of-if e
+
   module _ (d L n : ℕ) (hs : List ℕ) where
     leaves-broken : (f : Form) → leaves-among (f ∷ es) ≡ leaves-among es + 1 → n ≡ leaves-among es → ltb n (min 512 capacity) ≡ false →
         Breaks capacity es (form f) 4
@@ -277,10 +322,10 @@ module _ (capacity : ℕ) (es : List Form) where
         Breaks capacity es (form f) 7
     brackets-broken f z v e = bracket-depth {f = f} (omega (arith, ltb-false d 64 e))
 
-    level-broken : {f : Form} {c m : ℕ} → LeafLine f c m → AtLeaf es L hs → leb L 32 ≡ false → Breaks capacity es (form f) 7
+    level-broken : {f : Form} {k : Bool} {c m : ℕ} → LeafLine f k c m → AtLeaf es L hs → leb L 32 ≡ false → Breaks capacity es (form f) 7
     level-broken x a e = level-depth (own-level x) (omega (arith, leb-false L 32 e, a .level-is))
 
-    depth-broken : {f : Form} {c m : ℕ} → LeafLine f c m → length (open-brackets (f ∷ es)) ≡ length (open-brackets es) + 1 → Values es f d L n hs →
+    depth-broken : {f : Form} {k : Bool} {c m : ℕ} → LeafLine f k c m → length (open-brackets (f ∷ es)) ≡ length (open-brackets es) + 1 → Values es f d L n hs →
         (leb L 32 && ltb d 64) ≡ false → Breaks capacity es (form f) 7
     depth-broken {f} x z v e = by (and-false (leb L 32) (ltb d 64) e)
       where
@@ -314,7 +359,7 @@ module _ (capacity : ℕ) (es : List Form) where
     costs-fail {c} {m} (inl h) = and-left (leb c (2 ^ 20)) (leb m (2 ^ 20)) (lt-leb c (2 ^ 20) h)
     costs-fail {c} {m} (inr h) = and-right (leb c (2 ^ 20)) (leb m (2 ^ 20)) (lt-leb m (2 ^ 20) h)
 
-    cost-fails : {f : Form} {c m : ℕ} → LeafLine f c m → (2 ^ 20 < c) ⊎ (2 ^ 20 < m) → test-3 f ≡ false
+    cost-fails : {f : Form} {k : Bool} {c m : ℕ} → LeafLine f k c m → (2 ^ 20 < c) ⊎ (2 ^ 20 < m) → test-3 f ≡ false
     cost-fails of-leaf h = costs-fail h
     cost-fails (of-call {f = f} {c = c} {m = m}) h = and-right (leb f 15) (costs c m) (costs-fail h)
     cost-fails (of-loop {b = b} {c = c} {m = m}) h = and-right (leb 1 b) (leb b 65535 && costs c m) (and-right (leb b 65535) (costs c m) (costs-fail h))
@@ -355,11 +400,17 @@ module _ (capacity : ℕ) (es : List Form) where
     functions-fail (Loop k b c m) v w h = absurd (omega (arith, w .few-functions))
     functions-fail (If k c m) v w h = absurd (omega (arith, w .few-functions))
 
-    load-fails : {f : Form} {c m : ℕ} → LeafLine f c m → m < c → test-5 f ≡ false
+    load-fails : {f : Form} {k : Bool} {c m : ℕ} → LeafLine f k c m → m < c → test-5 f ≡ false
     load-fails (of-leaf {c = c} {m = m}) h = lt-leb c m h
     load-fails (of-call {c = c} {m = m}) h = lt-leb c m h
     load-fails (of-loop {c = c} {m = m}) h = lt-leb c m h
     load-fails (of-if {c = c} {m = m}) h = lt-leb c m h
+
+    costless-fails : {f : Form} {m : ℕ} → LeafLine f true 0 m → test-19 f ≡ false
+    costless-fails of-leaf = refl
+    costless-fails of-call = refl
+    costless-fails of-loop = refl
+    costless-fails of-if = refl
 
     brackets-fail : (f : Form) → Values es f d L n hs → Within capacity es → 64 < length (open-brackets (f ∷ es)) → test-7 d L hs f ≡ false
     unfolding open-brackets
@@ -396,67 +447,82 @@ module _ (capacity : ℕ) (es : List Form) where
         by true q = q
         by false q = absurd (omega arith)
 
-    -- A line breaks none of the rules whose tests hold.
-    spared : {f : Form} → (more : List Form) × PlanLines (reverse es ++ (f ∷ more)) → Values es f d L n hs → Within capacity es → (k : ℕ) →
-        (3 < k → test-3 f ≡ true) → (4 < k → test-4 (min 512 capacity) n hs f ≡ true) → (5 < k → test-5 f ≡ true) → (6 < k → test-6 hs f ≡ true) →
-        (7 < k → test-7 d L hs f ≡ true) → (i : ℕ) → i < k → Breaks capacity es (form f) i → ⊥
-    spared (more, p) v w k r c l t s i h (nesting x) = x more p
-    spared p v w k r c l t s i h (deadline-range {d = D} {t = T} x) = clash (r h) (deadline-fails D T x)
-    spared p v w k r c l t s i h (switch-range {d = D} {t = T} x) = clash (r h) (switch-fails D T x)
-    spared p v w k r c l t s i h (cost-range a x) = clash (r h) (cost-fails a x)
-    spared p v w k r c l t s i h (target-range {F = F} {c = C} {m = M} x) = clash (r h) (and-left (leb F 15) (costs C M) (lt-leb F 15 x))
-    spared p v w k r c l t s i h (bound-range {k = K} {b = B} {c = C} {m = M} x) = clash (r h) (bound-fails K B C M x)
-    spared p v w k r c l t s i h (leaf-count {f = f} x) = clash (c h) (leaves-fail f v w (omega arith))
-    spared p v w k r c l t s i h (row-count {f = f} x) = clash (c h) (leaves-fail f v w (omega arith))
-    spared p v w k r c l t s i h (function-count {f = f} x) = clash (c h) (functions-fail f v w x)
-    spared p v w k r c l t s i h (load a x) = clash (l h) (load-fails a x)
-    spared p v w k r c l t s i h (target {F = F} x) = clash (t h) (le-ltb F (length hs) (omega (arith, v .at-leaf of-call .own-is)))
-    spared p v w k r c l t s i h (bracket-depth {f = f} x) = clash (s h) (brackets-fail f v w x)
-    spared p v w k r c l t s i h (level-depth x y) = clash (s h) (level-fails v w (t (omega arith)) x y)
+    -- The test of each rule by its number; that of depth goes with the target's.
+    abbrev test : Form → ℕ → Bool
+    test f i =
+        pick (eqb i 3) (test-3 f)
+        (pick (eqb i 4) (test-4 (min 512 capacity) n hs f)
+        (pick (eqb i 5) (test-5 f)
+        (pick (eqb i 19) (test-19 f)
+        (pick (eqb i 6) (test-6 hs f)
+        (pick (eqb i 7) (test-6 hs f && test-7 d L hs f) true)))))
+
+    -- A line does not break a rule whose test holds.
+    spared : {f : Form} → (more : List Form) × PlanLines (reverse es ++ (f ∷ more)) → Values es f d L n hs → Within capacity es → (i : ℕ) → test f i ≡ true →
+        Breaks capacity es (form f) i → ⊥
+    spared (more, q) v w i t (nesting x) = x more q
+    spared q v w i t (deadline-range {d = D} {t = T} x) = clash t (deadline-fails D T x)
+    spared q v w i t (switch-range {d = D} {t = T} x) = clash t (switch-fails D T x)
+    spared q v w i t (cost-range a x) = clash t (cost-fails a x)
+    spared q v w i t (target-range {F = F} {c = C} {m = M} x) = clash t (and-left (leb F 15) (costs C M) (lt-leb F 15 x))
+    spared q v w i t (bound-range {k = K} {b = B} {c = C} {m = M} x) = clash t (bound-fails K B C M x)
+    spared q v w i t (leaf-count {f = f} x) = clash t (leaves-fail f v w (omega arith))
+    spared q v w i t (row-count {f = f} x) = clash t (leaves-fail f v w (omega arith))
+    spared q v w i t (function-count {f = f} x) = clash t (functions-fail f v w x)
+    spared q v w i t (load a x) = clash t (load-fails a x)
+    spared q v w i t (costless a) = clash t (costless-fails a)
+    spared q v w i t (target {F = F} x) = clash t (le-ltb F (length hs) (omega (arith, v .at-leaf of-call .own-is)))
+    spared q v w i t (bracket-depth {f = f} x) = clash t (and-right (test-6 hs f) (test-7 d L hs f) (brackets-fail f v w x))
+    spared q v w i t (level-depth {f = f} x y) =
+        let (g, h) = and-true (test-6 hs f) (test-7 d L hs f) t in
+        clash h (level-fails v w g x y)
 
 -- THE FIRST RULE THAT A LINE BREAKS
 
--- A rule has a number from 2 to 7.
-pub breaks-rule : {capacity : ℕ} {es : List Form} {x : Line} {k : ℕ} → Breaks capacity es x k → (2 ≤ k) × (k ≤ 7)
-breaks-rule no-line = omega arith
-breaks-rule (nesting h) = omega arith
-breaks-rule (deadline-range h) = omega arith
-breaks-rule (switch-range h) = omega arith
-breaks-rule (cost-range c h) = omega arith
-breaks-rule (target-range h) = omega arith
-breaks-rule (bound-range h) = omega arith
-breaks-rule (leaf-count h) = omega arith
-breaks-rule (row-count h) = omega arith
-breaks-rule (function-count h) = omega arith
-breaks-rule (load c h) = omega arith
-breaks-rule (target h) = omega arith
-breaks-rule (bracket-depth h) = omega arith
-breaks-rule (level-depth x h) = omega arith
+-- A rule has a number from 2 to 7, or it is 19.
+pub breaks-rule : {capacity : ℕ} {es : List Form} {x : Line} {k : ℕ} → Breaks capacity es x k → ((2 ≤ k) × (k ≤ 7)) ⊎ (k ≡ 19)
+breaks-rule no-line = inl (omega arith)
+breaks-rule (nesting h) = inl (omega arith)
+breaks-rule (deadline-range h) = inl (omega arith)
+breaks-rule (switch-range h) = inl (omega arith)
+breaks-rule (cost-range c h) = inl (omega arith)
+breaks-rule (target-range h) = inl (omega arith)
+breaks-rule (bound-range h) = inl (omega arith)
+breaks-rule (leaf-count h) = inl (omega arith)
+breaks-rule (row-count h) = inl (omega arith)
+breaks-rule (function-count h) = inl (omega arith)
+breaks-rule (load c h) = inl (omega arith)
+breaks-rule (costless c) = inr refl
+breaks-rule (target h) = inl (omega arith)
+breaks-rule (bracket-depth h) = inl (omega arith)
+breaks-rule (level-depth x h) = inl (omega arith)
 
--- What the machine's refusal at a line says: 0, it breaks no rule; else this one and none before it.
+-- What the machine's refusal at a line says: 0, it breaks no rule; else the first that it breaks.
 abbrev pub Ruling : ℕ → List Form → Form → ℕ → Type 0
 Ruling capacity es f zero = (i : ℕ) → ¬ Breaks capacity es (form f) i
-Ruling capacity es f (suc k) = Breaks capacity es (form f) (suc k) × ((i : ℕ) → i < suc k → ¬ Breaks capacity es (form f) i)
+Ruling capacity es f (suc k) = FirstBroken capacity es (form f) line-order (suc k)
 
 -- Where the machine's numbers are those of the lines before, its refusal says so.
 pub ruling : (capacity : ℕ) (es : List Form) (f : Form) (d L n : ℕ) (hs : List ℕ) → (more : List Form) × PlanLines (reverse es ++ (f ∷ more)) →
     NoneBroken capacity es → Values es f d L n hs → Ruling capacity es f (fault (min 512 capacity) d L n hs f)
 ruling capacity es f d L n hs p h v =
-    subst (λ k. Ruling capacity es f k) (sym (fault-chain (min 512 capacity) d L n hs f)) (by (first _ _ _ _ _))
+    subst (λ k. Ruling capacity es f k) (sym (fault-chain (min 512 capacity) d L n hs f)) (by (first _ _ _ _ _ _))
   where
-    spare : (k : ℕ) → (3 < k → test-3 f ≡ true) → (4 < k → test-4 (min 512 capacity) n hs f ≡ true) → (5 < k → test-5 f ≡ true) → (6 < k → test-6 hs f ≡ true) →
-        (7 < k → test-7 d L hs f ≡ true) → (i : ℕ) → i < k → Breaks capacity es (form f) i → ⊥
+    spare : (i : ℕ) → test capacity es d L n hs f i ≡ true → Breaks capacity es (form f) i → ⊥
     spare = spared capacity es d L n hs p v (within capacity es h)
 
-    late : {A : Type 0} (i k : ℕ) → k ≤ i → i < k → A
-    late i k h g = absurd (omega arith)
-
-    by : {k : ℕ} → First (test-3 f) (test-4 (min 512 capacity) n hs f) (test-5 f) (test-6 hs f) (test-7 d L hs f) k → Ruling capacity es f k
-    by (none x3 x4 x5 x6 x7) = λ i b. spare 8 (λ h. x3) (λ h. x4) (λ h. x5) (λ h. x6) (λ h. x7) i (omega (arith, breaks-rule b)) b
-    by (at-3 x3) =
-        (broken-3 capacity es f x3, spare 3 (late 3 3 (omega arith)) (late 4 3 (omega arith)) (late 5 3 (omega arith)) (late 6 3 (omega arith)) (late 7 3 (omega arith)))
-    by (at-4 x3 x4) =
-        (broken-4 capacity es d L n hs f v x4, spare 4 (λ h. x3) (late 4 4 (omega arith)) (late 5 4 (omega arith)) (late 6 4 (omega arith)) (late 7 4 (omega arith)))
-    by (at-5 x3 x4 x5) = (broken-5 capacity es f x5, spare 5 (λ h. x3) (λ h. x4) (late 5 5 (omega arith)) (late 6 5 (omega arith)) (late 7 5 (omega arith)))
-    by (at-6 x3 x4 x5 x6) = (broken-6 capacity es d L n hs f v x6, spare 6 (λ h. x3) (λ h. x4) (λ h. x5) (late 6 6 (omega arith)) (late 7 6 (omega arith)))
-    by (at-7 x3 x4 x5 x6 x7) = (broken-7 capacity es d L n hs f v x6 x7, spare 7 (λ h. x3) (λ h. x4) (λ h. x5) (λ h. x6) (late 7 7 (omega arith)))
+    by : {k : ℕ} → First (test-3 f) (test-4 (min 512 capacity) n hs f) (test-5 f) (test-19 f) (test-6 hs f) (test-7 d L hs f) k → Ruling capacity es f k
+    by (none x3 x4 x5 x19 x6 x7) = λ i.
+        spare i
+        (rw (x3, x4, x5, x19, x6, x7, alike (eqb i 7), alike (eqb i 6), alike (eqb i 19), alike (eqb i 5), alike (eqb i 4), alike (eqb i 3)))
+    by (at-3 x3) = not-this (spare 2 refl) (this (broken-3 capacity es f x3))
+    by (at-4 x3 x4) = not-this (spare 2 refl) (not-this (spare 3 x3) (this (broken-4 capacity es d L n hs f v x4)))
+    by (at-5 x3 x4 x5) = not-this (spare 2 refl) (not-this (spare 3 x3) (not-this (spare 4 x4) (this (broken-5 capacity es f x5))))
+    by (at-19 x3 x4 x5 x19) =
+        not-this (spare 2 refl) (not-this (spare 3 x3) (not-this (spare 4 x4) (not-this (spare 5 x5) (this (broken-19 capacity es f x19)))))
+    by (at-6 x3 x4 x5 x19 x6) =
+        not-this (spare 2 refl) (not-this (spare 3 x3) (not-this (spare 4 x4) (not-this (spare 5 x5) (not-this (spare 19 x19)
+        (this (broken-6 capacity es d L n hs f v x6))))))
+    by (at-7 x3 x4 x5 x19 x6 x7) =
+        not-this (spare 2 refl) (not-this (spare 3 x3) (not-this (spare 4 x4) (not-this (spare 5 x5) (not-this (spare 19 x19) (not-this (spare 6 x6)
+        (this (broken-7 capacity es d L n hs f v x6 x7)))))))

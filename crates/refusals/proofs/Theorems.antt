@@ -1,4 +1,4 @@
--- The theorems of refusals 2 to 7, to be read; the first three are proved in `Refusal` beside this file. The definitions to believe are in specs/Refusal
+-- The theorems of refusals 2 to 7 and 19, to be read; the first three are proved in `Refusal` beside this file. The definitions to believe are in specs/Refusal
 -- (which line breaks which rule, with no reader in it), and in the reader's specs: Machine (`outcome`, what the reader makes of a text) and Print.
 use Prim.Native.Nat.{ℕ, _≤_}
 use mathlib.Core.List.{List}
@@ -15,7 +15,7 @@ use Rattle.refusals.specs.Refusal.{RefusedAt}
 use Rattle.refusals.proofs.Refusal as refusals
 
 -- Consider any text of at most 65,536 bytes. The reader refuses it by k at line j exactly when the rules say so of its lines: none of the lines before
--- line j breaks one of the rules 2 to 7, and k is the first that line j breaks; or the text ends early (2).
+-- line j breaks one of the rules 2 to 7 and 19, and k is the first that line j breaks; or the text ends early (2).
 pub refused-exactly : (row : ℕ) (text : List ℕ) (k j : ℕ) → length text ≤ 65536 → (outcome row text ≡ refused k j) ↔ RefusedAt row text k j
 refused-exactly = refusals.refused-exactly
 
@@ -23,11 +23,11 @@ refused-exactly = refusals.refused-exactly
 pub refused-once : {row : ℕ} {text : List ℕ} {k j k′ j′ : ℕ} → RefusedAt row text k j → RefusedAt row text k′ j′ → (k ≡ k′) × (j ≡ j′)
 refused-once = refusals.refused-once
 
--- .. and the number is one of 2 to 7.
-pub refused-rule : {row : ℕ} {text : List ℕ} {k j : ℕ} → RefusedAt row text k j → (2 ≤ k) × (k ≤ 7)
+-- .. and the number is one of 2 to 7, or 19.
+pub refused-rule : {row : ℕ} {text : List ℕ} {k j : ℕ} → RefusedAt row text k j → ((2 ≤ k) × (k ≤ 7)) ⊎ (k ≡ 19)
 refused-rule = refusals.refused-rule
 
--- A text of at most 65,536 bytes is the text of a plan that keeps rules 3 to 7 and whose leaves the lent row holds, or the rules refuse it at a line ..
+-- A text of at most 65,536 bytes is the text of a plan that keeps rules 3 to 7 and 19 and whose leaves the lent row holds, or the rules refuse it at a line ..
 pub plan-or-refused : (row : ℕ) (text : List ℕ) → length text ≤ 65536 →
     ((p : Plan) × ((text ≡ print p) × Formed p × Fits row p)) ⊎ ((k : ℕ) × (j : ℕ) × RefusedAt row text k j)
 plan-or-refused row text h = by (outcome row text) refl

@@ -146,7 +146,7 @@ plan-leaves {w} {s} {n} p =
     let x : 0 + length (p .functions) ≡ n = omega (arith, p .count) in
     omega (arith, ap (λ (z : ℕ). getD s z 0) x, lies-sizes w s (p .functions) 0 (p .lie), p .bounds .first)
 
--- With a deadline and a switch cost in range it is a plan that keeps rules 3 to 7.
+-- With a deadline and a switch cost in range it is a plan that keeps rules 3 to 7 and 19.
 pub plan-formed :
     {w s : List ℕ} {n : ℕ} (p : Plan-of w s n) (plan : Plan) → plan .functions ≡ p .functions → 1 ≤ plan .deadline → plan .deadline ≤ 2 ^ 40
     → plan .switch ≤ 2 ^ 20 → Formed plan

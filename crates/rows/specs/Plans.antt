@@ -21,7 +21,7 @@ pub record Bounds (w s : List ℕ) (n : ℕ) : Type 0 where
   pub held : getD s n 0 * 8 ≤ length w
   pub unused : (f : ℕ) → n < f → f ≤ 16 → getD s f 0 ≡ 0
 
--- The row with these bounds is that of n functions that keep rules 3 to 7.
+-- The row with these bounds is that of n functions that keep rules 3 to 7 and 19.
 pub record Plan-of (w s : List ℕ) (n : ℕ) : Type 0 where
   pub functions : List Lines
   pub count : length functions ≡ n

@@ -57,7 +57,7 @@ Rep w l i e (loop-line b n body r) =
 Rep w l i e (if-line b t s r) =
     RecordIs w l i 3 b × (detail-at w i ≡ 0) × Rep w l (i + 1) (other-at w i) t × Rep w l (other-at w i) (after-at w i) s × Rep w l (after-at w i) e r
 
--- What rules 3, 5, 6 and 7 ask of lines at level l, where `left` brackets may still open and hs are the heights of the functions before.
+-- What rules 3, 5, 19, 6 and 7 ask of lines at level l, where `left` brackets may still open and hs are the heights of the functions before.
 unfoldable pub Rules : List ℕ → ℕ → ℕ → Lines → Type 0
 Rules hs left l close = Unit {0}
 Rules hs left l (leaf-line b r) = Costs b × (l ≤ 32) × Rules hs left l r

@@ -1,9 +1,10 @@
--- The records that have a point, or call a function that has one, are those that give their forms a point. Assumes nothing.
-use mathlib.Core.Path.{_≡_, sym, ap, _∙_}
+-- The records that have a point, or call a function that has one, are those that give their forms a point; and when a record's costs are right.
+-- Assumes nothing.
+use mathlib.Core.Path.{_≡_, refl, sym, ap, _∙_}
 use mathlib.Core.Bool.{Bool, true, false}
 use mathlib.Core.List.{List}
 use mathlib.Core.Logic.{_⊎_, inl, inr, ⊎-elim}
-use Prim.Native.Nat.{ℕ, suc, _+_, _-_, _≤_, _<_}
+use Prim.Native.Nat.{ℕ, suc, _+_, _-_, _^_, _≤_, _<_}
 use native.Mathlib.Omega.{arith}
 use native.Mathlib.Decide.{decLe, decLt}
 use lib.ListN.{length, getD}
@@ -11,10 +12,10 @@ use borrow.Author.Tests.{eq-eqb, ne-eqb, eqb-true}
 use Rattle.model.specs.Plan.{Block, Lines, close, leaf-line, call-line, loop-line, if-line}
 use Rattle.model.specs.Forms.{Forms, done, forms, Is, Has}
 use Rattle.model.specs.Acceptance.{Ranged}
-use Rattle.rows.specs.Rows.{kind-at, point-at, detail-at, other-at, after-at, block-at, Rep}
+use Rattle.rows.specs.Rows.{kind-at, point-at, isolated-at, max-load-at, detail-at, other-at, after-at, block-at, Rep}
 use Rattle.rows.proofs.Shape.{rep-le}
 use Rattle.rows.proofs.Answers.{said-true, said-yes}
-use Rattle.structure.specs.Private.{Pointed, Flags, HasPoint}
+use Rattle.structure.specs.Private.{Block-right, Pointed, Flags, HasPoint}
 
 -- A record with a point from i up to e.
 pub record PointRecord (w : List ℕ) (has : List Bool) (i e : ℕ) : Type 0 where
@@ -35,6 +36,16 @@ point-one w i e h = eqb-true (point-at w i) 1 (sym (ap (λ (x : Block). x .point
 
 pub point-false : (w : List ℕ) (i : ℕ) {b : Block} → b ≡ block-at w i → point-at w i ≡ 0 → b .point ≡ false
 point-false w i e h = ap (λ (x : Block). x .point) e ∙ ne-eqb (point-at w i) 1 (λ z. omega arith)
+
+-- A record's costs are right where a point costs 1 at least, that is where its cost is not below its mark.
+pub block-right : (w : List ℕ) (i : ℕ) → point-at w i ≤ 1 → isolated-at w i ≤ 2 ^ 20 → max-load-at w i ≤ 2 ^ 20 → isolated-at w i ≤ max-load-at w i →
+    point-at w i ≤ isolated-at w i → Block-right w i
+block-right w i k c m l p =
+    record { mark = k; costs = record { isolated-range = c; max-load-range = m; load = l; point-cost = λ e. omega (arith, point-one w i refl e) } }
+
+-- .. and wrong where its cost is below its mark.
+pub costless-record : (w : List ℕ) (i : ℕ) → point-at w i ≤ 1 → isolated-at w i < point-at w i → Block-right w i → ⊥
+costless-record w i k p b = omega (arith, b .costs .point-cost (point-true w i refl (omega arith)))
 
 pub is-point : (w : List ℕ) (i : ℕ) {b : Block} → b ≡ block-at w i → point-at w i ≡ 1 → Is b i
 is-point w i e h = (point-true w i e h, ap (λ (x : Block). x .number) e)

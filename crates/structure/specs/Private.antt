@@ -14,7 +14,7 @@ use Rattle.model.specs.Plan.{Lines}
 use Rattle.model.specs.Forms.{Forms, done, Has}
 use Rattle.rows.specs.Answers.{Says}
 
--- The record's block: a point is 1 and a silent leaf 0, and the costs keep rules 3 and 5.
+-- The record's block: a point is 1 and a silent leaf 0, and the costs keep rules 3, 5 and 19.
 pub record Block-right (w : List ℕ) (i : ℕ) : Type 0 where
   pub mark : point-at w i ≤ 1
   pub costs : Costs (block-at w i)
@@ -80,7 +80,7 @@ pub record Readable (w hs : List ℕ) (i : ℕ) : Type 0 where
   pub known : kind-at w i ≡ 1 → detail-at w i < length hs
   pub levels : kind-at w i ≡ 1 → level-at w i + getD hs (detail-at w i) 0 ≤ 32
 
--- The records from i up to e are the lines of function number k, and keep rules 3, 5 and 6.
+-- The records from i up to e are the lines of function number k, and keep rules 3, 5, 19 and 6.
 pub record Text (w : List ℕ) (k i e : ℕ) : Type 0 where
   pub lines : Lines
   pub rep : Rep w 1 i e lines

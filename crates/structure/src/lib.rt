@@ -1,4 +1,4 @@
-// Whether a row of numbers is the raw row of a plan that keeps rules 3 to 9.
+// Whether a row of numbers is the raw row of a plan that keeps rules 3 to 9 and 19.
 ghost use mathlib.Core.Path.{_≡_};
 ghost use mathlib.Core.Bool.{true, false};
 ghost use Prim.Native.Nat.{ℕ, _+_, _*_, _≤_, _<_};
@@ -38,14 +38,15 @@ use rows::get;
 use rows::index;
 use rows::larger;
 
-// Whether the record i is a point or a silent one, and its costs keep rules 3 and 5.
+// Whether the record i is a point or a silent one, and its costs keep rules 3, 5 and 19: a point costs 1 at least.
 fn priced(row: &[u64], i: usize) -> bool
     requires { ⌜ i * 8 + 8 ≤ length (now row) ⌝ }
     ensures { λ r. ⌜ Says r (Block-right (now (row .entry)) i) ⌝ }
 {
     let c = get(row, i, ISOLATED);
     let m = get(row, i, MAX_LOAD);
-    if 1 < get(row, i, POINT) {
+    let mark = get(row, i, POINT);
+    if 1 < mark {
         return false;
     }
     if MAX_COST < c {
@@ -55,6 +56,9 @@ fn priced(row: &[u64], i: usize) -> bool
         return false;
     }
     if m < c {
+        return false;
+    }
+    if c < mark {
         return false;
     }
     true
@@ -215,7 +219,7 @@ fn whole(row: &[u64], i: usize, to: usize, left: usize, l: u64, hs: &[u64]) -> b
     true
 }
 
-// Whether the records from `from` up to `to` are lines at level l that keep rules 3, 5, 6 and 7, where `left` brackets may still open and
+// Whether the records from `from` up to `to` are lines at level l that keep rules 3, 5, 19, 6 and 7, where `left` brackets may still open and
 // `hs` are the heights of the functions before.
 fn valid(row: &[u64], from: usize, to: usize, left: usize, l: u64, hs: &[u64]) -> bool
     requires { ⌜ to * 8 ≤ length (now row) ⌝ }
@@ -308,7 +312,7 @@ fn bounded(row: &[u64], starts: &[u64; BOUNDS], n: usize) -> bool
     true
 }
 
-// Whether the row, with these bounds of n functions, is that of a plan that keeps rules 3 to 7. The heights of its functions stand in `hs`.
+// Whether the row, with these bounds of n functions, is that of a plan that keeps rules 3 to 7 and 19. The heights of its functions stand in `hs`.
 fn formed(row: &[u64], starts: &[u64; BOUNDS], n: usize, hs: &mut [u64]) -> bool
     requires { ⌜ 16 ≤ length (now hs) ⌝ }
     ensures { λ r. ⌜ Says r (Plan-of (now (row .entry)) (now (starts .entry)) n) ⌝ }
@@ -465,7 +469,7 @@ pub fn seen_all(row: &[u64], starts: &[u64; BOUNDS], n: usize) -> bool
     true
 }
 
-// Whether the row, with these bounds of n functions, is that of a plan that keeps rules 3 to 9. The heights of its functions stand in `hs`.
+// Whether the row, with these bounds of n functions, is that of a plan that keeps rules 3 to 9 and 19. The heights of its functions stand in `hs`.
 pub fn structured(row: &[u64], starts: &[u64; BOUNDS], n: usize, hs: &mut [u64]) -> bool
     requires { ⌜ 16 ≤ length (now hs) ⌝ }
     ensures { λ r. ⌜ Says r (Structured (now (row .entry)) (now (starts .entry)) n) ⌝ }

@@ -1,4 +1,4 @@
--- The test for rules 3 to 10 holds exactly for accepted plans.
+-- The test for rules 3 to 10 and 19 holds exactly for accepted plans.
 use mathlib.Core.Bool.{true, false, _||_, not}
 use mathlib.Core.List.{List, [], _∷_, _++_}
 use mathlib.Core.Logic.{_↔_, inl, inr}
@@ -13,15 +13,19 @@ use Rattle.model.specs.Forms.{Forms, done, leaf, call, loop, cond, forms, main,
 use Rattle.model.specs.Total.{total}
 use Rattle.model.specs.Levels.{height}
 use Rattle.model.specs.Acceptance.{size, sizes, depth, Numbered, Costs, Ranged, Function, Functions, Formed, Seen, Seen-all, Names, Called, Accepted}
+use Rattle.model.specs.Places.{bit}
+use Rattle.model.proofs.Bits.{bit-below}
 use Rattle.model.proofs.Limits.{short-total}
 use Rattle.table.specs.Accepting.{costs?, numbered?, ranged?, function?, functions?, formed?, pointed?, seen?, seen-all?, names?, named?, called-from?, accepted?}
 use Rattle.table.proofs.Tests.{leb-exactly, ltb-exactly, eqb-exactly, no-truth, yes-always, no-never, both, three, four, five, either, unless-point}
 
 costs-exactly : (b : Block) → (costs? b ≡ true) ↔ Costs b
 costs-exactly b =
-    let k = three (leb (C b) (2 ^ 20)) (leb (M b) (2 ^ 20)) (leb (C b) (M b)) (leb-exactly (C b) (2 ^ 20)) (leb-exactly (M b) (2 ^ 20)) (leb-exactly (C b) (M b)) in (
-      (λ e. let (x, y, z) = k .0 e in record { isolated-range = x; max-load-range = y; load = z }),
-      λ c. k .1 (c .isolated-range, c .max-load-range, c .load),
+    let k = four (leb (C b) (2 ^ 20)) (leb (M b) (2 ^ 20)) (leb (C b) (M b)) (leb (bit (b .point)) (C b)) (leb-exactly (C b) (2 ^ 20))
+    (leb-exactly (M b) (2 ^ 20)) (leb-exactly (C b) (M b)) (leb-exactly (bit (b .point)) (C b)) in
+    let p = bit-below (b .point) (C b) in (
+      (λ e. let (x, y, z, w) = k .0 e in record { isolated-range = x; max-load-range = y; load = z; point-cost = p .1 w }),
+      λ c. k .1 (c .isolated-range, c .max-load-range, c .load, p .0 (c .point-cost)),
     )
 
 numbered-exactly : (n : ℕ) (l : Lines) → (numbered? n l ≡ true) ↔ Numbered n l

@@ -54,7 +54,7 @@ module _ (p : Plan) (f : Formed p) where
       records-lie (p .functions) (row-of p) (padded 17 (bounds-of p)) [] 0 0 (f .each) ([], sym (append-nil (row-of p)))
       (λ j. let e : 0 + j ≡ j = omega arith in ap (λ k. getD (padded 17 (bounds-of p)) k 0) e ∙ bound-is j)
 
--- The row and the bounds of a plan that keeps rules 3 to 7 are those of a plan with its functions.
+-- The row and the bounds of a plan that keeps rules 3 to 7 and 19 are those of a plan with its functions.
 abbrev pub formed-plan : (p : Plan) → Formed p → (q : Plan-of (row-of p) (padded 17 (bounds-of p)) (length (p .functions))) × (q .functions ≡ p .functions)
 formed-plan p f = (
   record { functions = p .functions; count = refl; bounds = formed-bounds p f; lie = formed-lies p f; kept = f .each; small = f .few-leaves },
@@ -66,7 +66,7 @@ abbrev pub accepted-structured :
     (p : Plan) → Accepted p → (q : Structured (row-of p) (padded 17 (bounds-of p)) (length (p .functions))) × (q .plan .functions ≡ p .functions)
 accepted-structured p a = (record { plan = formed-plan p (a .formed) .0; seen = a .seen; called = a .called }, refl)
 
--- A plan whose functions are those of a row that keeps rules 3 to 9 is accepted, where its deadline, switch cost and totals are in range.
+-- A plan whose functions are those of a row that keeps rules 3 to 9 and 19 is accepted, where its deadline, switch cost and totals are in range.
 pub structured-accepted :
     {w s : List ℕ} {n : ℕ} (q : Structured w s n) (p : Plan) → p .functions ≡ q .plan .functions → 1 ≤ p .deadline → p .deadline ≤ 2 ^ 40
     → p .switch ≤ 2 ^ 20 → total C (main p) ≤ 2 ^ 40 → total M (main p) ≤ 2 ^ 40 → Accepted p

@@ -57,7 +57,7 @@ module _ (row turns tails stretches : List ℕ) (h : Head) where
         held = omega (arith, n, length-take (h .leaves * 8) row, ap (λ t. length (t .row)) e, row-length p);
       }
 
-  -- keeps rules 3 to 9,
+  -- keeps rules 3 to 9 and 19,
   pub plan-structured : (t : Of-plan lent) → (q : Structured used (h .bounds) (h .functions)) × (q .plan .functions ≡ t .0 .functions)
   plan-structured (p, a, e) =
       subst (λ (t : Table). (q : Structured (t .row) (t .head .bounds) (t .head .functions)) × (q .plan .functions ≡ p .functions)) (sym e) (accepted-structured p a)
@@ -68,7 +68,7 @@ module _ (row turns tails stretches : List ℕ) (h : Head) where
       let (q, z) = plan-structured t in
       plan-leaves (q .plan) ∙ (ap (λ (ls : List Lines). sizes ls) z ∙ sym (ap (λ (u : Table). u .head .leaves) (t .2)))
 
-  -- Consider a lent row that keeps rules 3 to 9, with the plan that it stands for.
+  -- Consider a lent row that keeps rules 3 to 9 and 19, with the plan that it stands for.
   module _ (q : Structured used (h .bounds) (h .functions)) where
     abbrev pub stands-for : Plan
     stands-for = record { deadline = h .deadline; switch = h .switch; functions = q .plan .functions }

@@ -146,7 +146,7 @@ length-padded zero xs = refl
 length-padded (suc k) [] = ap suc (length-padded k [])
 length-padded (suc k) (x ∷ xs) = ap suc (length-padded k xs)
 
--- Consider a row that keeps rules 3 to 9.
+-- Consider a row that keeps rules 3 to 9 and 19.
 module _ {w s : List ℕ} {n : ℕ} (q : Structured w s n) where
   -- Its functions.
   abbrev pub ls : List Lines
@@ -160,7 +160,7 @@ module _ {w s : List ℕ} {n : ℕ} (q : Structured w s n) where
   abbrev pub line : ℕ → Lines
   line f = getD ls f close
 
-  -- Rules 3 to 7.
+  -- Rules 3 to 7 and 19.
   pub formed : Formed plain
   formed =
       let c = q .plan .count in
@@ -332,7 +332,7 @@ derived cs ms r n = record { fits = true; total = getD cs (n - 1) 0; «max_load_
 pub row-plan : {w s starts : List ℕ} {n : ℕ} → starts ≡ s → Structured w s n → Plan-of w starts n
 row-plan e q = rw e (q .plan)
 
--- Consider a row that keeps rules 3 to 9, and what `measure` and `derive` give for it.
+-- Consider a row that keeps rules 3 to 9 and 19, and what `measure` and `derive` give for it.
 module _ {w s : List ℕ} {n : ℕ} (q : Structured w s n) where
   -- What holds of the bounds and of the number of the functions holds of the indexes and of n.
   pub moved : (K : List ℕ → ℕ → Type 0) → K s (length (ls q)) → {starts : List ℕ} → starts ≡ s → K starts n

@@ -55,7 +55,7 @@ tails-listed ts w v i e l r =
     contains-look xs o i (b .number) there (k .0) (omega (arith, k .1, fill)) ∙ sym (tail-look ts (b .number) w v i e l 0 r) in
     holds-one xs (map g (leaves l)) o i there (leaves-hold g o w l v i e r marks) (omega (arith, fill, rep-size w l v i e r, length-map (leaves l) g, leaves-size l))
 
--- Consider a row that keeps rules 3 to 9.
+-- Consider a row that keeps rules 3 to 9 and 19.
 module _ {w s : List ℕ} {n : ℕ} (q : Structured w s n) where
   abbrev ls : List Lines
   ls = derived-numbers.ls q

@@ -1,4 +1,4 @@
--- Tests that hold exactly when what they test does: the parts of the tests for rules 3 to 10.
+-- Tests that hold exactly when what they test does: the parts of the tests for rules 3 to 10 and 19.
 use mathlib.Core.Bool.{Bool, true, false, _&&_, _||_, not}
 use mathlib.Core.Logic.{_⊎_, _↔_, inl, inr}
 use mathlib.Core.Path.{_≡_, refl}

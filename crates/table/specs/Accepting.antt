@@ -1,4 +1,4 @@
--- Rules 3 to 10 as tests on a plan (01, 'Calls', refusals 3 to 10). The rules themselves are in the model (Acceptance); a test holds exactly when they do.
+-- Rules 3 to 10 and 19 as tests on a plan (01, 'Calls'; 02, L2). The rules themselves are in the model (Acceptance); a test holds exactly when they do.
 -- Assumes nothing: these are definitions.
 use mathlib.Core.Bool.{Bool, true, false, _&&_, _||_, not}
 use mathlib.Core.List.{List, [], _∷_, _++_}
@@ -8,12 +8,13 @@ use lib.ListN.{length}
 use Rattle.model.specs.Plan.{Block, C, M, Lines, close, leaf-line, call-line, loop-line, if-line, Plan}
 use Rattle.model.specs.Forms.{Forms, done, leaf, call, loop, cond, forms, main}
 use Rattle.model.specs.Total.{total}
+use Rattle.model.specs.Places.{bit}
 use Rattle.model.specs.Levels.{height}
 use Rattle.model.specs.Acceptance.{size, sizes, depth}
 
--- Range and load of a leaf.
+-- Range, load and costless of a leaf.
 abbrev pub costs? : Block → Bool
-costs? b = leb (C b) (2 ^ 20) && (leb (M b) (2 ^ 20) && leb (C b) (M b))
+costs? b = leb (C b) (2 ^ 20) && (leb (M b) (2 ^ 20) && (leb (C b) (M b) && leb (bit (b .point)) (C b)))
 
 -- The leaves are numbered in text order, from n on.
 unfoldable pub numbered? : ℕ → Lines → Bool
@@ -24,7 +25,7 @@ numbered? n (loop-line b m body rest) = eqb (b .number) n && (numbered? (n + 1) 
 numbered? n (if-line b then else rest) =
     eqb (b .number) n && (numbered? (n + 1) then && (numbered? (n + 1 + size then) else && numbered? (n + 1 + size then + size else) rest))
 
--- Range, load and target of the forms of function number i.
+-- Range, load, costless and target of the forms of function number i.
 unfoldable pub ranged? : ℕ → Lines → Bool
 ranged? i close = true
 ranged? i (leaf-line b rest) = costs? b && ranged? i rest
@@ -40,7 +41,7 @@ unfoldable pub functions? : List ℕ → ℕ → List Lines → Bool
 functions? hs n [] = true
 functions? hs n (l ∷ ls) = function? hs n l && functions? (hs ++ (height hs l ∷ [])) (n + size l) ls
 
--- Rules 3 to 7.
+-- Rules 3 to 7 and 19.
 abbrev pub formed? : Plan → Bool
 formed? p =
     leb 1 (p .deadline) && (leb (p .deadline) (2 ^ 40) && (leb (p .switch) (2 ^ 20) &&

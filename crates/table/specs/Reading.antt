@@ -1,4 +1,4 @@
--- Reading a plan whole (01, 'Calls'): 1; then line by line, in a line 2 to 7; then 8, 9, 10, with line 0.
+-- Reading a plan whole (01, 'Calls'): 1; then line by line, in a line 2, 3, 4, 5, 19, 6, 7; then 8, 9, 10, with line 0.
 -- Assumes nothing: these are definitions.
 use mathlib.Core.List.{List, []}
 use mathlib.Core.Path.{_≡_}
@@ -54,7 +54,7 @@ pub record Wide (turns tails stretches : List ℕ) : Type 0 where
   pub tails-wide : length tails ≡ 512
   pub stretches-wide : length stretches ≡ 512
 
--- The lines of a text were read with the outcome o: the raw numbers are its, and a plan keeps rules 3 to 7 and begins the row.
+-- The lines of a text were read with the outcome o: the raw numbers are its, and a plan keeps rules 3 to 7 and 19 and begins the row.
 pub record RawOf (o : Outcome) (raw : Raw) (row : List ℕ) : Type 0 where
   pub raw-is : raw ≡ raw-of o
   pub formed : (p : Plan) → o ≡ plan p → Formed p

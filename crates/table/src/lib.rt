@@ -95,7 +95,7 @@ fn indexes(bounds: [u64; BOUNDS]) -> [usize; BOUNDS]
     starts
 }
 
-// The derived numbers of a row that keeps rules 3 to 9; the columns are written.
+// The derived numbers of a row that keeps rules 3 to 9 and 19; the columns are written.
 fn derive_all(
     row: &[u64],
     bounds: [u64; BOUNDS],
@@ -198,7 +198,7 @@ fn store(numbers: &[u64], lent: &mut [u64])
     }
 }
 
-// Whether the lent columns and the head have the derived numbers of a row that keeps rules 3 to 9. Turns, tails and isolated totals are checked where
+// Whether the lent columns and the head have the derived numbers of a row that keeps rules 3 to 9 and 19. Turns, tails and isolated totals are checked where
 // they stand; what max-load costs come to is derived anew.
 fn agrees(row: &[u64], turns: &[u64], tails: &[u64], stretches: &[u64], head: Head) -> bool
     requires { ⌜ Structured (now row) (head .bounds) (head .functions) × (head .leaves ≤ 512) ⌝ }

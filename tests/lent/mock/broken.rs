@@ -36,19 +36,26 @@ fn set_times(asked: &Asked, levels: fn(usize) -> Range<usize>) -> Outcome {
     })
 }
 
-/// The same where counts are not looked at: those of each form of the stack are
-/// brought down to the most that is given.
+/// The same where counts are not looked at, but times are by them: the counts of each
+/// form of the stack are brought down to the most that is given, with the times.
 fn set_counts(asked: &Asked, most: fn(&Kind, bool) -> u64) -> Outcome {
     set_right(asked, |composed, state| {
+        let Some(stack) = state.stack() else {
+            return;
+        };
+        if places::times_along(composed, &stack)[..] != *state.times() {
+            return;
+        }
         let leaves = composed.plan().leaves();
-        let level = state.stack().map_or(0, |stack| stack.len());
-        for at in 1..=level {
-            let form = leaves.get(state.0[LEAVES + at] as usize);
-            if let Some((_, form)) = form {
-                let most = most(&form.kind, at < level);
-                state.0[EARLIER + at] = state.0[EARLIER + at].min(most);
+        for (at, &(leaf, earlier)) in stack.iter().enumerate() {
+            if let Some((_, form)) = leaves.get(leaf as usize) {
+                let most = most(&form.kind, at + 1 < stack.len());
+                state.0[EARLIER + 1 + at] = earlier.min(most);
             }
         }
+        let stack = state.stack().unwrap_or_default();
+        let times = places::times_along(composed, &stack);
+        state.0[TIMES..].copy_from_slice(&times);
     })
 }
 

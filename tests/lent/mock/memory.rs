@@ -22,11 +22,11 @@ fn refused((number, line): Refusal, row: &mut [Record], heads: &mut [Head]) -> R
         ("head-on-refusal", &mut heads[0][0]),
     ];
     for (name, first) in differences {
-        if planted(name) && number >= 7 {
+        if planted(name) && (7..=10).contains(&number) {
             *first = 1;
         }
     }
-    if planted("derived-on-refusal") && number >= 8 {
+    if planted("derived-on-refusal") && (8..=10).contains(&number) {
         row[0][TURN] = 1;
     }
     let line = if planted("line-left-out") { 0 } else { line };

@@ -2,6 +2,7 @@
 //! planted on demand. It shows that the tests find them.
 
 mod broken;
+mod costless;
 mod decisions;
 mod memory;
 mod numbers;

@@ -5,7 +5,7 @@ use std::ops::Range;
 
 use reference::composed::{function_totals, Composed, Cost};
 use reference::plan::{self, Form, Kind, Plan, MOST_LEAVES};
-use reference::records::{self, LEVEL, OTHER, TAIL, TURN};
+use reference::records::{self, ISOLATED, LEVEL, OTHER, POINT, TAIL, TURN};
 use reference::table::{self, Finding, Table};
 use reference::table::{BOUNDS, DEADLINE, HEAD, LEAVES, MAX_LOAD_TOTAL, SWITCH, TOTAL, TOTALS};
 
@@ -67,7 +67,7 @@ fn as_if(plan: &Plan) -> Option<Table> {
     let leaves = plan.leaves();
     let is_free = |(_, form): &(usize, &Form)| (form.isolated, form.loaded) == (0, 0);
     if leaves.iter().all(is_free) {
-        return Some(table::costless(plan));
+        return Some(table::free(plan));
     }
     let sound = |(function, form): &(usize, &Form)| match form.kind {
         Kind::Call(target) => target < *function,
@@ -107,6 +107,24 @@ fn unbroken(asked: &Asked, number: u32, test: impl FnOnce() -> bool) -> Outcome 
 /// A table that is not judged by this rule.
 fn without_rule(asked: &Asked, rule: u32) -> Outcome {
     unbroken(asked, 13, || only_breaks(asked.table, rule))
+}
+
+/// A table that is not judged by rule 19, where all its points that cost nothing pass
+/// the test.
+fn without_costless(asked: &Asked, test: fn(&Form) -> bool) -> Outcome {
+    unbroken(asked, 13, || {
+        let plan = table::plan_of(asked.table);
+        let leaves = plan.iter().flat_map(|plan| plan.leaves());
+        let mut costless = leaves.filter(|(_, form)| form.point && form.isolated == 0);
+        costless.all(|(_, form)| test(form)) && only_breaks(asked.table, 19)
+    })
+}
+
+/// Whether a silent leaf of the table costs nothing.
+fn has_free_silence(table: &Table) -> bool {
+    let leaves = usize::try_from(table.head[LEAVES]).unwrap_or(usize::MAX);
+    let mut records = table.row.iter().take(leaves);
+    records.any(|record| (record[POINT], record[ISOLATED]) == (0, 0))
 }
 
 /// A table refused by 11 where the test says so.
@@ -151,6 +169,25 @@ pub const ALL: &[Difference] = &[
     ("switch-unjudged", |asked| set_task(asked, SWITCH)),
     ("range-unjudged", |asked| without_rule(asked, 3)),
     ("load-unjudged", |asked| without_rule(asked, 5)),
+    ("costless-unjudged", |asked| without_rule(asked, 19)),
+    ("costless-leaves-unjudged", |asked| {
+        without_costless(asked, |form| matches!(form.kind, Kind::Leaf))
+    }),
+    ("costless-calls-unjudged", |asked| {
+        without_costless(asked, |form| matches!(form.kind, Kind::Call(_)))
+    }),
+    ("costless-loops-unjudged", |asked| {
+        without_costless(asked, |form| matches!(form.kind, Kind::Loop(..)))
+    }),
+    ("costless-ifs-unjudged", |asked| {
+        without_costless(asked, |form| matches!(form.kind, Kind::If(..)))
+    }),
+    ("costless-by-max-load", |asked| {
+        without_costless(asked, |form| form.loaded > 0)
+    }),
+    ("costless-silent-broken", |asked| {
+        broken(asked, has_free_silence(asked.table))
+    }),
     ("target-unjudged", |asked| without_rule(asked, 6)),
     ("depth-unjudged", |asked| without_rule(asked, 7)),
     ("unseen-unjudged", |asked| without_rule(asked, 8)),

@@ -4,6 +4,7 @@ use reference::composed::{function_totals, Cost};
 use reference::plan::{self, Kind, Plan, Refusal, MOST_BYTES, MOST_LEAVES};
 use reference::rules;
 
+use super::costless;
 use super::planted::planted;
 
 /// Whether a silent form of the plan that passes the test has a point inside.
@@ -62,10 +63,10 @@ fn without_leading_zeros(text: &[u8]) -> Vec<u8> {
     all
 }
 
-/// The rules 1 to 7 with what is planted in them, on a text that ends in a line
+/// The rules 1 to 7 and 19 with what is planted in them, on a text that ends in a line
 /// feed or not.
 fn read_lines(text: &[u8], row: usize) -> Result<Plan, Refusal> {
-    match plan::read_lines(text, row) {
+    match costless::answer(text, row, plan::read_lines(text, row)) {
         Err((2, line)) if planted("line-after") && line > 1 && !text.ends_with(b"\n") => {
             Err((2, line + 1))
         }

@@ -1,12 +1,13 @@
 //! The reference's own checks: the worked plans and logs, the readings taken, the
-//! aimed texts, the two ways of finding the numbers against each other, and timed
-//! runs.
+//! aimed texts, tables that one rule refuses, the two ways of finding the numbers
+//! against each other, and timed runs.
 
 mod compare;
 mod large;
 mod readings_of_calls;
 mod readings_of_texts;
 mod replay;
+mod tables;
 mod tally;
 mod texts;
 mod timed;
@@ -18,11 +19,12 @@ use tally::Tally;
 
 fn main() {
     let mut tally = Tally::new();
-    let parts: [(&str, fn(&mut Tally)); 8] = [
+    let parts: [(&str, fn(&mut Tally)); 9] = [
         ("worked plans", worked::check),
         ("readings of texts", readings_of_texts::check),
         ("readings of calls", readings_of_calls::check),
         ("texts", texts::check),
+        ("tables", tables::check),
         ("logs", replay::check),
         ("listed against composed", compare::check),
         ("large plans", large::check),

@@ -1,5 +1,5 @@
-//! The readings taken where document 01 leaves something open about reading a
-//! plan, each with an example that tells it from the other reading.
+//! The readings taken where documents 01 and 02 leave something open about reading
+//! a plan, each with an example that tells it from the other reading.
 
 use reference::aimed::{ifs, joined, loops, many, nest, task, words};
 use reference::plan::{self, Refusal};
@@ -105,12 +105,16 @@ fn ends(tally: &mut Tally) {
 }
 
 fn order_and_rows(tally: &mut Tally) {
-    let order = "2 to 7 in that order, whatever the order of the fields";
+    let order = "2, 3, 4, 5, 19, 6, 7 in that order, whatever the order of the fields";
     let after_512 = |line: &str| task(&[[many(LEAF, 512), words(&[line])].concat()]);
     refuses(tally, order, &after_512("(leaf s 2 1)"), (4, 515));
     refuses(tally, order, &main(&["(call s 0 2 1)"]), (5, 3));
     refuses(tally, order, &main(&["(call s 16 0 0)"]), (3, 3));
     refuses(tally, order, &task(&[loops(32, &[CALL])]), (6, 35));
+    refuses(tally, order, &after_512("(leaf p 0 1)"), (4, 515));
+    refuses(tally, order, &main(&["(call p 0 0 1)"]), (19, 3));
+    let deep = task(&[loops(32, &["(leaf p 0 1)"])]);
+    refuses(tally, order, &deep, (19, 35));
 
     let (one, none) = (main(&[LEAF]), main(&[]));
     reads(tally, "a row of no records", &one, 0, Some((4, 3)));
@@ -119,8 +123,32 @@ fn order_and_rows(tally: &mut Tally) {
     reads(tally, "a longer row", &after_512(LEAF), 600, Some((4, 515)));
 }
 
+/// Rule 19, of document 02.
+fn costless_points(tally: &mut Tally) {
+    let parts = "(then\n)\n(else\n)\n)";
+    let kinds = [
+        ("(leaf # 0 1)", ""),
+        ("(call # 0 0 1)", ""),
+        ("(loop # 1 0 1", ")"),
+        ("(if # 0 1", parts),
+    ];
+    for (line, rest) in kinds {
+        let with = |k: &str| {
+            let lines = [line.replace('#', k), rest.to_string()];
+            let used = lines.into_iter().filter(|line| !line.is_empty());
+            task(&[vec![], [words(&[CALL]), used.collect()].concat()])
+        };
+        let reading = "a point with C = 0, whatever its kind and its M";
+        refuses(tally, reading, &with("p"), (19, 6));
+        let reading = "silent leaves that cost nothing are accepted as before";
+        accepts(tally, reading, &with("s"));
+    }
+    let bound = main(&["(loop p 0 0 1"]);
+    refuses(tally, "a loop with B = 0 is range", &bound, (3, 3));
+}
+
 fn whole_plans(tally: &mut Tally) {
-    let in_if = ["(if s 0 0", "(then", "(leaf p 0 0)", ")", "(else", ")", ")"];
+    let in_if = ["(if s 0 0", "(then", "(leaf p 1 1)", ")", "(else", ")", ")"];
     accepts(tally, "a silent if may hold points", &main(&in_if));
     let in_loop = task(&[loops(1, &in_if)]);
     refuses(tally, "but inside a silent loop", &in_loop, (8, 0));
@@ -138,5 +166,6 @@ pub fn check(tally: &mut Tally) {
     nesting(tally);
     ends(tally);
     order_and_rows(tally);
+    costless_points(tally);
     whole_plans(tally);
 }

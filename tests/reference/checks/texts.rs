@@ -5,7 +5,9 @@ use reference::aimed;
 use reference::crossed;
 use reference::damage;
 use reference::gen::{self, Random};
-use reference::plan::{self, read, text};
+use reference::plan::{self, read, text, LINE_RULES};
+use reference::rulings::{Rulings, ALL_RULINGS};
+use reference::two_faults;
 use reference::worked::{PLAN_A, PLAN_B};
 
 use super::tally::Tally;
@@ -37,7 +39,7 @@ fn judged(tally: &mut Tally, bytes: &[u8], row: usize) {
         tally.equal((bytes.len() > 65_536, line), (true, 0), shown);
         return;
     }
-    tally.holds((2..=7).contains(&number) && line > 0, shown);
+    tally.holds(LINE_RULES.contains(&number) && line > 0, shown);
     let lines: Vec<&[u8]> = bytes.split_inclusive(|&byte| byte == b'\n').collect();
     if line > lines.len() {
         tally.equal((number, line), (2, lines.len() + 1), shown);
@@ -54,34 +56,61 @@ fn judged(tally: &mut Tally, bytes: &[u8], row: usize) {
 }
 
 fn aimed_texts(tally: &mut Tally) {
-    let mut seen = [0; 11];
+    let mut rulings = Rulings::default();
     for case in aimed::cases() {
         let found = read(&case.text, case.row).err();
         tally.equal(found, case.refusal, || {
             format!("aimed: {} (row {})", case.name, case.row)
         });
         judged(tally, &case.text, case.row);
-        seen[found.map_or(0, |refusal| refusal.0 as usize)] += 1;
+        rulings.note(found);
     }
-    tally.holds(seen.iter().all(|&count| count > 0), || {
-        format!("each rule is met: {seen:?}")
+    tally.holds(rulings.met(&ALL_RULINGS, 1), || {
+        format!("each rule is met: {rulings}")
     });
 }
 
+/// Every two rules of a line are broken by one of the aimed lines, and the first of
+/// them is named there; but no line breaks 5 and 19, since no M is below C = 0.
+fn pairs_of_rules(tally: &mut Tally) {
+    let pairs = (0..LINE_RULES.len()).flat_map(|at| {
+        let (first, later) = (LINE_RULES[at], &LINE_RULES[at + 1..]);
+        later.iter().map(move |&second| (first, second))
+    });
+    for (first, second) in pairs {
+        let found = [(first, second), (second, first)].map(|(a, b)| two_faults::shows(a, b));
+        let wanted = [(first, second) != (5, 19), false];
+        tally.equal(found, wanted, || {
+            format!("{first} and {second} on one line")
+        });
+    }
+}
+
 fn crossed_lines(tally: &mut Tally) {
-    let mut seen = [0; 8];
+    let mut rulings = Rulings::default();
     for case in crossed::cases() {
         // Whole plans may be too long for rule 10; the lines are judged here.
         let found = plan::read_lines(&case.text, case.row).err();
         let what = || format!("crossed: {} (row {})", case.name, case.row);
         tally.equal(found, case.refusal, what);
         judged(tally, &case.text, case.row);
-        seen[found.map_or(0, |refusal| refusal.0 as usize)] += 1;
+        rulings.note(found);
     }
-    let met = [0, 2, 3, 4, 5, 6, 7].iter().all(|&number| seen[number] > 0);
+    let met = rulings.met(&LINE_RULES, 1) && rulings.met(&[0], 1);
     tally.holds(met, || {
-        format!("crossed lines meet the rules 2 to 7: {seen:?}")
+        format!("crossed lines meet the rules of a line: {rulings}")
     });
+}
+
+/// Points that cost nothing, one at a time, in texts that are accepted without.
+fn costless_points(tally: &mut Tally) {
+    for base in [PLAN_A, PLAN_B, aimed::EVERY_FORM] {
+        for (line, changed) in damage::every_point_costless(base.as_bytes()) {
+            let shown = || String::from_utf8_lossy(&changed).into_owned();
+            tally.equal(read(&changed, 512).err(), Some((19, line)), shown);
+            judged(tally, &changed, 512);
+        }
+    }
 }
 
 fn damaged_texts(tally: &mut Tally) {
@@ -98,7 +127,7 @@ fn damaged_texts(tally: &mut Tally) {
             judged(tally, &changed_text, 512);
         }
     }
-    let mut seen = [0; 8];
+    let mut rulings = Rulings::default();
     for round in 0..4_000 {
         let shape = gen::small_shape(&mut random);
         let plan = match round % 3 {
@@ -109,13 +138,12 @@ fn damaged_texts(tally: &mut Tally) {
         let changed = damage::damaged(&mut random, &whole);
         let row = random.pick(&[512, 512, 512, 3]);
         judged(tally, &changed, row);
-        let number = plan::read_lines(&changed, row)
-            .err()
-            .map_or(0, |refusal| refusal.0);
-        seen[number as usize] += 1;
+        rulings.note(plan::read_lines(&changed, row).err());
     }
-    let met = (2..=6).all(|number| seen[number] > 0);
-    tally.holds(met, || format!("damage meets the rules 2 to 6: {seen:?}"));
+    let met = rulings.met(&[2, 3, 4, 5, 19, 6], 1);
+    tally.holds(met, || {
+        format!("damage meets the rules of a line but 7: {rulings}")
+    });
 }
 
 /// Valid plans are read back as they were, in a row of as many records as they
@@ -141,7 +169,9 @@ fn round_trips(tally: &mut Tally) {
 
 pub fn check(tally: &mut Tally) {
     aimed_texts(tally);
+    pairs_of_rules(tally);
     crossed_lines(tally);
+    costless_points(tally);
     damaged_texts(tally);
     round_trips(tally);
 }

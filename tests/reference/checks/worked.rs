@@ -54,11 +54,11 @@ fn smallest(tally: &mut Tally) {
 /// The traps that document 01 names, each with a plan where falling in shows.
 fn traps(tally: &mut Tally) {
     // The else part is dearer alone, the then part dearer under load.
-    let two_paths = "(task 99 0\n(fun\n(if p 0 0\n(then\n(leaf s 1 9)\n)\n(else\n(leaf s 5 6)\n)\n\
+    let two_paths = "(task 99 0\n(fun\n(if p 1 1\n(then\n(leaf s 1 9)\n)\n(else\n(leaf s 5 6)\n)\n\
         )\n)\n)\n";
-    listings(tally, two_paths, "task 5 9 99 0\npoint 0 1 5 9\n");
+    listings(tally, two_paths, "task 6 10 99 0\npoint 0 1 6 10\n");
     // Loop visits start anew with each call of a function.
-    let wanted = "task 4 4 99 0\npoint 0 1 2 1\npoint 1 1 4 0\npoint 2 1 2 0\n";
+    let wanted = "task 6 6 99 0\npoint 0 1 2 1\npoint 1 1 6 1\npoint 2 1 3 1\n";
     listings(tally, TWICE, wanted);
 }
 

@@ -12,7 +12,8 @@ use std::ffi::OsString;
 use std::fs::File;
 
 use reference::composed::Composed;
-use reference::plan::{self, Plan, MOST_LEAVES};
+use reference::damage::silenced;
+use reference::plan::{self, Plan, Refusal, MOST_LEAVES};
 
 use answers::Answers;
 use files::{complain, print, read_plan, Output, Pieces};
@@ -50,8 +51,19 @@ fn names() -> Option<[OsString; 2]> {
     words.try_into().ok()
 }
 
+/// A plan as the reference reads it, or with a point that costs nothing silent.
+fn read(text: &[u8]) -> Result<Plan, Refusal> {
+    match plan::read(text, MOST_LEAVES) {
+        Err((19, line)) if planted("costless-replayed") => {
+            plan::read(&silenced(text, line), MOST_LEAVES)
+        }
+        answer => answer,
+    }
+}
+
 fn refuse(number: u32, line: usize, log: &OsString) {
-    let refusal = match planted("refused-plan-without-line") {
+    let costless = number == 19 && planted("costless-without-line");
+    let refusal = match costless || planted("refused-plan-without-line") {
         true => format!("refused {number}\n"),
         false => format!("refused {number} {line}\n"),
     };
@@ -119,7 +131,7 @@ fn main() {
         Ok(text) => text,
         Err(error) => return complain(&plan_name, &error),
     };
-    match plan::read(&text, MOST_LEAVES) {
+    match read(&text) {
         Err((number, line)) => refuse(number, line, &log),
         Ok(plan) => {
             if let Err(error) = replay(&plan, &log) {
