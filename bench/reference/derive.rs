@@ -306,7 +306,7 @@ impl<C: Columns> Deriving<'_, C> {
     }
 }
 
-/// The derived numbers of a row that keeps rules 3 to 9; None where it does not keep rule 10, or its columns differ.
+/// The derived numbers of a row that keeps rules 3 to 9 and 19; None where it does not keep rule 10, or its columns differ.
 pub fn derive<C: Columns>(
     columns: C,
     bounds: &[u64; FUNCTIONS + 1],

@@ -36,21 +36,6 @@ fn filler(mut sum: u64, alone: bool) -> Vec<Form> {
     forms
 }
 
-/// Sets every C to its M.
-fn level_costs(forms: &mut [Form]) {
-    for form in forms {
-        form.isolated = form.loaded;
-        match &mut form.kind {
-            Kind::Leaf | Kind::Call(_) => {}
-            Kind::Loop(_, body) => level_costs(body),
-            Kind::If(then_part, else_part) => {
-                level_costs(then_part);
-                level_costs(else_part);
-            }
-        }
-    }
-}
-
 /// What is done with a main function that has its sum.
 #[derive(Clone, Copy, PartialEq, Eq)]
 enum Wrap {
@@ -92,9 +77,7 @@ pub fn topped(random: &mut Random, plan: &Plan) -> Vec<(&'static str, Plan, Opti
     for alone in [false, true] {
         let mut base = plan.clone();
         if alone {
-            base.functions
-                .iter_mut()
-                .for_each(|forms| level_costs(forms));
+            base.change_all(|form| form.isolated = form.loaded);
         }
         let total = Composed::new(&base).max_load_total();
         for (target, refusal) in [

@@ -252,45 +252,30 @@ fn show_points(plan: &mut Plan) {
                 Kind::If(then_part, else_part) => {
                     show(called, then_part);
                     show(called, else_part);
+                    continue;
                 }
                 Kind::Leaf | Kind::Call(_) => {}
             }
-            let looked_at = !matches!(form.kind, Kind::If(..));
-            form.point |= looked_at && rules::point_inside(called, form);
-            price(form);
+            form.point |= rules::point_inside(called, form);
         }
     }
     for function in 0..plan.functions.len() {
         let called = rules::functions_with_points(plan);
         show(&called, &mut plan.functions[function]);
     }
+    plan.change_all(price);
 }
 
 /// Rule 10 kept: bounds are halved until the totals fit; false if they never do.
 fn shorten(plan: &mut Plan) -> bool {
-    fn halve(forms: &mut [Form]) -> bool {
-        let mut changed = false;
-        for form in forms {
-            match &mut form.kind {
-                Kind::Loop(bound, body) => {
-                    changed |= *bound > 1;
-                    *bound = (*bound / 2).max(1);
-                    changed |= halve(body);
-                }
-                Kind::If(then_part, else_part) => {
-                    changed |= halve(then_part);
-                    changed |= halve(else_part);
-                }
-                Kind::Leaf | Kind::Call(_) => {}
-            }
-        }
-        changed
-    }
     while function_totals(plan, Cost::Loaded)[plan.main()] > rules::MOST_TOTAL {
         let mut changed = false;
-        for forms in &mut plan.functions {
-            changed |= halve(forms);
-        }
+        plan.change_all(|form| {
+            if let Kind::Loop(bound, _) = &mut form.kind {
+                changed |= *bound > 1;
+                *bound = (*bound / 2).max(1);
+            }
+        });
         if !changed {
             return false;
         }

@@ -71,48 +71,42 @@ impl Plan {
         all
     }
 
-    /// Changes the leaf with this number.
-    pub fn change(&mut self, leaf: usize, by: impl Fn(&mut Form)) {
-        fn change(forms: &mut [Form], leaf: usize, by: &dyn Fn(&mut Form)) {
+    /// Changes every form in leaf order, each before what is inside it.
+    pub fn change_all(&mut self, mut by: impl FnMut(&mut Form)) {
+        fn change(forms: &mut [Form], by: &mut dyn FnMut(&mut Form)) {
             for form in forms {
+                by(form);
                 match &mut form.kind {
-                    Kind::Leaf | Kind::Call(_) => {}
-                    Kind::Loop(_, body) => change(body, leaf, by),
+                    Kind::Loop(_, body) => change(body, by),
                     Kind::If(then_part, else_part) => {
-                        change(then_part, leaf, by);
-                        change(else_part, leaf, by);
+                        change(then_part, by);
+                        change(else_part, by);
                     }
-                }
-                if form.leaf == leaf {
-                    by(form);
+                    Kind::Leaf | Kind::Call(_) => {}
                 }
             }
         }
         for forms in &mut self.functions {
-            change(forms, leaf, &by);
+            change(forms, &mut by);
         }
+    }
+
+    /// Changes the leaf with this number.
+    pub fn change(&mut self, leaf: usize, by: impl Fn(&mut Form)) {
+        self.change_all(|form| {
+            if form.leaf == leaf {
+                by(form);
+            }
+        });
     }
 
     /// Numbers the leaves anew in text order, for plans built or changed in memory.
     pub fn renumber(&mut self) {
-        fn number(forms: &mut [Form], next: &mut usize) {
-            for form in forms {
-                form.leaf = *next;
-                *next += 1;
-                match &mut form.kind {
-                    Kind::Loop(_, body) => number(body, next),
-                    Kind::If(then_part, else_part) => {
-                        number(then_part, next);
-                        number(else_part, next);
-                    }
-                    Kind::Leaf | Kind::Call(_) => {}
-                }
-            }
-        }
         let mut next = 0;
-        for forms in &mut self.functions {
-            number(forms, &mut next);
-        }
+        self.change_all(|form| {
+            form.leaf = next;
+            next += 1;
+        });
     }
 }
 
