@@ -23,6 +23,8 @@ pub struct Tally {
     /// How often each refusal and each word was answered, by their numbers.
     refusals: BTreeMap<u64, usize>,
     words: [usize; 6],
+    /// The words of decisions after which no point could come; go, suspend and stay are the first three behind that of refusals.
+    final_words: [usize; 6],
 }
 
 impl Tally {
@@ -62,13 +64,13 @@ impl Tally {
         (ruling.number == 0).then_some((row, head))
     }
 
-    /// Both sides make a call from the same state; gives the state afterwards.
+    /// Both sides make a call from the same state; gives the state afterwards and the reply.
     fn call(
         &mut self,
         what: &str,
         state: &State,
         make: impl Fn(&Side, &mut State) -> Reply,
-    ) -> State {
+    ) -> (State, Reply) {
         let (mut by_proved, mut by_reference) = (*state, *state);
         let proved = make(&PROVED, &mut by_proved);
         let reply = make(&REFERENCE, &mut by_reference);
@@ -78,13 +80,24 @@ impl Tally {
         });
         *self.refusals.entry(reply.number).or_default() += 1;
         self.words[reply.word as usize] += 1;
-        by_reference
+        (by_reference, reply)
+    }
+
+    /// Counts a decision with this stretch, if it was a final one. Every plan here has a switch cost, so the margin of another is smaller.
+    fn note_final(&mut self, head: &Head, stretch: u64, reading: u64, reply: &Reply) {
+        let taken = i128::from(reading) + i128::from(stretch);
+        let is_final = i128::from(reply.margin) == i128::from(head.deadline) - taken;
+        if is_final && reply.word > 0 {
+            self.final_words[reply.word as usize] += 1;
+        }
     }
 
     fn release(&mut self, row: &[Leaf], head: &Head, state: &State) -> State {
-        self.call("release", state, |side, state| {
+        let (after, reply) = self.call("release", state, |side, state| {
             (side.release)(row, head, state)
-        })
+        });
+        self.note_final(head, head.stretch, 0, &reply);
+        after
     }
 
     fn report(
@@ -95,15 +108,20 @@ impl Tally {
         point: u64,
         reading: u64,
     ) -> State {
-        self.call("report", state, |side, state| {
+        let (after, reply) = self.call("report", state, |side, state| {
             (side.report)(row, head, state, point, reading)
-        })
+        });
+        if let Some(leaf) = row.get(point as usize) {
+            self.note_final(head, leaf.stretch, reading, &reply);
+        }
+        after
     }
 
     fn end(&mut self, row: &[Leaf], head: &Head, state: &State, reading: u64) -> State {
-        self.call("end", state, |side, state| {
+        let (after, _) = self.call("end", state, |side, state| {
             (side.end)(row, head, state, reading)
-        })
+        });
+        after
     }
 
     fn all_calls(&mut self, row: &[Leaf], head: &Head, state: &State, point: u64) {
@@ -361,13 +379,21 @@ pub fn agree(plans: &[Plan]) -> Tally {
     }
     texts(&mut tally, &mut random);
     let Tally {
-        refusals, words, ..
+        refusals,
+        words,
+        final_words,
+        ..
     } = &tally;
     println!("answers by refusal, 0 for none: {refusals:?}");
     println!("answers of calls by word, 0 for refused: {words:?}");
+    println!("answers of final decisions by word: {final_words:?}");
     // 18 is for lines of logs.
     let mut numbers = (0..=17).chain([19]);
     let all_met = numbers.all(|number| refusals.contains_key(&number)) && !words.contains(&0);
+    let finals_met = !final_words[1..=3].contains(&0);
     tally.note(all_met, || "not every refusal and word was met".to_string());
+    tally.note(finals_met, || {
+        "not every word of a final decision was met".to_string()
+    });
     tally
 }

@@ -20,9 +20,15 @@ pub enum Shape {
     Shallow,
     /// Loops in one another as deep as may be, the other leaves spread over the levels.
     Deep,
+    /// One point, with silent leaves, ifs and loops before and behind it.
+    Silent,
 }
 
-pub const SHAPES: [(Shape, &str); 2] = [(Shape::Shallow, "shallow"), (Shape::Deep, "deep")];
+pub const SHAPES: [(Shape, &str); 3] = [
+    (Shape::Shallow, "shallow"),
+    (Shape::Deep, "deep"),
+    (Shape::Silent, "silent"),
+];
 
 /// A plan with its table.
 pub struct Plan {
@@ -104,6 +110,40 @@ fn deep(leaves: usize) -> String {
     opening.join("\n")
 }
 
+/// Lines of six silent leaves.
+const SILENT_UNIT: [&str; 12] = [
+    "(leaf s 3 5)",
+    "(if s 2 3",
+    "(then",
+    "(leaf s 7 8)",
+    ")",
+    "(else",
+    "(leaf s 5 11)",
+    ")",
+    ")",
+    "(loop s 2 1 1",
+    "(leaf s 1 2)",
+    ")",
+];
+
+const SILENT_LEAVES: usize = 6;
+
+fn silent_lines(leaves: usize) -> Vec<&'static str> {
+    let mut lines = SILENT_UNIT.repeat(leaves / SILENT_LEAVES);
+    lines.extend(vec!["(leaf s 1 2)"; leaves % SILENT_LEAVES]);
+    lines
+}
+
+fn silent(leaves: usize) -> String {
+    let behind = (leaves - 1) / 2;
+    let mut lines = vec!["(fun"];
+    lines.extend(silent_lines(leaves - 1 - behind));
+    lines.push("(leaf p 1 2)");
+    lines.extend(silent_lines(behind));
+    lines.push(")");
+    lines.join("\n")
+}
+
 fn table(text: &[u8], leaves: usize) -> (Vec<Leaf>, Head) {
     let mut row = vec![Leaf::default(); leaves];
     let mut head = Head::default();
@@ -124,6 +164,7 @@ pub fn plan(shape: (Shape, &'static str), leaves: usize) -> Plan {
     let functions = match shape.0 {
         Shape::Shallow => shallow(leaves),
         Shape::Deep => deep(leaves),
+        Shape::Silent => silent(leaves),
     };
     let switching = 4;
     let text =

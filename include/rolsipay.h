@@ -27,7 +27,7 @@ extern "C" {
 #endif
 
 /* The version of this header, to be compared by #if: 10000 * major + 100 * minor + patch. The library carries none: take both from one dist/. */
-#define ROLSIPAY_VERSION 10200            /* 1.2.0 */
+#define ROLSIPAY_VERSION 10300            /* 1.3.0 */
 
 /* The most stack that a call takes, in bytes, whatever it is given; docs/MEMORY.md tells how it was measured. */
 #define ROLSIPAY_STACK_READ 124928        /* rolsipay_read */
@@ -117,8 +117,10 @@ typedef struct {
     uint64_t line;
 } rolsipay_ruling;
 
-/* What a call answers: the word, and a refusal's number, else 0; of an accepted release or report the remaining time and the margin (held at -2^62);
- * of every accepted call 1 if the reading exceeds the deadline, else 0. */
+/* What a call answers: the word, and a refusal's number, else 0; of an accepted release or report the remaining time and the margin; of every accepted call 1
+ * if the reading exceeds the deadline, else 0. The margin is deadline - reading - remaining - stretch - switch cost. Where no run with these reports meets a
+ * further point, the release or report is final, and the margin is deadline - reading - stretch; remaining is given there too. A margin below -2^62 is given as
+ * -2^62. */
 typedef struct {
     uint64_t word;
     uint64_t number;
@@ -147,10 +149,12 @@ typedef char rolsipay_reply_margin_is_at_24[offsetof(rolsipay_reply, margin) == 
  * leaves row and head as they were. */
 rolsipay_ruling rolsipay_read(const uint8_t *text, size_t bytes, rolsipay_leaf *row, size_t records, rolsipay_head *head);
 
-/* Release: refusals 11, 12, 13. A refused call leaves the state as it was. */
+/* Release, with the reading 0: refusals 11, 12, 13. Go if the margin is 0 or more, else suspend. It is final if no run of the plan meets a point. A refused
+ * call leaves the state as it was. */
 rolsipay_reply rolsipay_release(const rolsipay_leaf *row, size_t records, const rolsipay_head *head, rolsipay_state *state);
 
-/* Report of a point, by its number, with a reading, the ticks elapsed since the release: refusals 11, 14, 15, 16, 17. */
+/* Report of a point, by its number, with a reading, the ticks elapsed since the release: refusals 11, 14, 15, 16, 17. Stay if the others were suspended before,
+ * whatever the margin; else go if the margin is 0 or more, suspend if not. */
 rolsipay_reply rolsipay_report(const rolsipay_leaf *row, size_t records, const rolsipay_head *head, rolsipay_state *state, uint64_t point,
                                uint64_t reading);
 

@@ -32,9 +32,24 @@ fn refused(number: u64) -> Reply {
     }
 }
 
-fn decide(head: &Head, remaining: u64, stretch: u64, reading: u64, suspended: bool) -> Reply {
-    let wanted = [reading, remaining, stretch, head.switching];
-    let margin = i128::from(head.deadline) - wanted.map(i128::from).iter().sum::<i128>();
+/// What a decision weighs beside the reading.
+struct Weighed {
+    remaining: u64,
+    stretch: u64,
+    /// Whether no run meets a further point.
+    is_final: bool,
+}
+
+fn decide(head: &Head, weighed: &Weighed, reading: u64, suspended: bool) -> Reply {
+    let &Weighed {
+        remaining, stretch, ..
+    } = weighed;
+    let reserve = match weighed.is_final {
+        true => 0,
+        false => remaining + head.switching,
+    };
+    let needed = stretch + reserve;
+    let margin = i128::from(head.deadline) - i128::from(reading) - i128::from(needed);
     let word = match suspended {
         true => STAY,
         false if margin < 0 => SUSPEND,
@@ -64,7 +79,12 @@ pub fn release_on(row: Option<&[Leaf]>, head: &Head, state: &mut State) -> Reply
     if head.total + head.switching > head.deadline {
         return refused(UNFIT);
     }
-    let reply = decide(head, head.total, head.stretch, 0, false);
+    let weighed = Weighed {
+        remaining: head.total,
+        stretch: head.stretch,
+        is_final: Place { row, head, state }.is_silent(),
+    };
+    let reply = decide(head, &weighed, 0, false);
     *state = State::FRESH;
     state.running = 1;
     state.suspended = (reply.word == SUSPEND).into();
@@ -116,10 +136,13 @@ pub fn report_on(
     let Some(next) = place.next(leaf) else {
         return refused(ASTRAY);
     };
-    let remaining = place.time(next.level, leaf, next.earlier);
-    let suspended = state.suspended != 0;
-    let reply = decide(head, remaining, row[leaf].stretch, reading, suspended);
-    move_on(state, &next, point, remaining);
+    let weighed = Weighed {
+        remaining: place.time(next.level, leaf, next.earlier),
+        stretch: row[leaf].stretch,
+        is_final: place.is_final(&next, leaf),
+    };
+    let reply = decide(head, &weighed, reading, state.suspended != 0);
+    move_on(state, &next, point, weighed.remaining);
     state.suspended = (reply.word != GO).into();
     state.reading = reading;
     reply

@@ -269,6 +269,61 @@ impl Place<'_> {
         }
     }
 
+    fn has_point(&self, from: usize, to: usize) -> bool {
+        self.row[from..to].iter().any(|record| record.point == 1)
+    }
+
+    /// Whether no run of the plan meets a point. A call that leads to one is a point itself, so the main function tells.
+    pub fn is_silent(&self) -> bool {
+        let main = self.function(self.head.functions - 1);
+        !self.has_point(main.from, main.to)
+    }
+
+    /// Whether no run meets a further point behind this next one. Where all that is open are calls, the spans of the levels are of different functions, so
+    /// that no record is looked at twice.
+    pub fn is_final(&self, next: &Next, point: usize) -> bool {
+        let open = || (1..next.level).rev();
+        open().all(|level| self.row[self.leaf(level)].kind == CALL)
+            && !self.point_within(point, next.earlier)
+            && !self.point_behind(self.span(next.level), point)
+            && !open().any(|level| self.point_behind(self.span(level), self.leaf(level)))
+    }
+
+    /// Whether a point can come within the form of a leaf behind this visit of it.
+    fn point_within(&self, leaf: usize, earlier: u64) -> bool {
+        let record = &self.row[leaf];
+        match record.kind {
+            LOOP => earlier < record.detail,
+            CALL => {
+                let called = self.inside(leaf);
+                self.has_point(called.from, called.to)
+            }
+            _ => self.has_point(leaf + 1, record.after as usize),
+        }
+    }
+
+    /// Whether one can come behind that form, up to the end of its level: not in the other part of an if around it.
+    fn point_behind(&self, span: Span, leaf: usize) -> bool {
+        let (mut at, mut to) = (span.from, span.to);
+        loop {
+            while self.row[at].after as usize <= leaf {
+                at = self.row[at].after as usize;
+            }
+            let record = &self.row[at];
+            let (other, after) = (record.other as usize, record.after as usize);
+            if self.has_point(after, to) {
+                return true;
+            }
+            if at == leaf {
+                return false;
+            }
+            (at, to) = match leaf < other {
+                true => (at + 1, other),
+                false => (other, after),
+            };
+        }
+    }
+
     pub fn can_end(&self) -> bool {
         let level = self.state.level as usize;
         if level == 0 {

@@ -1,5 +1,5 @@
---  Reads the plan in the file that it is given and plays the marked cases m1 to m5 of plan A, each from a fresh state. One line an answer: the word,
---  remaining and margin, then 1 if late, else 0; for the end the word and the late mark; or `refused` and the number.
+--  Reads the plan in the file that it is given and plays the marked cases m1 to m5 of plan A, m5 as document 02 has it, each from a fresh state. One line an
+--  answer: the word, remaining and margin, then 1 if late, else 0; for the end the word and the late mark; or `refused` and the number.
 with Ada.Command_Line;
 with Ada.IO_Exceptions;
 with Ada.Streams; use Ada.Streams;
@@ -93,9 +93,9 @@ begin
    end if;
    Ada.Text_IO.Put_Line
      ("task " & Shown (Head.Total) & " " & Shown (Head.Max_Load_Total) & " " & Shown (Head.Deadline) & " " & Shown (Head.Switching));
-   Run ("m1 m4 m5", (0, 0, 1, 9, 1, 33, 1, 50, 1, 64, 1, 64));
+   Run ("m1 m4 m5", (0, 0, 1, 9, 1, 33, 1, 50, 1, 76, 1, 76));
    Run ("m2", (0, 0, 1, 28));
    Run ("m2", (0, 0, 1, 29));
    Run ("m3", (0, 0, 1, 9, 1, 33, 1, 57, 1, 73), 81);
-   Run ("m5", (0, 0, 1, 9, 1, 33, 1, 50, 1, 65));
+   Run ("m5", (0, 0, 1, 9, 1, 33, 1, 50, 1, 77));
 end Play;

@@ -1,7 +1,7 @@
 /* Flips each bit of plan A's row, head and state, one at a time, makes a call on them, and counts the answers: how often a refusal's number, how often a word
  * that is not the right answer or not with its numbers, and how often the right answer all the same. The calls are the release, the third visit of the loop
- * and the end of the run where every visit takes its full cost. Before two further calls there, a first visit at 29 and an end at 101, D and T alone are
- * flipped. It is run at the top of the repository. */
+ * and the end of the run where every visit takes its full cost. Before three further calls there, a first visit at 29, the fourth visit and an end at 101,
+ * D and T alone are flipped. It is run at the top of the repository. */
 #include "answers.h"
 
 enum { WORDS = sizeof words / sizeof *words, REFUSALS = 18 };
@@ -19,6 +19,12 @@ static rolsipay_reply first_visit_at_29(void)
 static rolsipay_reply third_visit_at_57(void)
 {
     return report(1, 57);
+}
+
+/* The fourth visit, which is final. */
+static rolsipay_reply fourth_visit_at_73(void)
+{
+    return report(1, 73);
 }
 
 /* The end of the run. */
@@ -116,6 +122,7 @@ int main(void)
     report(1, 33);
     flip_all("report 1 at 57", third_visit_at_57);
     report(1, 57);
+    flip_limits("report 1 at 73", fourth_visit_at_73);
     report(1, 73);
     flip_all("end at 81", end_at_81);
     flip_limits("end at 101", end_at_101);

@@ -1,4 +1,5 @@
-/* Reads the plan in the file that it is given and plays the marked cases m1 to m5 of plan A, each from a fresh state, one line an answer. */
+/* Reads the plan in the file that it is given and plays the marked cases m1 to m5 of plan A, m5 as document 02 has it, each from a fresh state, one line an
+ * answer. */
 #include "answers.h"
 
 #include <string.h>
@@ -22,11 +23,11 @@ static void play(const char *name, const struct report *reports, size_t count)
 
 int main(int argc, char **argv)
 {
-    static const struct report m1_m4_m5[] = {{0, 0}, {1, 9}, {1, 33}, {1, 50}, {1, 64}, {1, 64}};
+    static const struct report m1_m4_m5[] = {{0, 0}, {1, 9}, {1, 33}, {1, 50}, {1, 76}, {1, 76}};
     static const struct report m2_goes[] = {{0, 0}, {1, 28}};
     static const struct report m2_suspends[] = {{0, 0}, {1, 29}};
     static const struct report m3[] = {{0, 0}, {1, 9}, {1, 33}, {1, 57}, {1, 73}};
-    static const struct report m5_suspends[] = {{0, 0}, {1, 9}, {1, 33}, {1, 50}, {1, 65}};
+    static const struct report m5_suspends[] = {{0, 0}, {1, 9}, {1, 33}, {1, 50}, {1, 77}};
     if (argc != 2) {
         fprintf(stderr, "use: %s PLAN\n", argv[0]);
         return 2;

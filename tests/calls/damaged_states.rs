@@ -89,7 +89,7 @@ fn states(tally: &mut Tally) {
         plans += 1;
         standings += small.standings.count();
         tally.holds(small.standings.agree(&small.listed), || {
-            format!("times of one place differ: {plan:?}")
+            format!("two histories that lead to one place differ: {plan:?}")
         });
         for _ in 0..2 {
             every_number_of_state(tally, &mut random, &small);

@@ -45,6 +45,19 @@ fn ifs() -> Vec<String> {
     )
 }
 
+/// Functions that call one another to the last, with a choice of points on the way: the
+/// last point of a run is at level 16, with silent leaves behind it in each function.
+fn tails() -> Vec<Vec<String>> {
+    let choice = ["(if s 1 2", "(then", "(leaf p 1 3)", ")", "(else", ")", ")"];
+    let mut functions = vec![words(&["(leaf p 2 9)", "(leaf s 1 4)"])];
+    for before in 0..15 {
+        let call = format!("(call p {before} 1 2)");
+        let lines = [&choice[..], &[&call, "(leaf s 1 6)"]].concat();
+        functions.push(words(&lines));
+    }
+    functions
+}
+
 /// One function with a loop, called over and over.
 fn calls() -> Vec<Vec<String>> {
     let called = nest(&["(loop p 3 1 2"], 1, &["(leaf p 3 4)"], &[")"]);
@@ -60,15 +73,19 @@ fn with_deadline(mut plan: Plan) -> Plan {
     plan
 }
 
-/// Each with its name.
-pub fn plans() -> Vec<(&'static str, Plan)> {
-    let most_rounds = nest(
+/// Two loops of most rounds, one in the other.
+fn most_rounds() -> Vec<String> {
+    nest(
         &["(loop p 65535 1 1", "(leaf p 1 2)"],
         2,
         &["(leaf s 3 5)"],
         &[")"],
-    );
-    let choices = [
+    )
+}
+
+/// Ifs one behind the other, dear in one part under load and in the other alone.
+fn choices() -> Vec<String> {
+    let choice = [
         "(if p 1 2",
         "(then",
         "(leaf s 3 90)",
@@ -78,14 +95,25 @@ pub fn plans() -> Vec<(&'static str, Plan)> {
         ")",
         ")",
     ];
+    words(&choice.repeat(168))
+}
+
+/// Each with its name.
+pub fn plans() -> Vec<(&'static str, Plan)> {
     let cases = [
         ("512 points", vec![many("(leaf p 1 3)", 512)]),
+        ("512 silent leaves", vec![many("(leaf s 1 3)", 512)]),
+        (
+            "512 silent leaves, as fast under load",
+            vec![many("(leaf s 3 3)", 512)],
+        ),
         ("30 loops of one round", vec![loops(30, 1)]),
         ("31 loops of two rounds", vec![loops(31, 2)]),
-        ("two loops of most rounds", vec![most_rounds]),
+        ("two loops of most rounds", vec![most_rounds()]),
         ("32 levels by calls", towers()),
+        ("16 levels by calls to the last", tails()),
         ("64 open brackets", vec![ifs()]),
-        ("504 leaves in ifs", vec![words(&choices.repeat(168))]),
+        ("504 leaves in ifs", vec![choices()]),
         ("510 calls of one function", calls()),
     ];
     let read = |name: &str, functions: &[Vec<String>]| {

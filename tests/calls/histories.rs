@@ -7,6 +7,7 @@ use lent::state::{State, EARLIER, LEAVES, LEVEL, LEVELS, STATE, SUSPENDED};
 use lent::tally::{Met, Tally};
 use reference::calls::{Answer, Controller};
 use reference::composed::Composed;
+use reference::finals::Finals;
 use reference::gen::{self, Random};
 use reference::listed::Listed;
 use reference::numbers::Numbers;
@@ -27,6 +28,13 @@ const STEADY: u64 = 0;
 const TURNING: u64 = 1;
 const WILD: u64 = 2;
 
+/// The highest level that was reported, and the final decisions.
+#[derive(Default)]
+struct Reached {
+    highest: usize,
+    finals: Finals,
+}
+
 /// One history, with the reference's controller beside the state.
 struct History<'a, N: Numbers> {
     numbers: &'a N,
@@ -37,12 +45,17 @@ struct History<'a, N: Numbers> {
     habit: u64,
     /// How often, in a hundred, the highest of the next points is reported.
     upward: u64,
-    /// The highest level reported.
-    highest: usize,
+    reached: &'a mut Reached,
 }
 
 impl<'a, N: Numbers> History<'a, N> {
-    fn new(random: &mut Random, numbers: &'a N, composed: &'a Composed, table: &'a Table) -> Self {
+    fn new(
+        random: &mut Random,
+        numbers: &'a N,
+        composed: &'a Composed,
+        table: &'a Table,
+        reached: &'a mut Reached,
+    ) -> Self {
         History {
             numbers,
             composed,
@@ -51,7 +64,7 @@ impl<'a, N: Numbers> History<'a, N> {
             state: State::fresh(),
             habit: random.pick(&[STEADY, STEADY, TURNING, TURNING, WILD]),
             upward: random.pick(&[0, 50, 100]),
-            highest: 0,
+            reached,
         }
     }
 
@@ -154,7 +167,9 @@ impl<'a, N: Numbers> History<'a, N> {
             Answer::End { .. } => State::fresh(),
             Answer::Decision { .. } => {
                 let place = self.controller.place().expect("a release is open");
-                self.highest = self.highest.max(self.numbers.level_in_run(place));
+                let level = self.numbers.level_in_run(place);
+                self.reached.highest = self.reached.highest.max(level);
+                self.reached.finals.note(self.numbers, place, answer);
                 law::moved(self.numbers, &self.state, place)
                     .decided(self.controller.last_reading(), self.controller.suspended())
             }
@@ -220,9 +235,9 @@ impl<'a, N: Numbers> History<'a, N> {
 }
 
 /// Every number of these is read off the list of all runs.
-fn small_plans(tally: &mut Tally) -> usize {
+fn small_plans(tally: &mut Tally) -> Reached {
     let mut random = Random::new(82);
-    let (mut plans, mut highest) = (0, 0);
+    let (mut plans, mut reached) = (0, Reached::default());
     while plans < PLANS {
         let plan = gen::small_plan(&mut random);
         let Some(listed) = Listed::new(&plan, MOST_RUNS) else {
@@ -233,15 +248,14 @@ fn small_plans(tally: &mut Tally) -> usize {
         let mut table = table::table(&listed);
         let more = random.pick(&[0, 0, 1, 8, 9]);
         damage::lengthen(&mut random, &mut table, more);
-        let mut history = History::new(&mut random, &listed, &composed, &table);
+        let mut history = History::new(&mut random, &listed, &composed, &table, &mut reached);
         history.play(tally, &mut random, CALLS);
-        highest = highest.max(history.highest);
     }
-    highest
+    reached
 }
 
 /// Those at the caps are gone through upwards, and once more like the others.
-fn large_plans(tally: &mut Tally) -> usize {
+fn large_plans(tally: &mut Tally) -> Reached {
     let mut random = Random::new(83);
     let mut plans: Vec<(Plan, bool)> = Vec::new();
     for (_, plan) in deep::plans() {
@@ -250,18 +264,17 @@ fn large_plans(tally: &mut Tally) -> usize {
     for _ in 0..150 {
         plans.push((gen::large_plan(&mut random), false));
     }
-    let mut highest = 0;
+    let mut reached = Reached::default();
     for (plan, upward) in &plans {
         let composed = Composed::new(plan);
         let table = table::table(&composed);
-        let mut history = History::new(&mut random, &composed, &composed, &table);
+        let mut history = History::new(&mut random, &composed, &composed, &table, &mut reached);
         if *upward {
             (history.habit, history.upward) = (STEADY, 100);
         }
         history.play(tally, &mut random, 120);
-        highest = highest.max(history.highest);
     }
-    highest
+    reached
 }
 
 /// An answer that no call was to give would be one that was not compared.
@@ -281,13 +294,20 @@ fn all_met(tally: &mut Tally) {
 
 pub fn compare_all(tally: &mut Tally) {
     tally.met = Met::default();
-    let highest = small_plans(tally);
+    let Reached { highest, finals } = small_plans(tally);
     let calls = tally.met.calls;
     println!("  {calls} calls on listed plans, levels up to {highest}");
+    println!("  final decisions: {finals}");
     tally.holds(calls >= 200_000 && highest >= 5, || {
         "enough calls on listed plans, and points at level 5".to_string()
     });
-    let highest = large_plans(tally);
-    tally.holds(highest == 32, || "points at level 32".to_string());
+    tally.holds(finals.met(500), || {
+        "final decisions of every kind".to_string()
+    });
+    let Reached { highest, finals } = large_plans(tally);
+    println!("  final decisions on large plans: {finals}");
+    tally.holds(highest == 32 && finals.answered(5), || {
+        "points at level 32, and final decisions".to_string()
+    });
     all_met(tally);
 }

@@ -1,6 +1,7 @@
 //! The delivered calls against the reference: reply and every later number of the
 //! state, on the plans that the document works through, on the smallest plan, in
-//! random histories, on damaged tables and states, on any bytes, and in timed runs.
+//! random histories, on damaged tables and states, on any bytes, in timed runs, and in
+//! the worst cases of small plans.
 
 mod bytes;
 mod damage;
@@ -14,6 +15,7 @@ mod smallest;
 mod timed;
 mod worked;
 mod world;
+mod worst;
 
 use lent::Part;
 
@@ -24,6 +26,7 @@ const PARTS: &[Part] = &[
     ("damaged", damaged::compare_all),
     ("bytes", bytes::compare_all),
     ("timed", timed::compare_all),
+    ("worst", worst::compare_all),
 ];
 
 /// How many records are lent, where a part has them all.

@@ -60,4 +60,6 @@ pub fn compare_all(tally: &mut Tally) {
     let often = often.iter().all(|&count| count >= 1_000);
     let enough = often && small.ended >= ENDED && large.ended >= 200;
     tally.holds(enough, || "timed runs of every kind".to_string());
+    let finals = small.finals.met(500) && large.finals.answered(5);
+    tally.holds(finals, || "final decisions of every kind".to_string());
 }

@@ -79,8 +79,8 @@ const FIRST: [&str; 2] = ["release -> go 49 47 0", "report 0 0 -> go 49 38 0"];
 const VISITS: [&str; 4] = [
     "report 1 9 -> go 44 19 0",
     "report 1 33 -> go 32 7 0",
-    "report 1 50 -> go 20 2 0",
-    "report 1 64 -> go 8 0 0",
+    "report 1 52 -> go 20 0 0",
+    "report 1 76 -> go 8 0 0",
 ];
 
 fn plan_a(tally: &mut Tally) {
@@ -89,7 +89,7 @@ fn plan_a(tally: &mut Tally) {
     let wanted = (0, false, &[(0, 0)][..], &[49, 49][..]);
     calls_to(tally, "first", PLAN_A, &FIRST, wanted);
     let remaining = [44, 32, 20, 8];
-    let readings = [9, 33, 50, 64];
+    let readings = [9, 33, 52, 76];
     for visit in 0..4 {
         let lines = [&FIRST[..], &VISITS[..=visit]].concat();
         let stack = [(1, visit as u64)];
@@ -97,16 +97,23 @@ fn plan_a(tally: &mut Tally) {
         let wanted = (readings[visit], false, &stack[..], &times[..]);
         calls_to(tally, "m1, m5", PLAN_A, &lines, wanted);
     }
-    let fifth = [&FIRST[..], &VISITS, &["report 1 64 -> refused 17"]].concat();
-    let wanted = (64, false, &[(1, 3)][..], &[49, 8][..]);
+    let fifth = [&FIRST[..], &VISITS, &["report 1 76 -> refused 17"]].concat();
+    let wanted = (76, false, &[(1, 3)][..], &[49, 8][..]);
     calls_to(tally, "m4", PLAN_A, &fifth, wanted);
 }
 
 fn suspended(tally: &mut Tally) {
-    let suspends = ["report 1 65 -> suspend 8 -1 0"];
+    let suspends = ["report 1 77 -> suspend 8 -1 0"];
     let lines = [&FIRST[..], &VISITS[..3], &suspends].concat();
-    let wanted = (65, true, &[(1, 3)][..], &[49, 8][..]);
+    let wanted = (77, true, &[(1, 3)][..], &[49, 8][..]);
     calls_to(tally, "m5", PLAN_A, &lines, wanted);
+    let stays = [
+        "report 1 57 -> suspend 20 -5 0",
+        "report 1 73 -> stay 8 3 0",
+    ];
+    let lines = [&FIRST[..], &VISITS[..2], &stays].concat();
+    let wanted = (73, true, &[(1, 3)][..], &[49, 8][..]);
+    calls_to(tally, "m3", PLAN_A, &lines, wanted);
 }
 
 fn plan_b(tally: &mut Tally) {
@@ -116,7 +123,7 @@ fn plan_b(tally: &mut Tally) {
     let stretches = table.row.iter().map(|record| record[STRETCH]);
     tally.holds(stretches.eq([4, 13, 2, 0, 2]), || "m7".to_string());
     let to_branch = ["release -> go 15 180 0", "report 1 0 -> go 15 167 0"];
-    let by_else = ["report 4 0 -> go 4 189 0", "report 0 0 -> go 3 188 0"];
+    let by_else = ["report 4 0 -> go 4 189 0", "report 0 0 -> go 3 196 0"];
     let lines = [to_branch, by_else].concat();
     let wanted = (0, false, &[(4, 0), (0, 0)][..], &[15, 4, 3][..]);
     calls_to(tally, "m9, by else", PLAN_B, &lines, wanted);
@@ -134,7 +141,7 @@ fn visits_anew(tally: &mut Tally) {
         "report 0 0 -> go 5 93 0",
         "report 2 0 -> go 3 95 0",
         "report 0 0 -> go 2 96 0",
-        "report 0 0 -> go 1 97 0",
+        "report 0 0 -> go 1 98 0",
     ];
     let wanted = (0, false, &[(2, 0), (0, 1)][..], &[6, 3, 1][..]);
     calls_to(tally, "two calls of a loop", TWICE, &lines, wanted);

@@ -7,6 +7,7 @@ use lent::state::State;
 use lent::tally::Tally;
 use reference::calls::{Answer, Word};
 use reference::composed::{Composed, Place};
+use reference::finals::Finals;
 use reference::gen::Random;
 use reference::numbers::Numbers;
 use reference::plan::{text, Form, Kind, Plan};
@@ -29,6 +30,7 @@ pub struct Met {
     /// Ends with a reading of D.
     pub at_deadline: usize,
     pub broken_off: usize,
+    pub finals: Finals,
 }
 
 impl Met {
@@ -40,6 +42,7 @@ impl Met {
         let (at_release, at_report) = (self.at_release, self.at_report);
         println!("    suspended at release in {at_release}, later in {at_report}");
         println!("    {} calls, {} refused", self.calls, self.refused);
+        println!("    final decisions: {}", self.finals);
     }
 }
 
@@ -144,13 +147,14 @@ impl<'a> World<'a> {
             deadline, switch, ..
         } = *self.plan;
         let answer = self.answer(call);
-        let Some(Answer::Decision { word, late, .. }) = answer else {
+        let Some(decision @ Answer::Decision { word, late, .. }) = answer else {
             return self.holds(false, || format!("{answer:?} for {call:?}"));
         };
         self.holds(reading <= deadline && !late, || {
             format!("{answer:?} for {call:?}")
         })?;
-        let needed = self.composed.remaining(&place) + self.composed.stretch_at(&place) + switch;
+        self.met.finals.note(self.composed, &place, decision);
+        let needed = self.composed.needed(&place);
         let held = self.open.as_ref().is_none_or(|open| open.held);
         if word == Word::Suspend {
             self.others = false;

@@ -40,12 +40,9 @@ fn decided<N: Numbers>(
     reading: u64,
     suspended: bool,
 ) -> Outcome {
-    let Plan {
-        deadline, switch, ..
-    } = *numbers.plan();
+    let deadline = numbers.plan().deadline;
     let remaining = numbers.remaining(place);
-    let stretch = numbers.stretch_at(place);
-    let margin = margin(deadline, reading, remaining, stretch, switch);
+    let margin = margin(deadline, reading, numbers.needed(place));
     let word = match (suspended, margin >= 0) {
         (true, _) => Word::Stay,
         (false, true) => Word::Go,

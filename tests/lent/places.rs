@@ -53,11 +53,12 @@ impl Standings {
         Some(first.clone())
     }
 
-    /// Whether the remaining times are the same with both histories.
+    /// Whether both histories have the same remaining times and are both final or not.
     pub fn agree(&self, listed: &Listed) -> bool {
-        self.by_stack
-            .values()
-            .all(|[first, last]| listed.times(first) == listed.times(last))
+        self.by_stack.values().all(|[first, last]| {
+            listed.times(first) == listed.times(last)
+                && listed.is_final(first) == listed.is_final(last)
+        })
     }
 
     pub fn count(&self) -> usize {

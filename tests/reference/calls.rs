@@ -71,10 +71,9 @@ impl Answer {
     }
 }
 
-/// D - elapsed - remaining - stretch - T, held at -2^62.
-pub fn margin(deadline: u64, elapsed: u64, remaining: u64, stretch: u64, switch: u64) -> i64 {
-    let taken = [elapsed, remaining, stretch, switch];
-    let exact = i128::from(deadline) - taken.iter().map(|&part| i128::from(part)).sum::<i128>();
+/// D - elapsed - what is needed, held at -2^62.
+pub fn margin(deadline: u64, elapsed: u64, needed: u64) -> i64 {
+    let exact = i128::from(deadline) - i128::from(elapsed) - i128::from(needed);
     exact.max(i128::from(LEAST_MARGIN)) as i64
 }
 
@@ -86,16 +85,26 @@ struct Running<P> {
     suspended: bool,
 }
 
+/// What is needed at a place beside the elapsed time.
+pub type Rule<N> = fn(&N, &<N as Numbers>::Place) -> u64;
+
 /// A controller; without a run under way it is idle.
 pub struct Controller<'a, N: Numbers> {
     numbers: &'a N,
+    needed: Rule<N>,
     running: Option<Running<N::Place>>,
 }
 
 impl<'a, N: Numbers> Controller<'a, N> {
     pub fn new(numbers: &'a N) -> Controller<'a, N> {
+        Controller::by_rule(numbers, N::needed)
+    }
+
+    /// One that decides by another rule, for stand-ins.
+    pub fn by_rule(numbers: &'a N, needed: Rule<N>) -> Controller<'a, N> {
         Controller {
             numbers,
+            needed,
             running: None,
         }
     }
@@ -131,9 +140,8 @@ impl<'a, N: Numbers> Controller<'a, N> {
         let next = self
             .numbers
             .report(self.place()?, usize::try_from(point).ok()?)?;
-        let plan = self.numbers.plan();
-        let needed = self.numbers.remaining(&next) + self.numbers.stretch_at(&next) + plan.switch;
-        Some(i128::from(plan.deadline) - i128::from(needed))
+        let deadline = self.numbers.plan().deadline;
+        Some(i128::from(deadline) - i128::from((self.needed)(self.numbers, &next)))
     }
 
     pub fn call(&mut self, call: Call) -> Answer {
@@ -200,16 +208,15 @@ impl<'a, N: Numbers> Controller<'a, N> {
 
     /// The decision at a place that a run has reached.
     fn decide(&mut self, place: N::Place, reading: u64, suspended: bool) -> Answer {
-        let plan = self.numbers.plan();
+        let deadline = self.numbers.plan().deadline;
         let remaining = self.numbers.remaining(&place);
-        let stretch = self.numbers.stretch_at(&place);
-        let margin = margin(plan.deadline, reading, remaining, stretch, plan.switch);
+        let margin = margin(deadline, reading, (self.needed)(self.numbers, &place));
         let word = match (suspended, margin >= 0) {
             (true, _) => Word::Stay,
             (false, true) => Word::Go,
             (false, false) => Word::Suspend,
         };
-        let late = reading > plan.deadline;
+        let late = reading > deadline;
         self.running = Some(Running {
             place,
             reading,

@@ -5,6 +5,7 @@ use std::collections::BTreeSet;
 
 use super::numbers::{Numbers, Times};
 use super::plan::{Form, Kind, Plan, MOST_LEVEL};
+use super::rules;
 
 /// Which of the two costs of a visit is summed.
 #[derive(Clone, Copy, Debug, PartialEq, Eq)]
@@ -69,17 +70,19 @@ pub struct Composed<'a> {
     tails: Vec<u128>,
     stretches: Vec<u128>,
     release_stretch: u128,
+    /// Of each function, whether a point is met in it or in what it calls.
+    with_points: Vec<bool>,
 }
 
 /// The form of the row that is the leaf or holds it, and its position.
-fn holder(forms: &[Form], leaf: usize) -> (usize, &Form) {
+pub fn holder(forms: &[Form], leaf: usize) -> (usize, &Form) {
     let position = forms.iter().rposition(|form| form.leaf <= leaf);
     let position = position.expect("the leaf lies in this row");
     (position, &forms[position])
 }
 
 /// The part of an if that holds the leaf.
-fn part_with(form: &Form, leaf: usize) -> &[Form] {
+pub fn part_with(form: &Form, leaf: usize) -> &[Form] {
     let Kind::If(then_part, else_part) = &form.kind else {
         unreachable!("an open loop or call is named in the place itself");
     };
@@ -102,6 +105,7 @@ impl<'a> Composed<'a> {
             tails: vec![0; count],
             stretches: vec![0; count],
             release_stretch: 0,
+            with_points: rules::functions_with_points(plan),
         };
         for forms in &plan.functions {
             new.set_levels(forms, 1);
@@ -309,6 +313,31 @@ impl<'a> Composed<'a> {
         }
     }
 
+    /// Whether a point can be met behind the last visit of the place, up to the end of
+    /// these forms.
+    fn point_ahead(&self, forms: &[Form], place: &[(usize, u64)]) -> bool {
+        let (leaf, visits) = place[0];
+        let (position, form) = holder(forms, leaf);
+        let ahead = match form.leaf == leaf {
+            true => self.point_ahead_within(form, visits, &place[1..]),
+            false => self.point_ahead(part_with(form, leaf), place),
+        };
+        ahead || rules::meets_point(&self.with_points, &forms[position + 1..])
+    }
+
+    /// The same within the form that the place begins with. A loop comes back to its
+    /// condition from inside its body, and from the condition where a round is left.
+    fn point_ahead_within(&self, form: &Form, visits: u64, inner: &[(usize, u64)]) -> bool {
+        match &form.kind {
+            Kind::Leaf => false,
+            Kind::Loop(bound, _) => !inner.is_empty() || visits <= *bound,
+            Kind::Call(target) if !inner.is_empty() => {
+                self.point_ahead(&self.plan.functions[*target], inner)
+            }
+            Kind::Call(_) | Kind::If(..) => rules::point_inside(&self.with_points, form),
+        }
+    }
+
     /// The places that can come next, and whether the run can end here.
     fn next(&self, place: &Place) -> (Vec<Place>, bool) {
         let main = &self.plan.functions[self.plan.main()];
@@ -411,5 +440,13 @@ impl Numbers for Composed<'_> {
 
     fn level_in_run(&self, place: &Place) -> usize {
         place.len()
+    }
+
+    fn is_final(&self, place: &Place) -> bool {
+        let main = self.plan.main();
+        match place.is_empty() {
+            true => !self.with_points[main],
+            false => !self.point_ahead(&self.plan.functions[main], place),
+        }
     }
 }

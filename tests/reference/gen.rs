@@ -85,7 +85,7 @@ pub fn small_shape(random: &mut Random) -> Shape {
         depth: 1 + random.index(4),
         bound: 1 + random.below(3),
         cost: random.pick(&[3, 10, 100, MOST_COST]),
-        points: random.pick(&[20, 50, 80]),
+        points: random.pick(&[0, 20, 20, 50, 50, 80, 80]),
         calls: random.pick(&[10, 25]),
         loops: random.pick(&[15, 25, 35]),
         ifs: random.pick(&[15, 25, 35]),
@@ -289,14 +289,17 @@ fn set_deadline(random: &mut Random, plan: &mut Plan) {
     let (total, max_load) = (numbers.total(), numbers.max_load_total());
     let stretch = numbers.release_stretch();
     let fitting = total + plan.switch;
-    let near = match random.below(7) {
+    let near = match random.below(9) {
         0 => fitting.saturating_sub(1),
         1 => fitting,
         2 => fitting + stretch,
         3 => (fitting + stretch).saturating_sub(1),
         4 => fitting + random.below(max_load + 2),
         5 => fitting + stretch + random.below(max_load + 2),
-        _ => max_load + plan.switch + random.below(total + 2),
+        6 => max_load + plan.switch + random.below(total + 2),
+        // What the dearest run takes if the others are never suspended, and a tick less.
+        7 => max_load.max(fitting),
+        _ => max_load.saturating_sub(1).max(fitting),
     };
     plan.deadline = near.clamp(1, MOST_DEADLINE);
 }
@@ -320,6 +323,15 @@ pub fn valid_plan(random: &mut Random, mut shape: Shape) -> Plan {
 
 pub fn small_plan(random: &mut Random) -> Plan {
     let shape = small_shape(random);
+    valid_plan(random, shape)
+}
+
+/// A small plan, every second time one whose functions are often called more than once.
+pub fn small_or_calling_plan(random: &mut Random) -> Plan {
+    let mut shape = small_shape(random);
+    if random.chance(50) {
+        (shape.functions, shape.calls) = (4, 50);
+    }
     valid_plan(random, shape)
 }
 

@@ -246,4 +246,9 @@ impl Numbers for Listed<'_> {
     fn level_in_run(&self, history: &Vec<usize>) -> usize {
         self.level_of_last(history)
     }
+
+    fn is_final(&self, history: &Vec<usize>) -> bool {
+        let mut runs = self.with_history(history);
+        !runs.any(|run| run.points.len() > history.len())
+    }
 }

@@ -40,12 +40,25 @@ pub trait Numbers {
     fn times(&self, place: &Self::Place) -> Times;
     /// Level of the last point in the run; 0 at the release.
     fn level_in_run(&self, place: &Self::Place) -> usize;
+    /// Whether no run with this history of reports meets a further point (02, L3); at
+    /// the release, whether no run of the plan meets any.
+    fn is_final(&self, place: &Self::Place) -> bool;
 
     /// The stretch of the last point of a place, or of the release.
     fn stretch_at(&self, place: &Self::Place) -> u64 {
         match self.last_point(place) {
             None => self.release_stretch(),
             Some(leaf) => self.stretch(leaf),
+        }
+    }
+
+    /// What the condition sets beside the elapsed time: where no run meets a further
+    /// point the stretch alone (02, L3), elsewhere remaining and T too.
+    fn needed(&self, place: &Self::Place) -> u64 {
+        let stretch = self.stretch_at(place);
+        match self.is_final(place) {
+            true => stretch,
+            false => self.remaining(place) + stretch + self.plan().switch,
         }
     }
 }

@@ -7,7 +7,7 @@ pub const MOST_TOTAL: u128 = 1 << 40;
 
 /// Whether a point is met in these forms or in what they call. `called` holds
 /// the answer for each function of a lower number.
-fn meets_point(called: &[bool], forms: &[Form]) -> bool {
+pub fn meets_point(called: &[bool], forms: &[Form]) -> bool {
     forms
         .iter()
         .any(|form| form.point || point_inside(called, form))

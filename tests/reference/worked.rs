@@ -1,7 +1,10 @@
 //! Calls on the plans that document 01 works through, each list from a fresh
 //! state, with answers worked out by hand: the marked cases m1 to m5 and m8 to
 //! m12, the edges and traps named there, and readings that tell others apart.
-//! The reference's own checks and the tests of the proved calls run them all.
+//! The reference's own checks and the tests of the proved calls run them all, with
+//! those of the last stretch.
+
+use super::worked_last::LAST_STRETCH;
 
 pub const PLAN_A: &str = "(task 100 4\n(fun\n(leaf p 5 9)\n(loop p 3 2 4\n(leaf s 10 20)\n)\n\
     (leaf s 6 8)\n)\n)\n";
@@ -32,9 +35,11 @@ pub struct Case {
     pub calls: &'static [&'static str],
 }
 
-pub const CASES: &[&[Case]] = &[ON_PLAN_A, ON_PLAN_B, ON_SMALL_PLANS, LATE];
+pub const CASES: &[&[Case]] = &[ON_PLAN_A, ON_PLAN_B, ON_SMALL_PLANS, LATE, LAST_STRETCH];
 
 const ON_PLAN_A: &[Case] = &[
+    // With margin 0 at visit 3 the last one comes by 52 + 4 + 20, with margin 0 again,
+    // and the end by 76 + 4 + 8: of the 24 ticks of its stretch this visit takes 12.
     Case {
         name: "m1, m4, m5: goes on",
         plan: PLAN_A,
@@ -44,10 +49,10 @@ const ON_PLAN_A: &[Case] = &[
             "end 0 -> refused 17",
             "report 1 9 -> go 44 19 0",
             "report 1 33 -> go 32 7 0",
-            "report 1 50 -> go 20 2 0",
-            "report 1 64 -> go 8 0 0",
-            "report 1 64 -> refused 17",
-            "end 72 -> ended 0",
+            "report 1 52 -> go 20 0 0",
+            "report 1 76 -> go 8 0 0",
+            "report 1 76 -> refused 17",
+            "end 88 -> ended 0",
         ],
     },
     Case {
@@ -79,7 +84,7 @@ const ON_PLAN_A: &[Case] = &[
             "report 1 9 -> go 44 19 0",
             "report 1 33 -> go 32 7 0",
             "report 1 57 -> suspend 20 -5 0",
-            "report 1 73 -> stay 8 -9 0",
+            "report 1 73 -> stay 8 3 0",
             "end 81 -> resume 0",
         ],
     },
@@ -92,7 +97,7 @@ const ON_PLAN_A: &[Case] = &[
             "report 1 0 -> go 44 28 0",
             "report 1 0 -> go 32 40 0",
             "report 1 0 -> go 20 52 0",
-            "report 1 65 -> suspend 8 -1 0",
+            "report 1 77 -> suspend 8 -1 0",
         ],
     },
     Case {
@@ -104,6 +109,7 @@ const ON_PLAN_A: &[Case] = &[
             "report 1 39 -> stay 44 -11 0",
             "report 1 40 -> stay 32 0 0",
             "report 1 41 -> stay 20 11 0",
+            "report 1 76 -> stay 8 0 0",
             "end 100 -> resume 0",
         ],
     },
@@ -144,7 +150,7 @@ const ON_PLAN_B: &[Case] = &[
             "release -> go 15 180 0",
             "report 1 0 -> go 15 167 0",
             "report 4 0 -> go 4 189 0",
-            "report 0 0 -> go 3 188 0",
+            "report 0 0 -> go 3 196 0",
             "end 9 -> ended 0",
         ],
     },
@@ -160,7 +166,7 @@ const ON_PLAN_B: &[Case] = &[
             "end 0 -> refused 17",
             "report 4 0 -> go 4 189 0",
             "end 0 -> refused 17",
-            "report 0 0 -> go 3 188 0",
+            "report 0 0 -> go 3 196 0",
             "end 0 -> ended 0",
         ],
     },
@@ -180,25 +186,25 @@ const ON_SMALL_PLANS: &[Case] = &[
         name: "m11: D 10",
         plan: smallest!(10),
         calls: &[
-            "release -> suspend 7 -9 0",
+            "release -> go 7 1 0",
             "release -> refused 12",
-            "end 10 -> resume 0",
+            "end 10 -> ended 0",
         ],
     },
     Case {
         name: "m11: D 18",
         plan: smallest!(18),
-        calls: &["release -> suspend 7 -1 0", "end 18 -> resume 0"],
+        calls: &["release -> go 7 9 0", "end 18 -> ended 0"],
     },
     Case {
         name: "m12",
         plan: smallest!(19),
-        calls: &["release -> go 7 0 0", "end 19 -> ended 0"],
+        calls: &["release -> go 7 10 0", "end 19 -> ended 0"],
     },
     Case {
         name: "m12: late",
         plan: smallest!(19),
-        calls: &["release -> go 7 0 0", "end 20 -> ended 1"],
+        calls: &["release -> go 7 10 0", "end 20 -> ended 1"],
     },
     Case {
         name: "no forms",
@@ -220,7 +226,7 @@ const ON_SMALL_PLANS: &[Case] = &[
             "report 0 0 -> refused 17",
             "report 2 0 -> go 3 95 0",
             "report 0 0 -> go 2 96 0",
-            "report 0 0 -> go 1 97 0",
+            "report 0 0 -> go 1 98 0",
             "report 0 0 -> refused 17",
             "end 0 -> ended 0",
         ],
@@ -263,6 +269,33 @@ const LATE: &[Case] = &[
             "report 1 4611686018427387942 -> stay 44 -4611686018427387904 1",
             "report 1 9223372036854775808 -> stay 32 -4611686018427387904 1",
             "report 1 18446744073709551615 -> stay 20 -4611686018427387904 1",
+            "end 18446744073709551615 -> resume 1",
+        ],
+    },
+    // 2^62 + 100 - 24 has it at the last point.
+    Case {
+        name: "a margin above the least at the last point",
+        plan: PLAN_A,
+        calls: &[
+            "release -> go 49 47 0",
+            "report 0 0 -> go 49 38 0",
+            "report 1 0 -> go 44 28 0",
+            "report 1 0 -> go 32 40 0",
+            "report 1 0 -> go 20 52 0",
+            "report 1 4611686018427387979 -> suspend 8 -4611686018427387903 1",
+            "end 4611686018427387979 -> resume 1",
+        ],
+    },
+    Case {
+        name: "a margin is held at -2^62 at the last point",
+        plan: PLAN_A,
+        calls: &[
+            "release -> go 49 47 0",
+            "report 0 0 -> go 49 38 0",
+            "report 1 0 -> go 44 28 0",
+            "report 1 0 -> go 32 40 0",
+            "report 1 0 -> go 20 52 0",
+            "report 1 4611686018427387981 -> suspend 8 -4611686018427387904 1",
             "end 18446744073709551615 -> resume 1",
         ],
     },

@@ -2,6 +2,7 @@
 //! own checks and the test of the program run them all.
 
 use super::worked::{smallest, EMPTY, PLAN_A, PLAN_B};
+use super::worked_last::TWO_CALLS;
 
 pub struct Case {
     pub name: &'static str,
@@ -20,7 +21,7 @@ const ON_PLAN_A: &[Case] = &[
         name: "plan A's worst case",
         plan: PLAN_A,
         log: "release\npoint 0 0\npoint 1 9\npoint 1 33\npoint 1 57\npoint 1 73\nend 81\n",
-        printed: "go 49 47 0\ngo 49 38 0\ngo 44 19 0\ngo 32 7 0\nsuspend 20 -5 0\nstay 8 -9 0\n\
+        printed: "go 49 47 0\ngo 49 38 0\ngo 44 19 0\ngo 32 7 0\nsuspend 20 -5 0\nstay 8 3 0\n\
             resume 0\n57 24 81\n",
     },
     // The refused lines have readings of their own; none of them ends a gap.
@@ -55,6 +56,18 @@ const ON_PLAN_A: &[Case] = &[
         printed: "go 49 47 0\nsuspend 49 -1 0\nstay 44 -11 0\nstay 32 0 0\nstay 20 11 0\n\
             resume 0\n39 61 100\n",
     },
+    // The last visit goes on at 76 and not at 77; then the switch takes 4, the loop 2 and
+    // what follows it 6.
+    Case {
+        name: "the last visit of plan A's loop (m5)",
+        plan: PLAN_A,
+        log: "release\npoint 0 0\npoint 1 9\npoint 1 33\npoint 1 52\npoint 1 76\nend 88\n\
+            release\npoint 0 0\npoint 1 9\npoint 1 33\npoint 1 52\npoint 1 77\nend 89\n",
+        printed: "go 49 47 0\ngo 49 38 0\ngo 44 19 0\ngo 32 7 0\ngo 20 0 0\ngo 8 0 0\n\
+            ended 0\n88 0 88\n\
+            go 49 47 0\ngo 49 38 0\ngo 44 19 0\ngo 32 7 0\ngo 20 0 0\nsuspend 8 -1 0\n\
+            resume 0\n77 12 89\n",
+    },
 ];
 
 const ON_OTHER_PLANS: &[Case] = &[
@@ -62,22 +75,32 @@ const ON_OTHER_PLANS: &[Case] = &[
         name: "plan B by its else part (m8)",
         plan: PLAN_B,
         log: "release\npoint 1 3\npoint 0 6\npoint 4 16\npoint 0 18\nend 22\n",
-        printed: "go 15 180 0\ngo 15 164 0\nrefused 17\ngo 4 173 0\ngo 3 170 0\nended 0\n\
+        printed: "go 15 180 0\ngo 15 164 0\nrefused 17\ngo 4 173 0\ngo 3 178 0\nended 0\n\
             22 0 22\n",
     },
-    // At release 30 - 10 - 20 - 2 is below 0, at the point 30 - 7 - 5 - 9 - 2 is not.
+    // The same point suspends at 11 in the first call and goes on at 20 in the second.
+    Case {
+        name: "a function called twice",
+        plan: TWO_CALLS,
+        log: "release\npoint 1 0\npoint 0 10\npoint 2 20\npoint 0 20\nend 30\n\
+            release\npoint 1 0\npoint 0 11\npoint 2 20\npoint 0 20\nend 30\n",
+        printed: "go 6 19 0\ngo 6 18 0\ngo 5 0 0\ngo 3 1 0\ngo 2 0 0\nended 0\n30 0 30\n\
+            go 6 19 0\ngo 6 18 0\nsuspend 5 -1 0\nstay 3 1 0\nstay 2 0 0\nresume 0\n\
+            11 19 30\n",
+    },
+    // At release 30 - 10 - 20 - 2 is below 0, at the last point 30 - 7 - 9 is not.
     Case {
         name: "suspended from the release on",
         plan: "(task 30 2\n(fun\n(leaf s 5 20)\n(leaf p 5 9)\n)\n)\n",
         log: "release\npoint 1 7\nend 12\n",
-        printed: "suspend 10 -2 0\nstay 5 7 0\nresume 0\n0 12 12\n",
+        printed: "suspend 10 -2 0\nstay 5 14 0\nresume 0\n0 12 12\n",
     },
-    // With two ticks more the release goes on, and 32 - 20 - 5 - 9 - 2 is below 0.
+    // With two ticks more the release goes on, and 32 - 20 - 13 is below 0.
     Case {
         name: "the gap before the first report is the release's",
-        plan: "(task 32 2\n(fun\n(leaf s 5 20)\n(leaf p 5 9)\n)\n)\n",
+        plan: "(task 32 2\n(fun\n(leaf s 5 20)\n(leaf p 5 13)\n)\n)\n",
         log: "release\npoint 1 20\nend 27\n",
-        printed: "go 10 0 0\nsuspend 5 -4 0\nresume 0\n20 7 27\n",
+        printed: "go 10 0 0\nsuspend 5 -1 0\nresume 0\n20 7 27\n",
     },
     Case {
         name: "unfit (m10)",
@@ -85,18 +108,26 @@ const ON_OTHER_PLANS: &[Case] = &[
         log: "release\nend 5\nrelease\npoint 0 0\nrelease 9\n",
         printed: "refused 13\nrefused 14\nrefused 13\nrefused 14\nrefused 18\n",
     },
+    // 10 - 9 at release, with 7 + 3 just within the deadline.
     Case {
-        name: "suspended at release (m11)",
+        name: "goes on at release (m11)",
         plan: smallest!(10),
         log: "release\nend 10\nrelease\npoint 0 4\nend 11\n",
-        printed: "suspend 7 -9 0\nresume 0\n0 10 10\nsuspend 7 -9 0\nrefused 15\nresume 1\n\
+        printed: "go 7 1 0\nended 0\n10 0 10\ngo 7 1 0\nrefused 15\nended 1\n11 0 11\n",
+    },
+    // The same with 20 ticks under load: 10 - 20.
+    Case {
+        name: "suspended at release, and no point comes",
+        plan: "(task 10 3\n(fun\n(leaf s 7 20)\n)\n)\n",
+        log: "release\nend 10\nrelease\npoint 0 4\nend 11\n",
+        printed: "suspend 7 -10 0\nresume 0\n0 10 10\nsuspend 7 -10 0\nrefused 15\nresume 1\n\
             0 11 11\n",
     },
     Case {
         name: "goes on from release to end (m12)",
         plan: smallest!(19),
         log: "release\nend 19\nrelease\nend 20\n",
-        printed: "go 7 0 0\nended 0\n19 0 19\ngo 7 0 0\nended 1\n20 0 20\n",
+        printed: "go 7 10 0\nended 0\n19 0 19\ngo 7 10 0\nended 1\n20 0 20\n",
     },
     Case {
         name: "no forms",
@@ -167,12 +198,12 @@ const ENDS: &[Case] = &[
         log: "release\nend 0\n",
         printed: "refused 19 4\n",
     },
-    // Alone it takes nothing, under load 5 + 4 + 3 * 4 up to its end; 100 - 21 - 4 = 75.
+    // Alone it takes nothing, under load 5 + 4 + 3 * 4 up to its end; 100 - 21 = 79.
     Case {
         name: "the same plan with a silent leaf that costs nothing",
         plan: "(task 100 4\n(fun\n(leaf s 0 5)\n(loop s 3 0 4\n)\n)\n)\n",
         log: "release\npoint 1 0\nend 9\n",
-        printed: "go 0 75 0\nrefused 15\nended 0\n9 0 9\n",
+        printed: "go 0 79 0\nrefused 15\nended 0\n9 0 9\n",
     },
     Case {
         name: "an empty plan",

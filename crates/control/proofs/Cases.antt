@@ -7,7 +7,7 @@ use Rattle.model.specs.Forms.{forms, linked, last, _⊕_}
 use Rattle.model.specs.Total.{total}
 use Rattle.model.specs.Stretch.{silence, rounds-silence, stretch, rounds-stretch}
 use Rattle.model.specs.Acceptance.{Accepted}
-use Rattle.model.specs.Places.{passes, seek, onward, can-end}
+use Rattle.model.specs.Places.{passes, seek, onward, can-end, no-more, no-further}
 use Rattle.model.specs.Stack.{behind, below, whole, kept, seek-at, onward-at, suffix, turned, inside-of, decode}
 use Rattle.model.specs.Histories.{Exchange, Answered}
 use Rattle.model.specs.Controller.{is-point, respond}
@@ -42,7 +42,7 @@ right : (c : Case) → Accepted (c .plan) → table-of (c .plan) .head .total �
 right c a t m s e = record { accepted = a; total-is = t; max-total-is = m; stretches-are = s; answered = on-plans (c .plan) a fresh (c .exchanges) e }
 
 pub cases-right : CasesHold cases
-unfolding cases worst-of-A CasesHold AnsweredOn plan-A plan-B smallest plans.leaves all-leaves forms linked last total silence rounds-silence stretch rounds-stretch passes seek onward can-end behind below whole kept seek-at onward-at suffix turned inside-of decode is-point respond frames points? same-numbers _⊕_
+unfolding cases worst-of-A CasesHold AnsweredOn plan-A plan-B smallest plans.leaves all-leaves forms linked last total silence rounds-silence stretch rounds-stretch passes seek onward can-end no-more no-further behind below whole kept seek-at onward-at suffix turned inside-of decode is-point respond frames points? same-numbers _⊕_
 cases-right = (
   right _ plan-A-accepted refl refl refl (refl, (refl, (refl, (refl, (refl, (refl, (refl, tt))))))),
   (

@@ -15,7 +15,7 @@ use Rattle.model.specs.Total.{total}
 use Rattle.model.specs.Stretch.{stretch}
 use Rattle.model.specs.Levels.{framed}
 use Rattle.model.specs.Acceptance.{sizes, Accepted}
-use Rattle.model.specs.Places.{seek}
+use Rattle.model.specs.Places.{seek, no-further}
 use Rattle.model.specs.Stack.{Levels, whole, onto, onward-at, decode, times}
 use Rattle.model.specs.declared.Call.the-variants.{Report}
 use Rattle.model.specs.declared.Others.{Others}
@@ -33,7 +33,7 @@ use Rattle.rows.specs.Plans.{Plan-in}
 use Rattle.place.specs.declared.Place.{Place}
 use Rattle.place.proofs.Entries.{times-are}
 use Rattle.place.proofs.Counts.{counts-tell}
-use Rattle.place.proofs.Meaning.{first-times, later-times, depth-is, points, decoded, clocked, next-place-is, next-times-are, first-place-is}
+use Rattle.place.proofs.Meaning.{first-times, later-times, depth-is, points, decoded, clocked, next-place-is, next-times-are, last-point-is, first-place-is}
 use Rattle.table.specs.declared.Head.{Head}
 use Rattle.table.proofs.Written.{stretches-size}
 use Rattle.control.specs.declared.State.{State}
@@ -165,6 +165,14 @@ module _ {row turns tails : List ℕ} {h : Head} {s : State} {x : Place} {str : 
   new-times new e t =
       next-times-are here ok d (x .leaves) (x .earlier) (x .level) (k .new .levels) (k .new .least) (k .new .decodes) new-points (filled-here (k .lent)) (k .new .most) (s .times) new lower e t
 
+  -- What `last_point` asks for, and what it says.
+  pub decoded-here : Decoded row (h .bounds) (h .functions) (x .leaves) (x .earlier) (x .level)
+  decoded-here = rw (count-here (k .lent .rowed)) (decoded here ok d (x .leaves) (x .earlier) (x .level) (k .new .levels) (k .new .least) (k .new .decodes) new-points)
+
+  last-here : {r : Bool} → ((q : Decoded row (h .bounds) (h .functions) (x .leaves) (x .earlier) (x .level)) → r ≡ no-further (whole (q .levels))) → r ≡ no-further (whole (k .new .levels))
+  last-here {r} e =
+      last-point-is here ok d (x .leaves) (x .earlier) (x .level) (k .new .levels) (k .new .least) (k .new .decodes) new-points r (rw (count-here (k .lent .rowed)) at e)
+
   pub new-time : {new : List ℕ} → new ≡ times (main here) (k .new .levels) → getD new (x .level) 0 ≡ total C (whole (k .new .levels))
   new-time {new} e =
       ap (λ ts. getD ts (x .level) 0) e ∙
@@ -203,17 +211,19 @@ module _ {row turns tails : List ℕ} {h : Head} {s : State} {x : Place} {str : 
         record { running = true; others = others; reading = reading; level = sym new-depth i; leaves = leaves-are i; earlier = earlier-are i; times = e i }
 
     -- And the decision there is the document's.
-    pub arrived-here : (new : List ℕ) (reading : ℕ) → new ≡ times (main here) (k .new .levels) → (w : Weighing) →
-        w ≡ weighing here (record { remaining = getD new (x .level) 0; stretch = str }) reading (s .others) →
+    pub arrived-here : (new : List ℕ) (reading : ℕ) → new ≡ times (main here) (k .new .levels) → {r : Bool} →
+        ((q : Decoded row (h .bounds) (h .functions) (x .leaves) (x .earlier) (x .level)) → r ≡ no-further (whole (q .levels))) → (w : Weighing) →
+        w ≡ weighing here (record { remaining = getD new (x .level) 0; stretch = str; last = r }) reading (s .others) →
         _≡_ {A = Step}
         (record {
           answer = w .answer;
           state = record { running = true; others = w .others; reading = reading; level = x .level; leaves = x .leaves; earlier = x .earlier; times = new };
         })
         (as-step (arrived here s (k .point) (k .new .levels) reading))
-    arrived-here new reading e w dec =
+    arrived-here new reading e {r} f w dec =
         let u = outlook here (at-report (k .point) (k .new .levels)) in
-        let z : _≡_ {A = Outlook} (record { remaining = getD new (x .level) 0; stretch = str }) u = λ i. record { remaining = new-time e i; stretch = k .stretch-is i } in
+        let z : _≡_ {A = Outlook} (record { remaining = getD new (x .level) 0; stretch = str; last = r }) u =
+        λ i. record { remaining = new-time e i; stretch = k .stretch-is i; last = last-here f i } in
         let d : w ≡ weighing here u reading (s .others) = dec ∙ ap (λ y. weighing here y reading (s .others)) z in
         let m = moved-on new reading (w .others) e ∙ ap (λ y. state-at-report here s (k .point) (k .new .levels) reading (y .others)) d in
         λ i. record { answer = d i .answer; state = m i }

@@ -1,14 +1,14 @@
 // The controller's state, and its calls on a table.
 ghost use mathlib.Core.Path.{_≡_};
 ghost use mathlib.Core.Option.{some};
-ghost use Prim.Native.Nat.{_+_, _*_, _^_, _≤_};
+ghost use Prim.Native.Nat.{_+_, _-_, _*_, _^_, _≤_};
 ghost use lib.ListN.{length};
 ghost use lib.Signed.{nonNeg};
 ghost use Rattle.model.specs.Forms.{main};
 ghost use Rattle.model.specs.Stack.{Levels};
 ghost use Rattle.model.specs.declared.Call.the-variants.{Release, Report, End};
 ghost use Rattle.model.specs.Calls.{others-by-word, refuse};
-ghost use Rattle.model.specs.Decisions.{margin, word};
+ghost use Rattle.model.specs.Decisions.{reserve, margin, word};
 ghost use Rattle.model.specs.Controller.{idle, next-levels, can-close, ending};
 ghost use Rattle.rows.specs.Rows.{point-at};
 ghost use Rattle.rows.specs.Answers.{Says};
@@ -28,8 +28,10 @@ use place::Place;
 use place::can_end;
 use place::first_end;
 use place::first_place;
+use place::last_point;
 use place::next_place;
 use place::next_times;
+use place::no_point;
 use place::place_ok;
 use place::times_ok;
 use place::zero_above;
@@ -103,13 +105,23 @@ pub fn fresh() -> State
     }
 }
 
+// What is left of `left` behind what is kept free: remaining and switch cost, or nothing where no further point can come.
+fn less_reserve(left: u64, switch: u64, outlook: Outlook) -> u64
+    ensures { λ r. ⌜ r ≡ left - reserve (terms 0 switch) outlook ⌝ }
+{
+    if outlook.last {
+        return left;
+    }
+    less(less(left, outlook.remaining), switch)
+}
+
 // The margin, held at -2^62: what is left of D and 2^62 together, less 2^62.
 fn margin_of(deadline: u64, switch: u64, outlook: Outlook, reading: u64) -> i64
     requires { ⌜ deadline ≤ 2 ^ 40 ⌝ }
     ensures { λ r. ⌜ r ≡ margin (terms deadline switch) outlook reading ⌝ }
 {
-    let costs = less(less(deadline + FLOOR, outlook.remaining), outlook.stretch);
-    let left = less(less(costs, switch), reading);
+    let free = less_reserve(deadline + FLOOR, switch, outlook);
+    let left = less(less(free, outlook.stretch), reading);
     left as i64 - FLOOR as i64
 }
 
@@ -176,17 +188,20 @@ fn open_at(total: u64, others: Others) -> State
 }
 
 // A release where none is open: 13, or the decision.
-fn start(head: Head, state: State) -> Step
-    requires { ⌜ Headed head ⌝ }
-    ensures { λ r. ⌜ ((q : Headed head) → r ≡ as-step (reply (q .plan) state idle Release)) ⌝ }
+fn start(row: &[u64], head: Head, state: State) -> Step
+    requires { ⌜ Rowed (now row) head ⌝ }
+    ensures { λ r. ⌜ ((q : Rowed (now (row .entry)) head) → r ≡ as-step (reply (q .head .plan) state idle Release)) ⌝ }
 {
     let total = head.total;
     if head.deadline < total + head.switch {
         return refusal(state, UNFIT);
     }
+    let bounds = head.bounds;
+    let last = no_point(row, &bounds, head.functions);
     let outlook = Outlook {
         remaining: total,
         stretch: head.stretch,
+        last: last,
     };
     let w = weigh(head, outlook, 0, Others::Running);
     let answer = w.answer;
@@ -286,12 +301,15 @@ fn arrive(
         → r ≡ as-step (arrived (k .lent .rowed .head .plan) state (k .point) (k .new .levels) reading)) ⌝ }
 {
     let totals = head.totals;
+    let bounds = head.bounds;
     let level = place.level;
     let old = state.times;
     let times = next_times(row, tails, turns, &totals, place, old);
+    let last = last_point(row, &bounds, head.functions, place);
     let outlook = Outlook {
         remaining: times[level],
         stretch: stretch,
+        last: last,
     };
     let before = state.others;
     let w = weigh(head, outlook, reading, before);
@@ -392,12 +410,12 @@ fn closed_at(row: &[u64], head: Head, state: State, reading: u64) -> Step
 }
 
 // A call where no release is open: 13 or the decision; 14.
-fn idle_call(head: Head, state: State, call: Call) -> Step
-    requires { ⌜ Headed head ⌝ }
-    ensures { λ r. ⌜ ((q : Headed head) → r ≡ as-step (reply (q .plan) state idle call)) ⌝ }
+fn idle_call(row: &[u64], head: Head, state: State, call: Call) -> Step
+    requires { ⌜ Rowed (now row) head ⌝ }
+    ensures { λ r. ⌜ ((q : Rowed (now (row .entry)) head) → r ≡ as-step (reply (q .head .plan) state idle call)) ⌝ }
 {
     match call {
-        Call::Release => start(head, state),
+        Call::Release => start(row, head, state),
         Call::Report(_, _) => refusal(state, IDLE),
         Call::End(_) => refusal(state, IDLE),
     }
@@ -451,11 +469,11 @@ pub fn checked_call(
     if !checked {
         return refusal(state, BROKEN);
     }
-    if !state.running {
-        return idle_call(head, state, call);
-    }
     let n = head.leaves;
     let size = n * STRIDE;
+    if !state.running {
+        return idle_call(&row[..size], head, state, call);
+    }
     if !stands(&row[..size], &turns[..n], &tails[..n], head, state) {
         return refusal(state, BROKEN);
     }

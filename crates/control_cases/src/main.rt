@@ -1,5 +1,5 @@
-// Plays the marked cases m1 to m12 of document 01 and prints each answer as the document has it. What must be printed is worked out by hand beside each
-// list of calls, and stands in the file stdout.
+// Plays the marked cases m1 to m12 of document 01, m5 and m11 as document 02 (L3) has them, and prints each answer. What must be printed is worked out by
+// hand beside each list of calls, and stands in the file stdout.
 use control::call;
 use control::call_from;
 use control::fresh;
@@ -69,7 +69,8 @@ fn release(text: &[u8]) {
     play(text, &[0, 0, 0]);
 }
 
-// Plan A: D 100, T 4; stretches 0 (release), 9 and 24. The margin is 100 less reading, remaining, stretch and 4.
+// Plan A: D 100, T 4; stretches 0 (release), 9 and 24. The margin is 100 less reading, remaining, stretch and 4; at the fourth visit of the loop, behind
+// which no point can come, 100 less reading and 24.
 fn plan_a(calls: &[u64]) {
     play(
         b"(task 100 4\n(fun\n(leaf p 5 9)\n(loop p 3 2 4\n(leaf s 10 20)\n)\n(leaf s 6 8)\n)\n)\n",
@@ -77,7 +78,7 @@ fn plan_a(calls: &[u64]) {
     );
 }
 
-// Plan B: D 200, T 5; stretches 0 (release), 4, 13, 2 and 2 of the points 0, 1, 2 and 4.
+// Plan B: D 200, T 5; stretches 0 (release), 4, 13, 2 and 2 of the points 0, 1, 2 and 4. No point can come behind 1, 4, 0.
 fn plan_b(calls: &[u64]) {
     play(
         b"(task 200 5\n(fun\n(leaf p 3 4)\n)\n(fun\n(if p 2 3\n(then\n(call p 0 1 2)\n)\n(else\n(leaf s 9 10)\n)\n)\n(call p 0 1 2)\n)\n)\n",
@@ -107,10 +108,10 @@ fn rounds_of_a() {
             50,
             1,
             1,
-            64,
+            76,
             1,
             1,
-            64,
+            76,
         ],
     );
 }
@@ -125,7 +126,7 @@ fn edge_of_a() {
 
 // Plays runs that suspend the others.
 fn suspensions_of_a() {
-    // m3: visit 3 at 57 gives suspend 20 -5, visit 4 at 73 stay 8 -9, and the end at 81 resumes.
+    // m3: visit 3 at 57 gives suspend 20 -5, visit 4 at 73 stay 8 3, and the end at 81 resumes.
     plan_a(
         &[
             0,
@@ -151,8 +152,8 @@ fn suspensions_of_a() {
             81,
         ],
     );
-    // m5: visit 4 at 65 gives suspend 8 -1.
-    plan_a(&[0, 0, 0, 1, 0, 0, 1, 1, 9, 1, 1, 33, 1, 1, 50, 1, 1, 65]);
+    // m5: visit 4 at 77 gives suspend 8 -1.
+    plan_a(&[0, 0, 0, 1, 0, 0, 1, 1, 9, 1, 1, 33, 1, 1, 50, 1, 1, 77]);
 }
 
 // m1 to m5.
@@ -164,7 +165,7 @@ fn cases_of_a() {
 
 // m6 to m9.
 fn cases_of_b() {
-    // m6 to m9: go 15 180, go 15 167, go 4 189, go 3 188, ended.
+    // m6 to m9: go 15 180, go 15 167, go 4 189, go 3 196, ended.
     plan_b(&[0, 0, 0, 1, 1, 0, 1, 4, 0, 1, 0, 0, 2, 0, 9]);
     // m8 and m9: go 15 180, go 15 167, then point 0 is 17, then go 8 185 and go 7 184.
     plan_b(&[0, 0, 0, 1, 1, 0, 1, 0, 0, 1, 2, 0, 1, 0, 0]);
@@ -174,10 +175,10 @@ fn cases_of_b() {
 fn smallest_cases() {
     // m10: D 9 is 13.
     release(b"(task 9 3\n(fun\n(leaf s 7 9)\n)\n)\n");
-    // m11: D 10 gives suspend 7 -9, and D 18 suspend 7 -1.
+    // m11: D 10 gives go 7 1, and D 18 go 7 9.
     release(b"(task 10 3\n(fun\n(leaf s 7 9)\n)\n)\n");
     release(b"(task 18 3\n(fun\n(leaf s 7 9)\n)\n)\n");
-    // m12: D 19 gives go 7 0.
+    // m12: D 19 gives go 7 10.
     release(b"(task 19 3\n(fun\n(leaf s 7 9)\n)\n)\n");
 }
 

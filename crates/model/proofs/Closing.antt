@@ -13,7 +13,7 @@ use Rattle.model.proofs.Steps.{Step, past, into, out, again, first, sec
 use Rattle.model.proofs.Places.{reports-append, or-true, traceable-after}
 use Rattle.model.proofs.Located.{mute-passes, pick-true, or-and}
 
-both : (p q : Bool) → (p && q) ≡ true → (p ≡ true) × (q ≡ true)
+pub both : (p q : Bool) → (p && q) ≡ true → (p ≡ true) × (q ≡ true)
 both true q e = (refl, e)
 both false q e = absurd (let z : _≡_ {A = ℕ} 0 1 = cc in omega arith)
 
@@ -88,7 +88,7 @@ no-report b w e = go (b .point) refl e
     go true h e = absurd (let z : _≡_ {A = ℕ} 0 1 = cc in omega arith)
     go false h e = (h, e)
 
-no-reports : (b : Block) (v w : List Block) → reports (b ∷ (v ++ w)) ≡ [] → (b .point ≡ false) × (reports v ≡ []) × (reports w ≡ [])
+pub no-reports : (b : Block) (v w : List Block) → reports (b ∷ (v ++ w)) ≡ [] → (b .point ≡ false) × (reports v ≡ []) × (reports w ≡ [])
 no-reports b v w e = let (p, q) = no-report b (v ++ w) e in let z = go (reports v) (reports w) (sym (reports-append v w) ∙ q) in (p, z .0, z .1)
   where
     go : (x y : List ℕ) → x ++ y ≡ [] → (x ≡ []) × (y ≡ [])

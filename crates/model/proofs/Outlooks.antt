@@ -16,6 +16,7 @@ use Rattle.model.proofs.Silence.{release-stretch}
 use Rattle.model.proofs.Stretches.{stretch-visited}
 use Rattle.model.proofs.Places.{remaining-total}
 use Rattle.model.proofs.Located.{locate-sound}
+use Rattle.model.proofs.Final.{no-more-exact, no-further-exact}
 use Rattle.model.proofs.Histories.{locate-first, locate-more}
 use Rattle.model.proofs.Trails.{locate-at, follow-at, and-then, locate-snoc, locate-flat}
 use Rattle.model.proofs.Nexts.{Top, TopPlace, found, next-top}
@@ -68,7 +69,7 @@ module _ (p : Plan) where
 
   -- The outlook there.
   pub outlook-is : Traceable (main p) → (x : Place) (h : List ℕ) → Stands x h → OutlookAt p h (outlook p x)
-  outlook-is t at-release h e = rw e (record { remaining-is = total-largest C (main p); stretch-is = release-stretch M (main p) })
+  outlook-is t at-release h e = rw e (record { remaining-is = total-largest C (main p); stretch-is = release-stretch M (main p); last-is = no-more-exact (main p) t })
   outlook-is t (at-report m ls) h st =
       let (n, k, e, d, l, s) = st in
       let (v, r) = locate-sound (main p) (n ∷ k) (whole ls) t (rw e at (stands-located m ls h st)) in
@@ -78,4 +79,5 @@ module _ (p : Plan) where
       (record {
         remaining-is = rw r at (remaining-total t v);
         stretch-is = rw d (stretch-visited M m (main p) (record { at = u; point = ap (λ z. z .point) b ∙ v .point; number = ap (λ z. z .number) b ∙ q }));
+        last-is = rw r at (no-further-exact t v);
       })

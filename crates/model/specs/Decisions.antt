@@ -1,7 +1,9 @@
--- The decision (01): what a release and a report weigh, the condition and the margin (001, formula 1: the safety condition), and the answer.
+-- The decision (01; 02, L3): what a release and a report weigh, the condition and the margin (001, formula 1: the safety condition), and the answer.
 -- Assumes nothing: these are definitions.
 use mathlib.Core.Bool.{Bool, true, false}
 use mathlib.Core.List.{List, [], _∷_}
+use mathlib.Core.Logic.{_↔_}
+use mathlib.Core.Path.{_≡_}
 use Prim.Native.Nat.{ℕ, _+_, _-_, _^_, _≤_}
 use lib.Dec.{leb, ltb}
 use lib.IntN.{ℤ, negsuc, subℕ}
@@ -9,11 +11,11 @@ use lib.Signed.{leZ}
 use Rattle.model.specs.Plan.{C, M, Plan}
 use Rattle.model.specs.Forms.{Forms, main}
 use Rattle.model.specs.Total.{Total, total}
-use Rattle.model.specs.Remaining.{Remaining}
+use Rattle.model.specs.Remaining.{Final, Remaining}
 use Rattle.model.specs.Stretch.{Stretch, ReleaseStretch, silence, stretch}
-use Rattle.model.specs.Places.{pick}
+use Rattle.model.specs.Places.{pick, no-more, no-further}
 use Rattle.model.specs.Stack.{Levels, whole}
--- Outlook: what a decision weighs, the remaining time and the stretch (01), a struct of the code.
+-- Outlook: what a decision weighs, the remaining time and the stretch (01), and whether no further point can come (02, L3), a struct of the code.
 pub use Rattle.model.specs.declared.Outlook.{Outlook}
 use Rattle.model.specs.Calls.{Word, Go, Suspend, Stay, Answer, Decided, Others, Running, Suspended}
 
@@ -38,6 +40,7 @@ StretchAt p (n ∷ h) = Stretch M (main p) (last-of n h)
 pub record OutlookAt (p : Plan) (h : List ℕ) (o : Outlook) : Type 0 where
   pub remaining-is : RemainingAt p h (o .remaining)
   pub stretch-is : StretchAt p h (o .stretch)
+  pub last-is : (o .last ≡ true) ↔ Final (main p) h
 
 -- BY COMPUTATION, at a place
 
@@ -48,20 +51,25 @@ pub data Place : Type 0 where
 
 -- The outlook between visits, where the forms are left to run. Of the main function it is that of the release.
 abbrev pub ahead : Forms → Outlook
-ahead fs = record { remaining = total C fs; stretch = silence M fs 0 }
+ahead fs = record { remaining = total C fs; stretch = silence M fs 0; last = no-more fs }
 
 -- The outlook at a decision there.
 abbrev pub outlook : Plan → Place → Outlook
 outlook p at-release = ahead (main p)
-outlook p (at-report n ls) = record { remaining = total C (whole ls); stretch = stretch M n (main p) 0 }
+outlook p (at-report n ls) = record { remaining = total C (whole ls); stretch = stretch M n (main p) 0; last = no-further (whole ls) }
 
 -- THE RULE
 
--- What is weighed against D − elapsed: remaining + stretch + T.
-abbrev pub need : Plan → Outlook → ℕ
-need p o = o .remaining + o .stretch + p .switch
+-- What is kept free behind the stretch, for the switch at the next point and all that is left then: remaining + T (01); where no further point can come,
+-- nothing (02, L3).
+abbrev pub reserve : Plan → Outlook → ℕ
+reserve p o = pick (o .last) 0 (o .remaining + p .switch)
 
--- Condition (01): remaining + stretch + T ≤ D − elapsed, with the elapsed time on the other side, so that nothing is cut off at 0.
+-- What is weighed against D − elapsed: remaining + stretch + T (01), or the stretch alone (02, L3).
+abbrev pub need : Plan → Outlook → ℕ
+need p o = reserve p o + o .stretch
+
+-- Condition (01; 02, L3): what is weighed ≤ D − elapsed, with the elapsed time on the other side, so that nothing is cut off at 0.
 abbrev pub Condition : Plan → Outlook → ℕ → Type 0
 Condition p o elapsed = need p o + elapsed ≤ p .deadline
 
@@ -69,7 +77,8 @@ Condition p o elapsed = need p o + elapsed ≤ p .deadline
 abbrev pub holds : Plan → Outlook → ℕ → Bool
 holds p o elapsed = leb (need p o + elapsed) (p .deadline)
 
--- Margin (01): D − elapsed − remaining − stretch − T, a signed number; one that would lie below −2^62 is given as −2^62.
+-- Margin (01; 02, L3): D − elapsed − remaining − stretch − T, or D − elapsed − stretch, a signed number; one that would lie below −2^62 is given as
+-- −2^62.
 abbrev pub lowest : ℤ
 lowest = negsuc (2 ^ 62 - 1)
 

@@ -1,183 +1,247 @@
--- Whether a run can end behind a report, and the first report: from what the scans answered. Assumes nothing.
+-- Whether a run can end behind a report, whether a further point can come there, and the first report: from what the walks answered. Assumes nothing.
 use mathlib.Core.Path.{_≡_, refl, sym, ap, _∙_}
 use mathlib.Core.Bool.{Bool, true, false, _&&_, _||_}
 use mathlib.Core.List.{List, [], _∷_}
-use mathlib.Core.Logic.{_⊎_, inl, inr}
-use mathlib.Core.Option.{Option, none, some}
+use mathlib.Core.Logic.{inl, inr}
+use mathlib.Core.Option.{Option, some}
 use Prim.Native.Nat.{ℕ, zero, suc, _+_, _-_, _≤_}
 use native.Mathlib.Omega.{arith}
-use lib.Dec.{eqb}
+use native.Mathlib.Decide.{decLe}
 use lib.ListN.{length, getD}
-use borrow.Author.Tests.{eqb-true, eqb-false, eq-eqb}
+use borrow.Author.Tests.{eq-eqb}
 use Rattle.model.specs.Plan.{Block}
 use Rattle.model.specs.Forms.{Forms, done, leaf, call, loop, cond, _⊕_, forms}
-use Rattle.model.specs.Places.{pick, passes, seek, can-end}
+use Rattle.model.specs.Places.{passes, seek, can-end, no-more, no-further}
 use Rattle.model.specs.Stack.{Levels, behind, below, whole, onto, suffix, turned}
-use Rattle.model.proofs.Places.{⊕-assoc, known}
-use Rattle.rows.specs.Rows.{kind-at, point-at, block-at, Piece}
+use Rattle.model.proofs.Places.{known, never}
+use Rattle.rows.specs.Rows.{kind-at, point-at, detail-at, block-at, Piece}
 use Rattle.place.specs.Pieces.{Spanned}
-use Rattle.place.specs.Private.{look, scan-answer, quits, Stands, Placed, ground, out-at, leaves-at, Lands, Finds, inner-from, inner-to}
+use Rattle.place.specs.declared.Quiet.{Quiet}
+use Rattle.place.specs.Private.{look, scan-answer, Stands, Level, Running, Placed, ground, Finds, MayTurn, inner-from, inner-to, base-from, base-to}
+use Rattle.place.specs.Private.{quiet-of, empty, shut, joined, either, quiet-beyond, quiet-behind, quiet-levels, quiet-ahead}
 use Rattle.place.specs.Stack.{FunctionTable}
-use Rattle.place.proofs.Suffixes.{suffix-in, seek-suffix}
-use Rattle.place.proofs.Views.{View, a-leaf, a-call, a-loop, an-if, level-spanned}
-use Rattle.place.proofs.Falling.{verdict-two, passes-at-is}
-use Rattle.place.proofs.Trailing.{truth}
-use Rattle.place.proofs.Finding.{CallTop, looked, front, there, call-top}
+use Rattle.place.proofs.Suffixes.{seek-suffix}
+use Rattle.place.proofs.Quieting.{joined-shut, joined-empty, joined-assoc, quiet-⊕, tied-shut, beyond-tied}
+use Rattle.place.proofs.Views.{View, a-leaf, a-call, a-loop, an-if}
+use Rattle.place.proofs.Falling.{verdict-two, top, spanned, as-loop, as-call, leaf-view}
+use Rattle.place.proofs.Finding.{CallTop, LoopTop, looked, front, there, loop-here}
 
--- Silence in a sequence behind another.
-pick-and : (p s t : Bool) → pick p false (s && t) ≡ (pick p false s && t)
-pick-and true s t = refl
-pick-and false s t = refl
+-- DOWN THE LEVELS
 
-and-assoc : (a b c : Bool) → (a && (b && c)) ≡ ((a && b) && c)
-and-assoc true b c = refl
-and-assoc false b c = refl
+-- Visits of a loop do not change what is behind it.
+turned-quiet : (v : ℕ) (s g : Forms) → turned s v ≡ some g → quiet-beyond s ≡ quiet-beyond g
+unfolding turned quiet-beyond
+turned-quiet zero s g e = let q : s ≡ g = cc in ap quiet-beyond q
+turned-quiet (suc v) done g e = never e
+turned-quiet (suc v) (leaf b r) g e = never e
+turned-quiet (suc v) (call b fun r) g e = never e
+turned-quiet (suc v) (loop b zero body r) g e = never e
+turned-quiet (suc v) (loop b (suc n) body r) g e = turned-quiet v (loop b n body r) g e
+turned-quiet (suc v) (cond b t s r) g e = never e
 
-pub still-join : (f g : Forms) → passes (f ⊕ g) ≡ (passes f && passes g)
-unfolding passes _⊕_
-still-join done g = refl
-still-join (leaf b r) g = ap (λ (s : Bool). pick (b .point) false s) (still-join r g) ∙ pick-and (b .point) (passes r) (passes g)
-still-join (call b fun r) g = ap (λ (s : Bool). pick (b .point) false s) (still-join r g) ∙ pick-and (b .point) (passes r) (passes g)
-still-join (loop b n body r) g = ap (λ (s : Bool). pick (b .point) false s) (still-join r g) ∙ pick-and (b .point) (passes r) (passes g)
-still-join (cond b t e r) g =
-    ap (λ (s : Bool). pick (b .point) false ((passes t || passes e) && s)) (still-join r g) ∙
-    ap (λ (s : Bool). pick (b .point) false s) (and-assoc (passes t || passes e) (passes r) (passes g)) ∙ pick-and (b .point) ((passes t || passes e) && passes r) (passes g)
+-- A loop that is a point shuts.
+loop-shut : (b : Block) (m : ℕ) (body r : Forms) → b .point ≡ true → quiet-of (loop b m body r) ≡ shut
+unfolding passes no-more
+loop-shut b m body r h = rw h
 
-out-is : (ks : Levels) → out-at ks ≡ passes (below ks)
-unfolding out-at below passes
-out-is [] = refl
-out-is (g ∷ ks) = passes-at-is (behind g) ks ∙ ap (λ (s : Bool). passes (behind g) && s) (out-is ks) ∙ sym (still-join (behind g) (below ks))
+module _ {w starts leaves : List ℕ} {n l : ℕ} (q : Running w starts n leaves l) (one : 1 ≤ l) where
+  abbrev g : Forms
+  g = top q one .place
 
-leaves-is : (g : Forms) (ks : Levels) → leaves-at (g ∷ ks) ≡ (quits g && passes (below ks))
-unfolding leaves-at
-leaves-is g ks = ap (λ (s : Bool). quits g && s) (out-is ks)
+  abbrev ks : Levels
+  ks = top q one .under
 
-or-and : (s k o : Bool) → ((s && o) || (k && o)) ≡ ((s || k) && o)
-or-and true k true = refl
-or-and true true false = refl
-or-and true false false = refl
-or-and false k o = refl
+  levels-are : quiet-levels (q .levels) ≡ joined (quiet-beyond g) (quiet-of (below ks))
+  unfolding quiet-levels
+  levels-are = ap quiet-levels (top q one .same)
 
-never-again : (s k p : Bool) → p ≡ true → (s || (k && pick p false s)) ≡ s
-never-again true k p h = refl
-never-again false true true h = refl
-never-again false false true h = refl
-never-again false k false h = absurd (let z : _≡_ {A = ℕ} 0 1 = cc in omega arith)
+  -- What the innermost level has behind its leaf.
+  pub level-read : {i e p : ℕ} {v : Quiet} → i ≡ base-from w starts n leaves l → e ≡ base-to w starts n leaves l → p ≡ getD leaves l 0 →
+      ((z : Piece w 62 i e) (G : List Forms) → v ≡ quiet-behind (suffix (forms G (z .part .lines)) p)) → v ≡ quiet-beyond g
+  unfolding quiet-behind
+  level-read {i} {e} {p} {v} hi he hp hv =
+      let t = top q one in
+      let sp = spanned q one in
+      let lv = t .level in
+      let z : Piece w 62 i e = record { heights = sp .piece .heights; level = sp .piece .level; part = rw (hi, he) (sp .piece .part) } in
+      hv z (q .table .funs) ∙ ap (λ (f : Forms). quiet-behind (suffix f p)) (sym (sp .same)) ∙ ap (λ (p : ℕ). quiet-behind (suffix (lv .level) p)) hp ∙
+      ap quiet-behind (lv .found) ∙ turned-quiet (getD (q .counts) l 0) (lv .start) (t .place) (lv .turns)
 
-module _ (ks : Levels) where
-  can-end-leaf : (b : Block) (r g : Forms) → g ≡ leaf b r → can-end (whole (g ∷ ks)) ≡ leaves-at (g ∷ ks)
-  unfolding can-end whole _⊕_ quits
-  can-end-leaf b r g e = rw (e, leaves-is (leaf b r) ks) (still-join r (below ks))
+  nothing-below : (ks : Levels) → length ks ≡ 0 → quiet-of (below ks) ≡ empty
+  unfolding below passes no-more
+  nothing-below [] z = refl
+  nothing-below (g ∷ ks) z = absurd (omega arith)
 
-  can-end-call : (b : Block) (fun r g : Forms) → g ≡ call b fun r → can-end (whole (g ∷ ks)) ≡ (passes fun && leaves-at (g ∷ ks))
-  unfolding can-end whole _⊕_ quits
-  can-end-call b fun r g e = rw (e, leaves-is (call b fun r) ks, still-join fun (r ⊕ below ks), still-join r (below ks))
+  pub outermost : {v : Quiet} → l ≡ 1 → v ≡ quiet-beyond g → v ≡ quiet-levels (q .levels)
+  outermost {v} low h =
+      h ∙ sym (levels-are ∙ ap (joined (quiet-beyond g)) (nothing-below ks (omega (arith, top q one .depth))) ∙ joined-empty (quiet-beyond g))
 
-  can-end-loop : (b : Block) (m : ℕ) (body r g : Forms) → g ≡ loop b m body r → b .point ≡ true → can-end (whole (g ∷ ks)) ≡ leaves-at (g ∷ ks)
-  unfolding can-end whole _⊕_ quits passes
-  can-end-loop b zero body r g e p = rw (e, leaves-is (loop b zero body r) ks) (still-join r (below ks))
-  can-end-loop b (suc m) body r g e p =
-      rw (e, leaves-is (loop b (suc m) body r) ks, still-join body (loop b m body (r ⊕ below ks)))
-      (never-again (passes (r ⊕ below ks)) (passes body) (b .point) p ∙ still-join r (below ks))
+  pub level-shut : {v r : Quiet} → v ≡ quiet-beyond g → v .free ≡ false → r ≡ shut → r ≡ quiet-levels (q .levels)
+  level-shut {v} {r} h f hr =
+      let z = tied-shut (quiet-beyond g) (beyond-tied g) (ap (λ (y : Quiet). y .free) (sym h) ∙ f) in
+      hr ∙ sym (levels-are ∙ ap (λ (y : Quiet). joined y (quiet-of (below ks))) z)
 
-  can-end-cond : (b : Block) (t s r g : Forms) → g ≡ cond b t s r → can-end (whole (g ∷ ks)) ≡ leaves-at (g ∷ ks)
-  unfolding can-end whole _⊕_ quits
-  can-end-cond b t s r g e =
-      rw (e, leaves-is (cond b t s r) ks, ← ⊕-assoc t r (below ks), ← ⊕-assoc s r (below ks), still-join (t ⊕ r) (below ks), still-join (s ⊕ r) (below ks))
-      (or-and (passes (t ⊕ r)) (passes (s ⊕ r)) (passes (below ks)))
-
-can-end-view : {w : List ℕ} {G : List Forms} {k p v e : ℕ} {g : Forms} → View w G k p v e g → (kind-at w p ≡ 1 → ⊥) → point-at w p ≡ 1 → (ks : Levels) → can-end (whole (g ∷ ks)) ≡ leaves-at (g ∷ ks)
-can-end-view {w} {p = p} {g = g} (a-leaf k r z) a m ks = can-end-leaf ks (block-at w p) r g z
-can-end-view (a-call k t r z) a m ks = absurd (a k)
-can-end-view {w} {G} {p = p} {g = g} (a-loop k q cs le n s r z) a m ks = can-end-loop ks (block-at w p) n (forms G (q .part .lines)) r g z (eq-eqb (point-at w p) 1 m)
-can-end-view {w} {p = p} {g = g} (an-if k t s r z) a m ks = can-end-cond ks (block-at w p) t s r g z
-
--- No leaf has so large a number.
-no-suffix : {w : List ℕ} {G : List Forms} {k i e : ℕ} {f : Forms} → Spanned w G k i e f → (x : ℕ) → length w ≤ x → (g : Forms) → suffix f x ≡ some g → ⊥
-no-suffix {w} {G} {k} {i} {e} sp x h g c =
-    let (lo, hi) = suffix-in w (sp .piece .level) i e (sp .piece .part .lines) G x g (sp .piece .part .rep) (rw (sp .same) at c) in omega (arith, sp .room)
-
-no-seek : {w : List ℕ} {G : List Forms} {k i e : ℕ} {f : Forms} → Spanned w G k i e f → (x : ℕ) → length w ≤ x → seek f x ≡ none
-no-seek {w} {G} {k} {i} {e} {f} sp x h =
-    elim (known (seek f x)) [
-      | inl c ↦ c
-      | inr c ↦ let d = seek-suffix w (sp .piece .level) i e (sp .piece .part .lines) G x (c .0) (sp .piece .part .rep) (rw (sp .same) at (c .1)) in
-          absurd (no-suffix sp x h (c .0) (ap (λ (f : Forms). suffix f x) (sp .same) ∙ d))
-    ]
-
--- So the scan says whether the forms can be passed.
-one-is : (s : Bool) → eqb (scan-answer none s) 1 ≡ s
-unfolding scan-answer
-one-is true = refl
-one-is false = refl
-
-pub passes-is : {w : List ℕ} {G : List Forms} {k i e : ℕ} {f : Forms} → Spanned w G k i e f → (x : ℕ) → length w ≤ x → {v : ℕ} →
-    ((p : Piece w 62 i e) (G : List Forms) → v ≡ look (forms G (p .part .lines)) x) → eqb v 1 ≡ passes f
-passes-is {f = f} sp x h {v} hv =
-    ap (λ (v : ℕ). eqb v 1) (looked sp x v hv ∙ ap (λ (o : Option Forms). scan-answer o (passes f)) (no-seek sp x h)) ∙ one-is (passes f)
-
-module _ {w starts : List ℕ} {n : ℕ} {leaves counts : List ℕ} {l : ℕ} (q : Placed w starts n leaves counts l) (one : 1 ≤ l) (x : ℕ) (far : length w ≤ x) where
+-- Under the innermost level.
+module _ {w starts leaves : List ℕ} {n l : ℕ} (q : Running w starts n leaves l) (one : 1 ≤ l) (two : 2 ≤ l) where
   abbrev main-of : Forms
   main-of = getD (q .table .funs) (n - 1) done
 
-  left-is : {r : ℕ} → Lands main-of leaves counts (q .levels) x r → ((r ≡ 0) × (leaves-at (q .levels) ≡ true)) ⊎ ((r ≡ 0 → ⊥) × (leaves-at (q .levels) ≡ false))
-  left-is {r} z =
-      elim z [
-        | inl y ↦ inr ((λ e. omega (arith, y .0)), y .2)
-        | inr y ↦ elim y [
-          | inl y ↦ inl (y .0, y .2)
-          | inr y ↦
-              let m = y .2 .2 in
-              let lv = m .level in
-              let sp = level-spanned (q .table) leaves counts (m .under) (m .stands) (lv .level) (lv .opens) .0 in
-              absurd (no-suffix sp x far (lv .start) (lv .found))
-        ]
-      ]
+  record Under (ks : Levels) : Type 0 where
+    pub turning : kind-at w (getD leaves (l - 1) 0) ≡ 2 → quiet-of (below ks) ≡ shut
+    pub calling : (kind-at w (getD leaves (l - 1) 0) ≡ 2 → ⊥) → quiet-of (below ks) ≡ quiet-levels ks
 
-  whole-closes : can-end (whole (front q one .place ∷ front q one .under)) ≡ can-end (whole (q .levels))
-  whole-closes = ap (λ (ls : Levels). can-end (whole ls)) (sym (front q one .same))
+  turning-below : (b : Block) (m : ℕ) (body r g : Forms) (ks : Levels) → g ≡ loop b (suc m) body r → b .point ≡ true → quiet-of (below (g ∷ ks)) ≡ shut
+  unfolding below behind
+  turning-below b m body r g ks e h = rw e (quiet-⊕ (loop b m body r) (below ks) ∙ ap (λ (y : Quiet). joined y (quiet-of (below ks))) (loop-shut b m body r h))
 
-  whole-leaves : leaves-at (front q one .place ∷ front q one .under) ≡ leaves-at (q .levels)
-  whole-leaves = ap leaves-at (sym (front q one .same))
+  calling-below : (b : Block) (fun r g : Forms) (ks : Levels) → g ≡ call b fun r → quiet-of (below (g ∷ ks)) ≡ quiet-levels (g ∷ ks)
+  unfolding below behind quiet-levels quiet-beyond
+  calling-below b fun r g ks e = rw e (quiet-⊕ r (below ks))
 
-  flat-closes : (kind-at w (getD leaves l 0) ≡ 1 → ⊥) → can-end (whole (q .levels)) ≡ leaves-at (q .levels)
-  flat-closes k = let (e, v, lt, r) = there q one in sym whole-closes ∙ can-end-view v k (q .marked l one (omega arith)) (front q one .under) ∙ whole-leaves
+  under-of : (ks : Levels) → length ks ≡ l - 1 → Stands main-of leaves (q .counts) ks → (f : Forms) → ground main-of ks ≡ some f → Under ks
+  unfolding Stands ground
+  under-of [] d st f c = absurd (omega arith)
+  under-of (g ∷ ks) d st f c =
+      let k = getD leaves (l - 1) 0 in
+      let e : length ks + 1 ≡ l - 1 = omega arith in
+      let lv : Level main-of ks k (getD (q .counts) (l - 1) 0) g = rw e at (st .1) in
+      let v = leaf-view (q .table) leaves (q .counts) g ks (l - 1) (st .0) lv .1 in
+      record {
+        turning = λ kind.
+            let (m, body, r, z) = as-loop v f c kind in turning-below (block-at w k) m body r g ks z (eq-eqb (point-at w k) 1 (q .marked (l - 1) (omega arith) (omega arith)));
+        calling = λ kind. let (fun, r, z) = as-call v f c kind in calling-below (block-at w k) fun r g ks z;
+      }
 
-  call-closes : {hd : ℕ} (c : CallTop w starts (q .table .funs) n hd (front q one .place)) → can-end (whole (q .levels)) ≡ (passes (c .fun) && leaves-at (q .levels))
-  call-closes {hd} c = sym whole-closes ∙ can-end-call (front q one .under) (block-at w hd) (c .fun) (c .later) (front q one .place) (c .shape) ∙ ap (λ (s : Bool). passes (c .fun) && s) whole-leaves
+  under : Under (top q one .under)
+  under = let t = top q one in under-of (t .under) (omega (arith, t .depth)) (t .stands) (t .level .level) (t .level .opens)
 
-  and-false : (s : Bool) → (s && false) ≡ false
-  and-false true = refl
-  and-false false = refl
+  -- An open loop comes back to its condition.
+  pub levels-turning : {hd kd : ℕ} {r : Quiet} → hd ≡ getD leaves (l - 1) 0 → kd ≡ kind-at w hd → kd ≡ 2 → r ≡ shut → r ≡ quiet-levels (q .levels)
+  levels-turning hh hk k hr =
+      let z = under .turning (ap (λ (p : ℕ). kind-at w p) (sym hh) ∙ sym hk ∙ k) in
+      hr ∙ sym (levels-are q one ∙ ap (joined (quiet-beyond (g q one))) z ∙ joined-shut (quiet-beyond (g q one)))
 
-  and-true : (s : Bool) → (s && true) ≡ s
-  and-true true = refl
-  and-true false = refl
+  -- Through a call it goes on.
+  pub levels-calling : {hd kd : ℕ} {v x r : Quiet} → hd ≡ getD leaves (l - 1) 0 → kd ≡ kind-at w hd → (kd ≡ 2 → ⊥) → v ≡ quiet-beyond (g q one) →
+      ((z : Running w starts n leaves (l - 1)) → x ≡ quiet-levels (z .levels)) → r ≡ joined v x → r ≡ quiet-levels (q .levels)
+  levels-calling {v = v} {x = x} hh hk k hv rec hr =
+      let t = top q one in
+      let y : Running w starts n leaves (l - 1) =
+      record { table = q .table; counts = q .counts; levels = t .under; depth = omega (arith, t .depth); stands = t .stands; marked = λ k a b. q .marked k a (omega arith) } in
+      let z = under .calling (λ y. k (hk ∙ ap (λ (p : ℕ). kind-at w p) hh ∙ y)) in
+      hr ∙ ap (λ (u : Quiet). joined u x) hv ∙ ap (joined (quiet-beyond (g q one))) (rec y ∙ sym z) ∙ sym (levels-are q one)
 
-  pub end-not : {r : ℕ} → Lands main-of leaves counts (q .levels) x r → (r ≡ 0 → ⊥) → false ≡ can-end (whole (q .levels))
-  end-not z nz =
-      elim (left-is z) [
-        | inl y ↦ absurd (nz (y .0))
-        | inr y ↦ elim (truth (eqb (kind-at w (getD leaves l 0)) 1)) [
-          | inl k ↦ let c = call-top q one (eqb-true (kind-at w (getD leaves l 0)) 1 k) in sym (call-closes c ∙ rw (y .1) (and-false (passes (c .fun))))
-          | inr k ↦ sym (flat-closes (eqb-false (kind-at w (getD leaves l 0)) 1 k) ∙ y .1)
-        ]
-      ]
+-- AT THE PLACE
 
-  pub end-flat : {r hd kd : ℕ} → Lands main-of leaves counts (q .levels) x r → r ≡ 0 → hd ≡ getD leaves l 0 → kd ≡ kind-at w hd → (kd ≡ 1 → ⊥) → true ≡ can-end (whole (q .levels))
-  end-flat z ez hh hk k =
-      elim (left-is z) [
-        | inl y ↦ sym (flat-closes (λ e. k (hk ∙ ap (λ (p : ℕ). kind-at w p) hh ∙ e)) ∙ y .1)
-        | inr y ↦ absurd (y .0 ez)
-      ]
+or-and : (a b m : Bool) → ((a && m) || (b && m)) ≡ ((a || b) && m)
+or-and true b true = refl
+or-and true true false = refl
+or-and true false false = refl
+or-and false b m = refl
 
-  pub end-call : {r hd : ℕ} → Lands main-of leaves counts (q .levels) x r → r ≡ 0 → (c : CallTop w starts (q .table .funs) n hd (front q one .place)) → {v : ℕ} →
-      ((p : Piece w 62 (inner-from w starts hd) (inner-to w starts hd)) (G : List Forms) → v ≡ look (forms G (p .part .lines)) x) → eqb v 1 ≡ can-end (whole (q .levels))
-  end-call z ez c hv =
-      elim (left-is z) [
-        | inl y ↦ passes-is (c .spanned) x far hv ∙ sym (call-closes c ∙ rw (y .1) (and-true (passes (c .fun))))
-        | inr y ↦ absurd (y .0 ez)
-      ]
+and-and : (a b m : Bool) → ((a && m) && (b && m)) ≡ ((a && b) && m)
+and-and true b true = refl
+and-and true true false = refl
+and-and true false false = refl
+and-and false b m = refl
+
+-- One part or the other, and then the same.
+either-joined : (x y z : Quiet) → either (joined x z) (joined y z) ≡ joined (either x y) z
+either-joined x y z = λ i. record { free = or-and (x .free) (y .free) (z .free) i; mute = and-and (x .mute) (y .mute) (z .mute) i }
+
+-- A loop that may turn again can be left; and it comes back.
+never-again : (s k : Bool) → (s || (k && false)) ≡ s
+never-again true k = refl
+never-again false true = refl
+never-again false false = refl
+
+always-again : (s k : Bool) → (s && (k && false)) ≡ false
+always-again true true = refl
+always-again true false = refl
+always-again false k = refl
+
+open-loop : (x y : Quiet) → _≡_ {A = Quiet} (either x (joined y shut)) (record { free = x .free; mute = false })
+open-loop x y = λ i. record { free = never-again (x .free) (y .free) i; mute = always-again (x .mute) (y .mute) i }
+
+module _ (ks : Levels) where
+  ahead-leaf : (b : Block) (r g : Forms) → g ≡ leaf b r → quiet-ahead (g ∷ ks) ≡ quiet-levels (g ∷ ks)
+  unfolding can-end no-further whole _⊕_ quiet-beyond quiet-levels
+  ahead-leaf b r g e = rw e (quiet-⊕ r (below ks))
+
+  ahead-call : (b : Block) (fun r g : Forms) → g ≡ call b fun r → quiet-ahead (g ∷ ks) ≡ joined (quiet-of fun) (quiet-levels (g ∷ ks))
+  unfolding can-end no-further whole _⊕_ quiet-beyond quiet-levels
+  ahead-call b fun r g e = rw e (quiet-⊕ fun (r ⊕ below ks) ∙ ap (joined (quiet-of fun)) (quiet-⊕ r (below ks)))
+
+  ahead-spent : (b : Block) (body r g : Forms) → g ≡ loop b zero body r → quiet-ahead (g ∷ ks) ≡ quiet-levels (g ∷ ks)
+  unfolding can-end no-further whole _⊕_ quiet-beyond quiet-levels
+  ahead-spent b body r g e = rw e (quiet-⊕ r (below ks))
+
+  ahead-loop : (b : Block) (m : ℕ) (body r g : Forms) → g ≡ loop b (suc m) body r → b .point ≡ true →
+      quiet-ahead (g ∷ ks) ≡ record { free = quiet-levels (g ∷ ks) .free; mute = false }
+  unfolding can-end no-further whole _⊕_ quiet-beyond quiet-levels
+  ahead-loop b m body r g e p =
+      let again = loop b m body (r ⊕ below ks) in
+      let z : quiet-of (body ⊕ again) ≡ joined (quiet-of body) shut = quiet-⊕ body again ∙ ap (joined (quiet-of body)) (loop-shut b m body (r ⊕ below ks) p) in
+      rw e (ap (either (quiet-of (r ⊕ below ks))) z ∙ open-loop (quiet-of (r ⊕ below ks)) (quiet-of body) ∙
+      ap (λ (x : Quiet). record { free = x .free; mute = false }) (quiet-⊕ r (below ks)))
+
+  ahead-if : (b : Block) (t s r g : Forms) → g ≡ cond b t s r → quiet-ahead (g ∷ ks) ≡ quiet-levels (g ∷ ks)
+  unfolding can-end no-further whole _⊕_ quiet-beyond quiet-levels
+  ahead-if b t s r g e =
+      let R = r ⊕ below ks in
+      let x = either (quiet-of t) (quiet-of s) in
+      rw e (ap (λ (y : Quiet). either y (quiet-of (s ⊕ R))) (quiet-⊕ t R) ∙ ap (either (joined (quiet-of t) (quiet-of R))) (quiet-⊕ s R) ∙
+      either-joined (quiet-of t) (quiet-of s) (quiet-of R) ∙ ap (joined x) (quiet-⊕ r (below ks)) ∙ joined-assoc x (quiet-of r) (quiet-of (below ks)))
+
+-- Where the leaf is no call's, and no loop's with a round left.
+ahead-view : {w : List ℕ} {G : List Forms} {k p v e : ℕ} {g : Forms} → View w G k p v e g → (kind-at w p ≡ 1 → ⊥) → (MayTurn w p v → ⊥) → (ks : Levels) →
+    quiet-ahead (g ∷ ks) ≡ quiet-levels (g ∷ ks)
+ahead-view {w} {p = p} {g = g} (a-leaf k r z) c t ks = ahead-leaf ks (block-at w p) r g z
+ahead-view (a-call k x r z) c t ks = absurd (c k)
+ahead-view {w} {G} {p = p} {v = v} {g = g} (a-loop k q cs le n s r z) c t ks =
+    let none-left : n ≡ zero = elim (decLe (detail-at w p) v) [ yes h ↦ omega arith | no h ↦ absurd (t (k, omega arith)) ] in
+    ahead-spent ks (block-at w p) (forms G (q .part .lines)) r g (z ∙ ap (λ (n : ℕ). loop (block-at w p) n (forms G (q .part .lines)) r) none-left)
+ahead-view {w} {p = p} {g = g} (an-if k x s r z) c t ks = ahead-if ks (block-at w p) x s r g z
+
+-- What a walk over forms answered.
+pub forms-read : {w : List ℕ} {G : List Forms} {k i e : ℕ} {f : Forms} → Spanned w G k i e f → {v : Quiet} →
+    ((p : Piece w 62 i e) (G : List Forms) → v ≡ quiet-of (forms G (p .part .lines))) → v ≡ quiet-of f
+forms-read {G = G} sp hv = hv (sp .piece) G ∙ ap (λ (f : Forms). quiet-of f) (sym (sp .same))
+
+module _ {w starts : List ℕ} {n : ℕ} {leaves counts : List ℕ} {l : ℕ} (q : Placed w starts n leaves counts l) (one : 1 ≤ l) where
+  same-ahead : quiet-ahead (front q one .place ∷ front q one .under) ≡ quiet-ahead (q .levels)
+  same-ahead = ap (λ (ls : Levels). quiet-ahead ls) (sym (front q one .same))
+
+  same-levels : quiet-levels (front q one .place ∷ front q one .under) ≡ quiet-levels (q .levels)
+  same-levels = ap quiet-levels (sym (front q one .same))
+
+  -- At a call.
+  pub place-call : {hd : ℕ} {v x r : Quiet} → (c : CallTop w starts (q .table .funs) n hd (front q one .place)) →
+      ((p : Piece w 62 (inner-from w starts hd) (inner-to w starts hd)) (G : List Forms) → v ≡ quiet-of (forms G (p .part .lines))) →
+      x ≡ quiet-levels (q .levels) → r ≡ joined v x → r ≡ quiet-ahead (q .levels)
+  place-call {hd} {v} {x} c hv hx hr =
+      hr ∙ ap (λ (y : Quiet). joined y x) (forms-read (c .spanned) hv) ∙ ap (joined (quiet-of (c .fun))) (hx ∙ sym same-levels) ∙
+      sym (ahead-call (front q one .under) (block-at w hd) (c .fun) (c .later) (front q one .place) (c .shape)) ∙ same-ahead
+
+  -- At a loop that may turn again.
+  pub place-turning : {hd : ℕ} {x r : Quiet} → hd ≡ getD leaves l 0 → MayTurn w hd (getD counts l 0) → x ≡ quiet-levels (q .levels) →
+      r ≡ record { free = x .free; mute = false } → r ≡ quiet-ahead (q .levels)
+  place-turning {hd} {x} {r} hh (k, h) hx hr = let c = loop-here q one hh refl k in by c (c .rounds) (c .shape) (omega (arith, c .bound))
+    where
+      by : (c : LoopTop w starts (q .table .funs) n hd (getD counts l 0) (front q one .place)) (m : ℕ) → front q one .place ≡ loop (block-at w hd) m (c .body) (c .later) → 1 ≤ m →
+          r ≡ quiet-ahead (q .levels)
+      by c zero e k = absurd (omega arith)
+      by c (suc m) e k =
+          hr ∙ ap (λ (y : Quiet). record { free = y .free; mute = false }) (hx ∙ sym same-levels) ∙
+          sym (ahead-loop (front q one .under) (block-at w hd) m (c .body) (c .later) (front q one .place) e (eq-eqb (point-at w hd) 1 (rw hh (q .marked l one (omega arith))))) ∙
+          same-ahead
+
+  -- Elsewhere.
+  pub place-flat : {hd kd : ℕ} {x : Quiet} → hd ≡ getD leaves l 0 → kd ≡ kind-at w hd → (kd ≡ 1 → ⊥) → (MayTurn w hd (getD counts l 0) → ⊥) → x ≡ quiet-levels (q .levels) →
+      x ≡ quiet-ahead (q .levels)
+  place-flat {hd} {kd} hh hk k t hx =
+      let (e, v, lt, r) = there q one in
+      hx ∙ sym same-levels ∙ sym (ahead-view v (λ y. k (hk ∙ ap (λ (p : ℕ). kind-at w p) hh ∙ y)) (rw hh at t) (front q one .under)) ∙ same-ahead
 
 -- The first report.
 found-suffix : {w : List ℕ} {G : List Forms} {k i e : ℕ} {f : Forms} → Spanned w G k i e f → (x : ℕ) (g : Forms) → seek f x ≡ some g → suffix f x ≡ some g

@@ -1,6 +1,6 @@
 -- Down the levels: what comes next once the form of the innermost leaf is left. Plain mathematics: no code is named here. Assumes nothing.
 use mathlib.Core.Path.{_≡_, refl, sym, ap, _∙_}
-use mathlib.Core.Bool.{Bool, true, false, _&&_}
+use mathlib.Core.Bool.{Bool, true, false}
 use mathlib.Core.List.{List, [], _∷_}
 use mathlib.Core.Logic.{inl, inr}
 use mathlib.Core.Option.{Option, none, some}
@@ -17,7 +17,7 @@ use Rattle.model.specs.Stack.{Levels, behind, _else-at_, given, onto, seek-at, 
 use Rattle.model.proofs.Places.{never}
 use Rattle.rows.specs.Rows.{kind-at, point-at, detail-at, block-at, Piece}
 use Rattle.place.specs.Pieces.{Spanned}
-use Rattle.place.specs.Private.{Nonempty, trail, beyond, next-beyond, quits, scan-answer, tracked, Level, Stands, Running, ground, return-at, fall-at, passes-at, out-at, leaves-at, visits-there, Moved, Lands, Enterable, base-from, base-to}
+use Rattle.place.specs.Private.{Nonempty, trail, beyond, next-beyond, quits, scan-answer, tracked, Level, Stands, Running, ground, return-at, fall-at, visits-there, Moved, Lands, Enterable, base-from, base-to}
 use Rattle.place.specs.Stack.{FunctionTable}
 use Rattle.place.proofs.Answers.{trail-is, suffix-headed}
 use Rattle.place.proofs.Suffixes.{beyond-is, next-suffix}
@@ -75,16 +75,7 @@ unfolding seek-at return-at
 seek-at-is f [] x = else-none (onto [] (seek f x)) (passes f)
 seek-at-is f (g ∷ ks) x = refl
 
-and-true : (s : Bool) → s ≡ (s && true)
-and-true true = refl
-and-true false = refl
-
-pub passes-at-is : (f : Forms) (ks : Levels) → passes-at f ks ≡ (passes f && out-at ks)
-unfolding passes-at out-at
-passes-at-is f [] = and-true (passes f)
-passes-at-is f (g ∷ ks) = refl
-
--- a loop that is a point is come to, and is never passed in silence.
+-- a loop that is a point is come to.
 come-to : (p q : Bool) (fs : Forms) (ks : Levels) (o : Option Forms) (s : Bool) (k : Option Levels) → p ≡ true →
     onto ks (pick p (pick q (some fs) none) o) else-at given (pick p false s) k ≡ pick q (some (fs ∷ ks)) none
 come-to true true fs ks o s k h = refl
@@ -95,10 +86,6 @@ pub seek-loop : (b : Block) (m : ℕ) (body r : Forms) (ks : Levels) (x : ℕ) �
     seek-at (loop b m body r) ks x ≡ pick (eqb (b .number) x) (some (loop b m body r ∷ ks)) none
 unfolding seek passes
 seek-loop b m body r ks x h = seek-at-is (loop b m body r) ks x ∙ come-to (b .point) (eqb (b .number) x) (loop b m body r) ks (seek r x) (passes r) (return-at ks x) h
-
-pub still-loop : (b : Block) (m : ℕ) (body r : Forms) (ks : Levels) → b .point ≡ true → passes-at (loop b m body r) ks ≡ false
-unfolding passes
-still-loop b m body r ks h = passes-at-is (loop b m body r) ks ∙ rw h
 
 -- The innermost level.
 pub record Top (main : Forms) (leaves counts : List ℕ) (l : ℕ) (ls : Levels) : Type 0 where
@@ -168,7 +155,7 @@ module _ {w starts leaves : List ℕ} {n l : ℕ} (q : Running w starts n leaves
       let (f, lt) = next-suffix w (sp .piece .level) _ _ (sp .piece .part .lines) (q .table .funs) (getD leaves l 0) x (sp .piece .part .rep) (lv .start) g (rw (sp .same) at (lv .found)) (o .1 ∙ c) in
       let z : eqb (getD leaves l 0) x ≡ false = ne-eqb (getD leaves l 0) x (λ y. omega arith) in
       let f′ : suffix (lv .level) x ≡ some g = ap (λ (f : Forms). suffix f x) (sp .same) ∙ f in
-      inr (inr (
+      inr (
         h,
         omega (arith, t .depth),
         (
@@ -183,10 +170,10 @@ module _ {w starts leaves : List ℕ} {n l : ℕ} (q : Running w starts n leaves
             level = record { level = lv .level; opens = lv .opens; start = g; found = f′; turns = rw z };
           },
         ),
-      ))
+      )
 
 -- The loop or call that is open below a level.
-as-loop : {w : List ℕ} {G : List Forms} {k p v e : ℕ} {g : Forms} → View w G k p v e g → (f : Forms) → inside-of g ≡ some f → kind-at w p ≡ 2 →
+pub as-loop : {w : List ℕ} {G : List Forms} {k p v e : ℕ} {g : Forms} → View w G k p v e g → (f : Forms) → inside-of g ≡ some f → kind-at w p ≡ 2 →
     (m : ℕ) × (body : Forms) × (r : Forms) × (g ≡ loop (block-at w p) (suc m) body r)
 unfolding inside-of
 as-loop (a-leaf k r z) f c h = absurd (omega arith)
@@ -195,7 +182,7 @@ as-loop (a-loop k q cs le zero s r z) f c h = never (rw z at c)
 as-loop {G = G} (a-loop k q cs le (suc m) s r z) f c h = (m, forms G (q .part .lines), r, z)
 as-loop (an-if k t s r z) f c h = absurd (omega arith)
 
-as-call : {w : List ℕ} {G : List Forms} {k p v e : ℕ} {g : Forms} → View w G k p v e g → (f : Forms) → inside-of g ≡ some f → (kind-at w p ≡ 2 → ⊥) →
+pub as-call : {w : List ℕ} {G : List Forms} {k p v e : ℕ} {g : Forms} → View w G k p v e g → (f : Forms) → inside-of g ≡ some f → (kind-at w p ≡ 2 → ⊥) →
     (fun : Forms) × (r : Forms) × (g ≡ call (block-at w p) fun r)
 unfolding inside-of
 as-call (a-leaf k r z) f c h = never (rw z at c)
@@ -205,26 +192,24 @@ as-call (an-if k t s r z) f c h = never (rw z at c)
 
 -- Back at it.
 return-loop : (b : Block) (m : ℕ) (body r g : Forms) (ks : Levels) (x : ℕ) → g ≡ loop b (suc m) body r → b .point ≡ true →
-    (return-at (g ∷ ks) x ≡ pick (eqb (b .number) x) (some (loop b m body r ∷ ks)) none) × (out-at (g ∷ ks) ≡ false)
-unfolding return-at out-at behind
-return-loop b m body r g ks x e h =
-    (ap (λ (g : Forms). seek-at (behind g) ks x) e ∙ seek-loop b m body r ks x h, ap (λ (g : Forms). passes-at (behind g) ks) e ∙ still-loop b m body r ks h)
+    return-at (g ∷ ks) x ≡ pick (eqb (b .number) x) (some (loop b m body r ∷ ks)) none
+unfolding return-at behind
+return-loop b m body r g ks x e h = ap (λ (g : Forms). seek-at (behind g) ks x) e ∙ seek-loop b m body r ks x h
 
-return-call : (b : Block) (fun r g : Forms) (ks : Levels) (x : ℕ) → g ≡ call b fun r → (return-at (g ∷ ks) x ≡ fall-at (g ∷ ks) x) × (out-at (g ∷ ks) ≡ leaves-at (g ∷ ks))
-unfolding return-at out-at fall-at leaves-at behind next-beyond quits
-return-call b fun r g ks x e =
-    (rw e (seek-at-is r ks x), rw e (passes-at-is r ks))
+return-call : (b : Block) (fun r g : Forms) (ks : Levels) (x : ℕ) → g ≡ call b fun r → return-at (g ∷ ks) x ≡ fall-at (g ∷ ks) x
+unfolding return-at fall-at behind next-beyond quits
+return-call b fun r g ks x e = rw e (seek-at-is r ks x)
 
 -- Under the outermost level.
-bottom : (ks : Levels) (x : ℕ) → length ks ≡ 0 → (return-at ks x ≡ none) × (out-at ks ≡ true)
-unfolding return-at out-at
-bottom [] x z = (refl, refl)
+bottom : (ks : Levels) (x : ℕ) → length ks ≡ 0 → return-at ks x ≡ none
+unfolding return-at
+bottom [] x z = refl
 bottom (g ∷ ks) x z = absurd (omega arith)
 
 -- Past the level in silence.
-pass-down : (g : Forms) (ks : Levels) (x : ℕ) → next-beyond g x ≡ none → quits g ≡ true → (fall-at (g ∷ ks) x ≡ return-at ks x) × (leaves-at (g ∷ ks) ≡ out-at ks)
-unfolding fall-at leaves-at
-pass-down g ks x a b = (rw (a, b), rw b)
+pass-down : (g : Forms) (ks : Levels) (x : ℕ) → next-beyond g x ≡ none → quits g ≡ true → fall-at (g ∷ ks) x ≡ return-at ks x
+unfolding fall-at
+pass-down g ks x a b = rw (a, b)
 
 module _ {w starts leaves : List ℕ} {n l : ℕ} (q : Running w starts n leaves l) (h : 1 ≤ l) (x : ℕ) where
   -- An answer over the innermost level and those under it.
@@ -237,31 +222,35 @@ module _ {w starts leaves : List ℕ} {n l : ℕ} (q : Running w starts n leaves
   fall-found e two = let (g, c) = verdict-two (next-beyond (top q h .place) x) (quits (top q h .place)) (sym e ∙ two) in whole-lands {r = l} (comes-here q h x g c)
 
   pub fall-stuck : {v : ℕ} → v ≡ scan-answer (next-beyond (top q h .place) x) (quits (top q h .place)) → (v ≡ 2 → ⊥) → (v ≡ 1 → ⊥) →
-      Lands (getD (q .table .funs) (n - 1) done) leaves (q .counts) (q .levels) x 33
-  unfolding fall-at leaves-at
+      Lands (getD (q .table .funs) (n - 1) done) leaves (q .counts) (q .levels) x 0
+  unfolding fall-at
   fall-stuck e two one =
       let (a, b) = verdict-zero (next-beyond (top q h .place) x) (quits (top q h .place)) (λ z. two (e ∙ z)) (λ z. one (e ∙ z)) in
-      whole-lands {r = 33} (inl (refl, rw (a, b), rw b))
+      whole-lands {r = 0} (inl (refl, rw (a, b)))
 
   down : {v : ℕ} → v ≡ scan-answer (next-beyond (top q h .place) x) (quits (top q h .place)) → v ≡ 1 →
-      (fall-at (top q h .place ∷ top q h .under) x ≡ return-at (top q h .under) x) × (leaves-at (top q h .place ∷ top q h .under) ≡ out-at (top q h .under))
+      fall-at (top q h .place ∷ top q h .under) x ≡ return-at (top q h .under) x
   down e one =
       let (a, b) = verdict-one (next-beyond (top q h .place) x) (quits (top q h .place)) (sym e ∙ one) in
       pass-down (top q h .place) (top q h .under) x a b
 
   pub fall-out : {v : ℕ} → v ≡ scan-answer (next-beyond (top q h .place) x) (quits (top q h .place)) → v ≡ 1 → l ≡ 1 →
       Lands (getD (q .table .funs) (n - 1) done) leaves (q .counts) (q .levels) x 0
-  fall-out e one low =
-      let (a, b) = down e one in
-      let (c, d) = bottom (top q h .under) x (omega (arith, top q h .depth)) in
-      whole-lands {r = 0} (inr (inl (refl, a ∙ c, b ∙ d)))
+  fall-out e one low = whole-lands {r = 0} (inl (refl, down e one ∙ bottom (top q h .under) x (omega (arith, top q h .depth))))
+
+-- The record of the leaf that was reported last at level k.
+pub leaf-view : {w starts : List ℕ} {n : ℕ} (pr : FunctionTable w starts n) (leaves counts : List ℕ) (g : Forms) (ks : Levels) (k : ℕ) →
+    Stands (getD (pr .funs) (n - 1) done) leaves counts ks → Level (getD (pr .funs) (n - 1) done) ks (getD leaves k 0) (getD counts k 0) g →
+    (e : ℕ) × View w (pr .funs) n (getD leaves k 0) (getD counts k 0) e g
+leaf-view pr leaves counts g ks k st lv =
+    (_, view (level-spanned pr leaves counts ks st (lv .level) (lv .opens) .0) (getD leaves k 0) (getD counts k 0) (lv .start) g (lv .found) (lv .turns) .0)
 
 -- At the head of a level, one level down: g is the open loop or call, k its level.
 module _ {w starts : List ℕ} {n : ℕ} (pr : FunctionTable w starts n) (leaves counts : List ℕ) (g : Forms) (ks : Levels) (k : ℕ)
     (st : Stands (getD (pr .funs) (n - 1) done) leaves counts ks) (lv : Level (getD (pr .funs) (n - 1) done) ks (getD leaves k 0) (getD counts k 0) g)
     (deep : length ks + 1 ≡ k) (f : Forms) (ins : inside-of g ≡ some f) (mark : point-at w (getD leaves k 0) ≡ 1) (x : ℕ) where
-  head-view : (e : ℕ) × View w (pr .funs) n (getD leaves k 0) (getD counts k 0) e g
-  head-view = (_, view (level-spanned pr leaves counts ks st (lv .level) (lv .opens) .0) (getD leaves k 0) (getD counts k 0) (lv .start) g (lv .found) (lv .turns) .0)
+  abbrev head-view : (e : ℕ) × View w (pr .funs) n (getD leaves k 0) (getD counts k 0) e g
+  head-view = leaf-view pr leaves counts g ks k st lv
 
   head-again : kind-at w (getD leaves k 0) ≡ 2 → getD leaves k 0 ≡ x →
       (zs : Levels) × (return-at (g ∷ ks) x ≡ some zs) × Moved (getD (pr .funs) (n - 1) done) leaves counts k x (visits-there leaves counts k x) zs
@@ -269,7 +258,7 @@ module _ {w starts : List ℕ} {n : ℕ} (pr : FunctionTable w starts n) (leaves
       let (m, body, r, e) = as-loop (head-view .1) f ins kind in
       let b = block-at w (getD leaves k 0) in
       let z : eqb (getD leaves k 0) x ≡ true = eq-eqb (getD leaves k 0) x hx in
-      let (c, d) = return-loop b m body r g ks x e (eq-eqb (point-at w (getD leaves k 0)) 1 mark) in
+      let c = return-loop b m body r g ks x e (eq-eqb (point-at w (getD leaves k 0)) 1 mark) in
       let o = turned-once (getD counts k 0) (lv .start) b m body r (lv .turns ∙ ap some e) in (
         loop b m body r ∷ ks,
         c ∙ rw z,
@@ -289,14 +278,13 @@ module _ {w starts : List ℕ} {n : ℕ} (pr : FunctionTable w starts n) (leaves
         },
       )
 
-  head-other : kind-at w (getD leaves k 0) ≡ 2 → (getD leaves k 0 ≡ x → ⊥) → (return-at (g ∷ ks) x ≡ none) × (out-at (g ∷ ks) ≡ false)
+  head-other : kind-at w (getD leaves k 0) ≡ 2 → (getD leaves k 0 ≡ x → ⊥) → return-at (g ∷ ks) x ≡ none
   head-other kind hx =
       let (m, body, r, e) = as-loop (head-view .1) f ins kind in
       let z : eqb (getD leaves k 0) x ≡ false = ne-eqb (getD leaves k 0) x hx in
-      let (c, d) = return-loop (block-at w (getD leaves k 0)) m body r g ks x e (eq-eqb (point-at w (getD leaves k 0)) 1 mark) in
-      (c ∙ rw z, d)
+      return-loop (block-at w (getD leaves k 0)) m body r g ks x e (eq-eqb (point-at w (getD leaves k 0)) 1 mark) ∙ rw z
 
-  head-call : (kind-at w (getD leaves k 0) ≡ 2 → ⊥) → (return-at (g ∷ ks) x ≡ fall-at (g ∷ ks) x) × (out-at (g ∷ ks) ≡ leaves-at (g ∷ ks))
+  head-call : (kind-at w (getD leaves k 0) ≡ 2 → ⊥) → return-at (g ∷ ks) x ≡ fall-at (g ∷ ks) x
   head-call kind =
       let (fun, r, e) = as-call (head-view .1) f ins kind in
       return-call (block-at w (getD leaves k 0)) fun r g ks x e
@@ -309,8 +297,8 @@ module _ {w starts leaves : List ℕ} {n l : ℕ} (q : Running w starts n leaves
   pub record Under (ks : Levels) : Type 0 where
     pub again : kind-at w (getD leaves (l - 1) 0) ≡ 2 → getD leaves (l - 1) 0 ≡ x →
         (zs : Levels) × (return-at ks x ≡ some zs) × Moved main-of leaves (q .counts) (l - 1) x (visits-there leaves (q .counts) (l - 1) x) zs
-    pub other : kind-at w (getD leaves (l - 1) 0) ≡ 2 → (getD leaves (l - 1) 0 ≡ x → ⊥) → (return-at ks x ≡ none) × (out-at ks ≡ false)
-    pub calling : (kind-at w (getD leaves (l - 1) 0) ≡ 2 → ⊥) → (return-at ks x ≡ fall-at ks x) × (out-at ks ≡ leaves-at ks)
+    pub other : kind-at w (getD leaves (l - 1) 0) ≡ 2 → (getD leaves (l - 1) 0 ≡ x → ⊥) → return-at ks x ≡ none
+    pub calling : (kind-at w (getD leaves (l - 1) 0) ≡ 2 → ⊥) → return-at ks x ≡ fall-at ks x
 
   under-of : (ks : Levels) → length ks ≡ l - 1 → Stands main-of leaves (q .counts) ks → (f : Forms) → ground main-of ks ≡ some f → Under ks
   unfolding Stands ground
@@ -332,36 +320,29 @@ module _ {w starts leaves : List ℕ} {n l : ℕ} (q : Running w starts n leaves
   pub fall-again : {v k hd : ℕ} → v ≡ scan-answer (next-beyond (top q one-up .place) x) (quits (top q one-up .place)) → v ≡ 1 → hd ≡ getD leaves (l - 1) 0 → k ≡ kind-at w hd → k ≡ 2 → hd ≡ x →
       Lands main-of leaves (q .counts) (q .levels) x (l - 1)
   fall-again {v} {k} {hd} e one hh hk two hx =
-      let (a, b) = down q one-up x e one in
       let kind : kind-at w (getD leaves (l - 1) 0) ≡ 2 = ap (λ (p : ℕ). kind-at w p) (sym hh) ∙ sym hk ∙ two in
       let (zs, c, m) = under .again kind (sym hh ∙ hx) in
-      whole-lands q one-up x {r = l - 1} (inr (inr (omega arith, omega (arith, top q one-up .depth), (zs, a ∙ c, m))))
+      whole-lands q one-up x {r = l - 1} (inr (omega arith, omega (arith, top q one-up .depth), (zs, down q one-up x e one ∙ c, m)))
 
   pub fall-other : {v k hd : ℕ} → v ≡ scan-answer (next-beyond (top q one-up .place) x) (quits (top q one-up .place)) → v ≡ 1 → hd ≡ getD leaves (l - 1) 0 → k ≡ kind-at w hd → k ≡ 2 → (hd ≡ x → ⊥) →
-      Lands main-of leaves (q .counts) (q .levels) x 33
+      Lands main-of leaves (q .counts) (q .levels) x 0
   fall-other {v} {k} {hd} e one hh hk two hx =
-      let (a, b) = down q one-up x e one in
       let kind : kind-at w (getD leaves (l - 1) 0) ≡ 2 = ap (λ (p : ℕ). kind-at w p) (sym hh) ∙ sym hk ∙ two in
-      let (c, d) = under .other kind (λ z. hx (hh ∙ z)) in
-      whole-lands q one-up x {r = 33} (inl (refl, a ∙ c, b ∙ d))
+      whole-lands q one-up x {r = 0} (inl (refl, down q one-up x e one ∙ under .other kind (λ z. hx (hh ∙ z))))
 
   pub fall-on : {v k hd r : ℕ} → v ≡ scan-answer (next-beyond (top q one-up .place) x) (quits (top q one-up .place)) → v ≡ 1 → hd ≡ getD leaves (l - 1) 0 → k ≡ kind-at w hd → (k ≡ 2 → ⊥) →
       ((z : Running w starts n leaves (l - 1)) → Lands (getD (z .table .funs) (n - 1) done) leaves (z .counts) (z .levels) x r) →
       Lands main-of leaves (q .counts) (q .levels) x r
   unfolding lower
   fall-on {v} {k} {hd} {r} e one hh hk two rec =
-      let (a, b) = down q one-up x e one in
       let kind : kind-at w (getD leaves (l - 1) 0) ≡ 2 → ⊥ = λ z. two (hk ∙ ap (λ (p : ℕ). kind-at w p) hh ∙ z) in
-      let (c, d) = under .calling kind in
+      let a = down q one-up x e one ∙ under .calling kind in
       let t = top q one-up in
       let z : Running w starts n leaves (l - 1) =
       record { table = q .table; counts = q .counts; levels = t .under; depth = omega (arith, t .depth); stands = t .stands; marked = λ k a b. q .marked k a (omega arith) } in
       whole-lands q one-up x {r = r} (elim (rec z) [
-        | inl y ↦ inl (y .0, a ∙ c ∙ y .1, b ∙ d ∙ y .2)
-        | inr y ↦ elim y [
-          | inl y ↦ inr (inl (y .0, a ∙ c ∙ y .1, b ∙ d ∙ y .2))
-          | inr y ↦ inr (inr (y .0, omega (arith, t .depth, y .1), (y .2 .0, a ∙ c ∙ y .2 .1, y .2 .2)))
-        ]
+        | inl y ↦ inl (y .0, a ∙ y .1)
+        | inr y ↦ inr (y .0, omega (arith, t .depth, y .1), (y .2 .0, a ∙ y .2 .1, y .2 .2))
       ])
 
 -- The records of the level, for a scan.

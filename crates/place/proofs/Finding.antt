@@ -52,36 +52,22 @@ module _ {w starts : List ℕ} {n : ℕ} {leaves counts : List ℕ} {l : ℕ} (q
 
   -- Below: from the search down the levels.
   pub below-none : {r : ℕ} → r ≡ 0 → Lands main-of leaves counts (q .levels) x r → Finds l main-of leaves counts (fall-at (q .levels) x) x 0 0
-  below-none e z =
-      elim z [
-        | inl y ↦ inl (refl, y .1)
-        | inr y ↦ elim y [ inl y ↦ inl (refl, y .1) | inr y ↦ absurd (omega (arith, y .0)) ]
-      ]
+  below-none e z = elim z [ inl y ↦ inl (refl, y .1) | inr y ↦ absurd (omega (arith, y .0)) ]
 
-  pub below-far : {r : ℕ} → 32 < r → l ≤ 32 → Lands main-of leaves counts (q .levels) x r → Finds l main-of leaves counts (fall-at (q .levels) x) x 0 0
-  below-far e h z =
-      elim z [
-        | inl y ↦ inl (refl, y .1)
-        | inr y ↦ elim y [ inl y ↦ inl (refl, y .1) | inr y ↦ absurd (omega (arith, y .1, q .depth)) ]
-      ]
+  pub below-low : {r : ℕ} → l ≤ 32 → Lands main-of leaves counts (q .levels) x r → r ≤ 32
+  below-low h z = elim z [ inl y ↦ omega (arith, y .0) | inr y ↦ omega (arith, y .1, q .depth) ]
 
   pub below-again : {r hd : ℕ} → (r ≡ 0 → ⊥) → r ≤ 32 → hd ≡ getD leaves r 0 → hd ≡ x → Lands main-of leaves counts (q .levels) x r →
       Finds l main-of leaves counts (fall-at (q .levels) x) x r (getD counts r 0 + 1)
   below-again {r} a b hh hx z =
       let k : eqb (getD leaves r 0) x ≡ true = eq-eqb (getD leaves r 0) x (sym hh ∙ hx) in
-      elim z [
-        | inl y ↦ absurd (omega (arith, y .0))
-        | inr y ↦ elim y [ inl y ↦ absurd (a (y .0)) | inr y ↦ inr (y .0, (b, omega (arith, y .1, q .depth)), (y .2 .0, y .2 .1, rw k at (y .2 .2))) ]
-      ]
+      elim z [ inl y ↦ absurd (a (y .0)) | inr y ↦ inr (y .0, (b, omega (arith, y .1, q .depth)), (y .2 .0, y .2 .1, rw k at (y .2 .2))) ]
 
   pub below-fresh : {r hd : ℕ} → (r ≡ 0 → ⊥) → r ≤ 32 → hd ≡ getD leaves r 0 → (hd ≡ x → ⊥) → Lands main-of leaves counts (q .levels) x r →
       Finds l main-of leaves counts (fall-at (q .levels) x) x r 0
   below-fresh {r} a b hh hx z =
       let k : eqb (getD leaves r 0) x ≡ false = ne-eqb (getD leaves r 0) x (λ y. hx (hh ∙ y)) in
-      elim z [
-        | inl y ↦ absurd (omega (arith, y .0))
-        | inr y ↦ elim y [ inl y ↦ absurd (a (y .0)) | inr y ↦ inr (y .0, (b, omega (arith, y .1, q .depth)), (y .2 .0, y .2 .1, rw k at (y .2 .2))) ]
-      ]
+      elim z [ inl y ↦ absurd (a (y .0)) | inr y ↦ inr (y .0, (b, omega (arith, y .1, q .depth)), (y .2 .0, y .2 .1, rw k at (y .2 .2))) ]
 
   -- a loop's visits stay within its bound.
   visits-fit : (r v : ℕ) (ks : Levels) → Moved main-of leaves counts r x (v + 1) ks → v + 1 ≤ detail-at w x

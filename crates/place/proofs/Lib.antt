@@ -3,6 +3,7 @@ pub mod Looking
 pub mod Trailing
 pub mod Answers
 pub mod Suffixes
+pub mod Quieting
 pub mod Views
 pub mod Falling
 pub mod Coming

@@ -6,13 +6,14 @@ use mathlib.Core.Bool.{Bool, true, false, _||_, _&&_}
 use mathlib.Core.Option.{Option, none, some}
 use lib.Dec.{eqb}
 use Rattle.model.specs.Plan.{Block}
-use Rattle.model.specs.Places.{pick, _or_, passes, seek}
+use Rattle.model.specs.Places.{pick, _or_, passes, seek, can-end, no-more, no-further}
 use mathlib.Core.Path.{_≡_}
 use mathlib.Core.List.{List, [], _∷_}
 use mathlib.Core.Logic.{_⊎_}
 use lib.ListN.{length, getD}
-use Rattle.model.specs.Stack.{Levels, behind, _else-at_, given, onto, seek-at, suffix, turned, inside-of}
+use Rattle.model.specs.Stack.{Levels, behind, below, whole, _else-at_, given, onto, seek-at, suffix, turned, inside-of}
 use Rattle.rows.specs.Rows.{kind-at, point-at, detail-at, after-at, isolated-at}
+use Rattle.place.specs.declared.Quiet.{Quiet}
 use Rattle.place.specs.Stack.{FunctionTable}
 use Rattle.place.specs.Times.{Columns}
 
@@ -140,20 +141,60 @@ unfoldable pub fall-at : Levels → ℕ → Option Levels
 fall-at [] x = none
 fall-at (g ∷ ks) x = onto ks (next-beyond g x) else-at given (quits g) (return-at ks x)
 
--- Whether the run can end in silence from forms at a level above these levels on.
-unfoldable pub passes-at : Forms → Levels → Bool
-passes-at f [] = passes f
-passes-at f (g ∷ ks) = passes f && passes-at (behind g) ks
+-- How quiet forms are: whether some way through them meets no point, and whether none meets one.
+abbrev pub quiet-of : Forms → Quiet
+quiet-of f = record { free = passes f; mute = no-more f }
 
--- The same from behind the loop or call that the innermost level opens with.
-unfoldable pub out-at : Levels → Bool
-out-at [] = true
-out-at (g ∷ ks) = passes-at (behind g) ks
+-- Nothing; a point on every way; one behind the other; one or the other.
+abbrev pub empty : Quiet
+empty = record { free = true; mute = true }
 
--- The same once it has left the form that the innermost level opens with (a loop for good).
-unfoldable pub leaves-at : Levels → Bool
-leaves-at [] = true
-leaves-at (g ∷ ks) = quits g && out-at ks
+abbrev pub shut : Quiet
+shut = record { free = false; mute = false }
+
+abbrev pub joined : Quiet → Quiet → Quiet
+joined x y = record { free = x .free && y .free; mute = x .mute && y .mute }
+
+abbrev pub either : Quiet → Quiet → Quiet
+either x y = record { free = x .free || y .free; mute = x .mute && y .mute }
+
+-- The same of what is inside the first form at its own level, behind its block.
+unfoldable pub quiet-parts : Forms → Quiet
+quiet-parts done = empty
+quiet-parts (leaf b r) = empty
+quiet-parts (call b fun r) = empty
+quiet-parts (loop b n body r) = empty
+quiet-parts (cond b t e r) = either (quiet-of t) (quiet-of e)
+
+-- The same behind the visit that the forms open with, a loop left and a call passed.
+unfoldable pub quiet-beyond : Forms → Quiet
+quiet-beyond done = shut
+quiet-beyond (leaf b r) = quiet-of r
+quiet-beyond (call b fun r) = quiet-of r
+quiet-beyond (loop b n body r) = quiet-of r
+quiet-beyond (cond b t e r) = joined (either (quiet-of t) (quiet-of e)) (quiet-of r)
+
+-- The same behind a leaf that is there; shut where it is not.
+unfoldable pub quiet-behind : Option Forms → Quiet
+quiet-behind none = shut
+quiet-behind (some g) = quiet-beyond g
+
+-- The same behind the leaf p, as far as the first form goes.
+unfoldable pub quiet-within : Forms → ℕ → Quiet
+quiet-within done p = shut
+quiet-within (leaf b r) p = pick (eqb (b .number) p) empty shut
+quiet-within (call b fun r) p = pick (eqb (b .number) p) empty shut
+quiet-within (loop b n body r) p = pick (eqb (b .number) p) empty shut
+quiet-within (cond b t e r) p = pick (eqb (b .number) p) (either (quiet-of t) (quiet-of e)) (quiet-behind (suffix t p or suffix e p))
+
+-- The same once the run has left the form that the innermost level opens with (a loop for good), down to the end.
+unfoldable pub quiet-levels : Levels → Quiet
+quiet-levels [] = empty
+quiet-levels (g ∷ ks) = joined (quiet-beyond g) (quiet-of (below ks))
+
+-- The same behind the visit at a place: whether the run can end, and whether no further point can come.
+abbrev pub quiet-ahead : Levels → Quiet
+quiet-ahead ls = record { free = can-end (whole ls); mute = no-further (whole ls) }
 
 -- The earlier visits of x at level r when it is reported there: a new leaf there, or its loop's next visit.
 abbrev pub visits-there : List ℕ → List ℕ → ℕ → ℕ → ℕ
@@ -168,12 +209,11 @@ pub record Moved (main : Forms) (leaves counts : List ℕ) (r x v : ℕ) (ls : L
   pub stands : Stands main leaves counts under
   pub level : Level main under x v place
 
--- What a search down the levels answers: 33 where x cannot come next, nor the end; 0 where the run can end and x cannot come; else x's level.
+-- What a search down the levels answers: x's level, or 0 where x cannot come next.
 abbrev pub Lands : Forms → List ℕ → List ℕ → Levels → ℕ → ℕ → Type 0
 Lands main leaves counts ls x r =
-    ((r ≡ 33) × (fall-at ls x ≡ none) × (leaves-at ls ≡ false)) ⊎
-    (((r ≡ 0) × (fall-at ls x ≡ none) × (leaves-at ls ≡ true)) ⊎
-    ((1 ≤ r) × (r ≤ length ls) × ((ks : Levels) × (fall-at ls x ≡ some ks) × Moved main leaves counts r x (visits-there leaves counts r x) ks)))
+    ((r ≡ 0) × (fall-at ls x ≡ none)) ⊎
+    ((1 ≤ r) × (r ≤ length ls) × ((ks : Levels) × (fall-at ls x ≡ some ks) × Moved main leaves counts r x (visits-there leaves counts r x) ks))
 
 -- Where the records inside the loop or call at h begin, and where they end.
 abbrev pub inner-from : List ℕ → List ℕ → ℕ → ℕ
@@ -207,9 +247,13 @@ abbrev pub Finds : ℕ → Forms → List ℕ → List ℕ → Option Levels →
 Finds l main leaves counts o x r v =
     ((r ≡ 0) × (o ≡ none)) ⊎ ((1 ≤ r) × ((r ≤ 32) × (r ≤ l + 1)) × ((ks : Levels) × (o ≡ some ks) × Moved main leaves counts r x v ks))
 
+-- The leaf p is a loop that may turn again after `count` earlier visits.
+abbrev pub MayTurn : List ℕ → ℕ → ℕ → Type 0
+MayTurn w p count = (kind-at w p ≡ 2) × (count < detail-at w p)
+
 -- The leaf h is open after `count` earlier visits: a call, or a loop that may turn again.
 abbrev pub Enters : List ℕ → ℕ → ℕ → Type 0
-Enters w h count = (kind-at w h ≡ 1) ⊎ ((kind-at w h ≡ 2) × (count < detail-at w h))
+Enters w h count = (kind-at w h ≡ 1) ⊎ MayTurn w h count
 
 -- The leaf p can have had so many earlier visits.
 abbrev pub Counted : List ℕ → ℕ → ℕ → Type 0

@@ -1,19 +1,21 @@
-// The next report on a row of leaf records: whether a point can come next, and the place then.
+// The next report on a row of leaf records: whether a point can come next, and the place then; whether the run can end; whether any point can come.
 ghost use mathlib.Core.Path.{_≡_};
-ghost use mathlib.Core.Bool.{true, false};
+ghost use mathlib.Core.Bool.{true, false, _&&_};
 ghost use mathlib.Core.List.{List, []};
 ghost use mathlib.Core.Option.{none};
 ghost use Prim.Native.Nat.{ℕ, _+_, _-_, _*_, _≤_, _<_};
 ghost use lib.ListN.{length, getD};
 ghost use Rattle.model.specs.Forms.{Forms, done, forms};
-ghost use Rattle.model.specs.Places.{seek, passes, can-end};
-ghost use Rattle.model.specs.Stack.{onward-at, onto, whole};
+ghost use Rattle.model.specs.Places.{seek, passes, can-end, no-more, no-further};
+ghost use Rattle.model.specs.Stack.{onward-at, onto, whole, suffix};
 ghost use Rattle.rows.specs.Rows.{kind-at, point-at, after-at, Piece};
 ghost use Rattle.rows.specs.Answers.{Says};
 ghost use Rattle.place.specs.Pieces.{Spanned};
 ghost use Rattle.place.specs.Stack.{FunctionTable, Decodes, Decoded, Put, NextStack};
-ghost use Rattle.place.specs.Private.{Enters, Counted, Settled, StackStands, Enterable, Running, Placed, Lands, Finds, fall-at, inner-from};
-ghost use Rattle.place.specs.Private.{inner-to, base-from, base-to, look, within-first, hits, trail, inner, Opens, Level-fits, Fares};
+ghost use Rattle.place.specs.Private.{MayTurn, Enters, Counted, Settled, StackStands, Enterable, Running, Placed, Lands, Finds, fall-at, inner-from};
+ghost use Rattle.place.specs.Private.{inner-to, base-from, base-to, look, within-first, hits, trail, inner};
+ghost use Rattle.place.specs.Private.{empty, shut, joined, either, quiet-of, quiet-parts, quiet-within, quiet-behind, quiet-levels, quiet-ahead};
+ghost use Rattle.place.specs.Private.{Opens, Level-fits, Fares};
 ghost use Rattle.place.specs.Private.{inner-time, first-time, level-time};
 ghost use Rattle.place.specs.Times.{CostedStack, Clocked, TimesAt};
 use rows::AFTER;
@@ -41,17 +43,14 @@ const MEET: u64 = 2;
 // Answer of a scan: the leaf that it was to start behind is not there.
 const ABSENT: u64 = 3;
 
-// No leaf has this number.
-const NOWHERE: usize = 18446744073709551615;
-
 // As many levels can be open in a run.
 const LEVELS: usize = MAX_LEVEL as usize;
 
-// No level has this number.
-const NO_LEVEL: usize = LEVELS + 1;
+// Level 0 counts too.
+const ENTRIES: usize = LEVELS + 1;
 
 // A number for each level, from 0 on.
-pub type ByLevel = [u64; NO_LEVEL];
+pub type ByLevel = [u64; ENTRIES];
 
 // A number for each function.
 pub type Totals = [u64; MAX_FUNCTIONS];
@@ -201,7 +200,7 @@ fn span(row: &[u64], starts: &[u64], n: usize, leaves: &ByLevel, l: usize) -> Re
     opening(row, starts, head)
 }
 
-// Where the run comes to x once it has left the form of the leaf at level l: the level; 0 where it can end and cannot come to x; else 33.
+// The level where the run comes to x once it has left the form of the leaf at level l; 0 where it cannot come to x.
 fn fall(row: &[u64], starts: &[u64], n: usize, leaves: &ByLevel, l: usize, x: usize) -> usize
     requires { ⌜ (1 ≤ l) × (l ≤ 32) ⌝ }
     requires { ⌜ Running (now row) (now starts) n (now leaves) l ⌝ }
@@ -217,7 +216,7 @@ fn fall(row: &[u64], starts: &[u64], n: usize, leaves: &ByLevel, l: usize, x: us
         return l;
     }
     if v != PASS {
-        return NO_LEVEL;
+        return 0;
     }
     if l == 1 {
         return 0;
@@ -227,7 +226,7 @@ fn fall(row: &[u64], starts: &[u64], n: usize, leaves: &ByLevel, l: usize, x: us
         if head == x {
             return l - 1;
         }
-        return NO_LEVEL;
+        return 0;
     }
     fall(row, starts, n, leaves, l - 1, x)
 }
@@ -257,9 +256,6 @@ fn below(
     if r == 0 {
         return Found { at: 0, count: 0 };
     }
-    if r > LEVELS {
-        return Found { at: 0, count: 0 };
-    }
     if leaf_at(leaves, r) == x {
         return Found {
             at: r,
@@ -283,6 +279,21 @@ fn sought(row: &[u64], starts: &[u64], head: usize, x: usize) -> u64
     scan(row, from, to, x, INNER_BRACKETS)
 }
 
+// Whether the leaf p is a loop that may turn again after `count` earlier visits.
+fn may_turn(row: &[u64], p: usize, count: u64) -> bool
+    requires { ⌜ p * 8 + 8 ≤ length (now row) ⌝ }
+    ensures { λ r. ⌜ Says r (MayTurn (now (row .entry)) p count) ⌝ }
+{
+    if rows::get(row, p, KIND) != LOOP {
+        return false;
+    }
+    if count < rows::get(row, p, DETAIL) {
+        true
+    } else {
+        false
+    }
+}
+
 // Where x comes next inside the loop that was reported at level l, or at its next visit, where x cannot come once the loop is left.
 fn round_again(
     row: &[u64],
@@ -301,7 +312,7 @@ fn round_again(
 {
     let here = leaf_at(leaves, l);
     let count = earlier[l];
-    if count >= rows::get(row, here, DETAIL) {
+    if !may_turn(row, here, count) {
         return Found { at: 0, count: 0 };
     }
     let v = sought(row, starts, here, x);
@@ -368,7 +379,7 @@ fn put(a: ByLevel, l: usize, v: u64) -> ByLevel
     let mut b = a;
     b[l] = v;
     let mut k = l + 1;
-    while k < NO_LEVEL {
+    while k < ENTRIES {
         b[k] = 0;
         k += 1;
     }
@@ -381,7 +392,7 @@ pub fn zero_above(a: ByLevel, l: usize) -> bool
     ensures { λ r. ⌜ Says r ((k : ℕ) → l < k → getD a k 0 ≡ 0) ⌝ }
 {
     let mut j = l + 1;
-    while j < NO_LEVEL {
+    while j < ENTRIES {
         if a[j] != 0 {
             return false;
         }
@@ -415,8 +426,8 @@ pub fn next_place(row: &[u64], starts: &[u64], n: usize, place: Place, x: usize)
     if l == 0 {
         return Place {
             level: 0,
-            leaves: [0; NO_LEVEL],
-            earlier: [0; NO_LEVEL],
+            leaves: [0; ENTRIES],
+            earlier: [0; ENTRIES],
         };
     }
     let new = put(leaves, l, x as u64);
@@ -449,8 +460,8 @@ pub fn first_place(
     if v != MEET {
         return Place {
             level: 0,
-            leaves: [0; NO_LEVEL],
-            earlier: [0; NO_LEVEL],
+            leaves: [0; ENTRIES],
+            earlier: [0; ENTRIES],
         };
     }
     let new = put(leaves, 1, x as u64);
@@ -462,15 +473,215 @@ pub fn first_place(
     }
 }
 
-// Whether the run can end before any report.
-pub fn first_end(row: &[u64], starts: &[u64], n: usize) -> bool
-    requires { ⌜ FunctionTable (now row) (now starts) n ⌝ }
-    ensures { λ r. ⌜ ((p : FunctionTable (now (row .entry)) (now (starts .entry)) n) → r ≡ passes (getD (p .funs) (n - 1) done)) ⌝ }
+// How quiet forms are: `free`, some way through them meets no point; `mute`, none meets one.
+struct Quiet {
+    free: bool,
+    mute: bool,
+}
+
+// Nothing.
+fn empty() -> Quiet
+    ensures { λ r. ⌜ r ≡ empty ⌝ }
 {
-    let from = entry(starts, n - 1);
-    let to = entry(starts, n);
-    let v = scan(row, from, to, NOWHERE, INNER_BRACKETS);
-    v == PASS
+    Quiet {
+        free: true,
+        mute: true,
+    }
+}
+
+// A point on every way.
+fn shut() -> Quiet
+    ensures { λ r. ⌜ r ≡ shut ⌝ }
+{
+    Quiet {
+        free: false,
+        mute: false,
+    }
+}
+
+// Whether both hold.
+fn both(a: bool, b: bool) -> bool
+    ensures { λ r. ⌜ r ≡ (a && b) ⌝ }
+{
+    if a { b } else { false }
+}
+
+// x, and then y.
+fn joined(x: Quiet, y: Quiet) -> Quiet
+    ensures { λ r. ⌜ r ≡ joined x y ⌝ }
+{
+    Quiet {
+        free: both(x.free, y.free),
+        mute: both(x.mute, y.mute),
+    }
+}
+
+// x or y.
+fn either(x: Quiet, y: Quiet) -> Quiet
+    ensures { λ r. ⌜ r ≡ either x y ⌝ }
+{
+    let mute = both(x.mute, y.mute);
+    if x.free {
+        return Quiet {
+            free: true,
+            mute: mute,
+        };
+    }
+    let free = y.free;
+    Quiet {
+        free: free,
+        mute: mute,
+    }
+}
+
+// How quiet it is inside the form at i at its own level: in the parts of an if.
+fn quiet_parts(row: &[u64], i: usize, to: usize, left: usize) -> Quiet
+    requires { ⌜ i < to ⌝ }
+    requires { ⌜ to * 8 ≤ length (now row) ⌝ }
+    requires { ⌜ Piece (now row) left i to ⌝ }
+    ensures { λ r. ⌜ ((p : Piece (now (row .entry)) left i to) (G : List Forms) → r ≡ quiet-parts (forms G (p .part .lines))) ⌝ }
+{
+    if rows::get(row, i, KIND) != IF {
+        return empty();
+    }
+    let other = rows::index(row, i, OTHER);
+    let after = rows::index(row, i, AFTER);
+    let a = quiet_forms(row, i + 1, other, left - 2);
+    let b = quiet_forms(row, other, after, left - 2);
+    either(a, b)
+}
+
+// How quiet the forms from `from` up to `to` are.
+fn quiet_forms(row: &[u64], from: usize, to: usize, left: usize) -> Quiet
+    requires { ⌜ to * 8 ≤ length (now row) ⌝ }
+    requires { ⌜ Piece (now row) left from to ⌝ }
+    ensures { λ r. ⌜ ((p : Piece (now (row .entry)) left from to) (G : List Forms) → r ≡ quiet-of (forms G (p .part .lines))) ⌝ }
+{
+    let mut passed = empty();
+    let mut i = from;
+    while i < to {
+        if rows::get(row, i, POINT) == 1 {
+            return shut();
+        }
+        let v = quiet_parts(row, i, to, left);
+        if !v.free {
+            return shut();
+        }
+        passed = joined(passed, v);
+        i = rows::index(row, i, AFTER);
+    }
+    passed
+}
+
+// How quiet it is behind the leaf p of the form at i, as far as the form goes; shut where p is no leaf of its level.
+fn quiet_within(row: &[u64], i: usize, to: usize, p: usize, left: usize) -> Quiet
+    requires { ⌜ (i < to) × (i ≤ p) × (p < after-at (now row) i) ⌝ }
+    requires { ⌜ to * 8 ≤ length (now row) ⌝ }
+    requires { ⌜ Piece (now row) left i to ⌝ }
+    ensures { λ r. ⌜ ((q : Piece (now (row .entry)) left i to) (G : List Forms) → r ≡ quiet-within (forms G (q .part .lines)) p) ⌝ }
+{
+    if p == i {
+        return quiet_parts(row, i, to, left);
+    }
+    if rows::get(row, i, KIND) != IF {
+        return shut();
+    }
+    let other = rows::index(row, i, OTHER);
+    if p < other {
+        return quiet_behind(row, i + 1, other, p, left - 2);
+    }
+    let after = rows::index(row, i, AFTER);
+    quiet_behind(row, other, after, p, left - 2)
+}
+
+// How quiet it is behind the leaf p of the forms from `from` up to `to`; shut where p is no leaf of their level.
+fn quiet_behind(row: &[u64], from: usize, to: usize, p: usize, left: usize) -> Quiet
+    requires { ⌜ to * 8 ≤ length (now row) ⌝ }
+    requires { ⌜ Piece (now row) left from to ⌝ }
+    ensures { λ r. ⌜ ((q : Piece (now (row .entry)) left from to) (G : List Forms) → r ≡ quiet-behind (suffix (forms G (q .part .lines)) p)) ⌝ }
+{
+    if p < from {
+        return shut();
+    }
+    let mut i = from;
+    while i < to {
+        let after = rows::after(row, i);
+        if p < after {
+            let v = quiet_within(row, i, to, p, left);
+            if !v.free {
+                return shut();
+            }
+            let x = quiet_forms(row, after, to, left);
+            return joined(v, x);
+        }
+        i = after;
+    }
+    shut()
+}
+
+// How quiet it is once the form of the leaf at level l is left, level by level down to the end. (An open loop comes back to its condition, which is a point.)
+fn quiet_levels(row: &[u64], starts: &[u64], n: usize, leaves: &ByLevel, l: usize) -> Quiet
+    requires { ⌜ (1 ≤ l) × (l ≤ 32) ⌝ }
+    requires { ⌜ Running (now row) (now starts) n (now leaves) l ⌝ }
+    ensures { λ r. ⌜ ((q : Running (now (row .entry)) (now (starts .entry)) n (now (leaves .entry)) l) → r ≡ quiet-levels (q .levels)) ⌝ }
+{
+    let s = span(row, starts, n, leaves, l);
+    let from = s.from;
+    let to = s.to;
+    let here = leaf_at(leaves, l);
+    let v = quiet_behind(row, from, to, here, INNER_BRACKETS);
+    if l == 1 {
+        return v;
+    }
+    if !v.free {
+        return shut();
+    }
+    let head = leaf_at(leaves, l - 1);
+    if rows::get(row, head, KIND) == LOOP {
+        return shut();
+    }
+    let x = quiet_levels(row, starts, n, leaves, l - 1);
+    joined(v, x)
+}
+
+// How quiet it is inside the call at `head`.
+fn quiet_inside(row: &[u64], starts: &[u64], head: usize) -> Quiet
+    requires { ⌜ Enterable (now row) (now starts) head ⌝ }
+    requires { ⌜ inner-to (now row) (now starts) head * 8 ≤ length (now row) ⌝ }
+    requires { ⌜ Piece (now row) 62 (inner-from (now row) (now starts) head) (inner-to (now row) (now starts) head) ⌝ }
+    ensures { λ r. ⌜ ((p : Piece (now (row .entry)) 62 (inner-from (now (row .entry)) (now (starts .entry)) head)
+        (inner-to (now (row .entry)) (now (starts .entry)) head)) (G : List Forms) → r ≡ quiet-of (forms G (p .part .lines))) ⌝ }
+{
+    let s = opening(row, starts, head);
+    let from = s.from;
+    let to = s.to;
+    quiet_forms(row, from, to, INNER_BRACKETS)
+}
+
+// How quiet it is behind the report of this place.
+fn quiet_ahead(row: &[u64], starts: &[u64], n: usize, place: Place) -> Quiet
+    requires { ⌜ (1 ≤ place .level) × (place .level ≤ 32) ⌝ }
+    requires { ⌜ Decoded (now row) (now starts) n (place .leaves) (place .earlier) (place .level) ⌝ }
+    ensures { λ r. ⌜ ((q : Decoded (now (row .entry)) (now (starts .entry)) n (place .leaves) (place .earlier) (place .level))
+        → r ≡ quiet-ahead (q .levels)) ⌝ }
+{
+    let leaves = place.leaves;
+    let earlier = place.earlier;
+    let level = place.level;
+    let q = quiet_levels(row, starts, n, &leaves, level);
+    let here = leaf_at(&leaves, level);
+    if rows::get(row, here, KIND) == CALL {
+        let v = quiet_inside(row, starts, here);
+        return joined(v, q);
+    }
+    if may_turn(row, here, earlier[level]) {
+        let free = q.free;
+        return Quiet {
+            free: free,
+            mute: false,
+        };
+    }
+    q
 }
 
 // Whether the run can end behind the report of this place.
@@ -480,18 +691,47 @@ pub fn can_end(row: &[u64], starts: &[u64], n: usize, place: Place) -> bool
     ensures { λ r. ⌜ ((q : Decoded (now (row .entry)) (now (starts .entry)) n (place .leaves) (place .earlier) (place .level))
         → r ≡ can-end (whole (q .levels))) ⌝ }
 {
-    let leaves = place.leaves;
-    let level = place.level;
-    let r = fall(row, starts, n, &leaves, level, NOWHERE);
-    if r != 0 {
-        return false;
-    }
-    let here = leaf_at(&leaves, level);
-    if rows::get(row, here, KIND) != CALL {
-        return true;
-    }
-    let v = sought(row, starts, here, NOWHERE);
-    v == PASS
+    let q = quiet_ahead(row, starts, n, place);
+    q.free
+}
+
+// Whether no run meets a further point behind the report of this place.
+pub fn last_point(row: &[u64], starts: &[u64], n: usize, place: Place) -> bool
+    requires { ⌜ (1 ≤ place .level) × (place .level ≤ 32) ⌝ }
+    requires { ⌜ Decoded (now row) (now starts) n (place .leaves) (place .earlier) (place .level) ⌝ }
+    ensures { λ r. ⌜ ((q : Decoded (now (row .entry)) (now (starts .entry)) n (place .leaves) (place .earlier) (place .level))
+        → r ≡ no-further (whole (q .levels))) ⌝ }
+{
+    let q = quiet_ahead(row, starts, n, place);
+    q.mute
+}
+
+// How quiet the main function is.
+fn quiet_main(row: &[u64], starts: &[u64], n: usize) -> Quiet
+    requires { ⌜ FunctionTable (now row) (now starts) n ⌝ }
+    ensures { λ r. ⌜ ((p : FunctionTable (now (row .entry)) (now (starts .entry)) n) → r ≡ quiet-of (getD (p .funs) (n - 1) done)) ⌝ }
+{
+    let from = entry(starts, n - 1);
+    let to = entry(starts, n);
+    quiet_forms(row, from, to, INNER_BRACKETS)
+}
+
+// Whether the run can end before any report.
+pub fn first_end(row: &[u64], starts: &[u64], n: usize) -> bool
+    requires { ⌜ FunctionTable (now row) (now starts) n ⌝ }
+    ensures { λ r. ⌜ ((p : FunctionTable (now (row .entry)) (now (starts .entry)) n) → r ≡ passes (getD (p .funs) (n - 1) done)) ⌝ }
+{
+    let q = quiet_main(row, starts, n);
+    q.free
+}
+
+// Whether no run meets a point.
+pub fn no_point(row: &[u64], starts: &[u64], n: usize) -> bool
+    requires { ⌜ FunctionTable (now row) (now starts) n ⌝ }
+    ensures { λ r. ⌜ ((p : FunctionTable (now (row .entry)) (now (starts .entry)) n) → r ≡ no-more (getD (p .funs) (n - 1) done)) ⌝ }
+{
+    let q = quiet_main(row, starts, n);
+    q.mute
 }
 
 // Whether the leaf at `head` is open after `count` earlier visits: a call, or a loop that may turn again.
@@ -499,18 +739,10 @@ fn enters(row: &[u64], head: usize, count: u64) -> bool
     requires { ⌜ head * 8 + 8 ≤ length (now row) ⌝ }
     ensures { λ r. ⌜ Says r (Enters (now (row .entry)) head count) ⌝ }
 {
-    let kind = rows::get(row, head, KIND);
-    if kind == CALL {
+    if rows::get(row, head, KIND) == CALL {
         return true;
     }
-    if kind != LOOP {
-        return false;
-    }
-    if count < rows::get(row, head, DETAIL) {
-        true
-    } else {
-        false
-    }
+    may_turn(row, head, count)
 }
 
 // Whether the leaf p can have had `count` earlier visits.
@@ -533,7 +765,7 @@ fn settled(row: &[u64], from: usize, to: usize, p: usize, count: u64) -> bool
     requires { ⌜ Piece (now row) 62 from to ⌝ }
     ensures { λ r. ⌜ ((n : ℕ) (G : List Forms) (f : Forms) → Spanned (now (row .entry)) G n from to f → Says r (Settled (now (row .entry)) f p count)) ⌝ }
 {
-    if behind(row, from, to, p, NOWHERE, INNER_BRACKETS) == ABSENT {
+    if behind(row, from, to, p, p, INNER_BRACKETS) == ABSENT {
         return false;
     }
     if rows::get(row, p, POINT) != 1 {

@@ -1,7 +1,7 @@
 //! Differences in what an accepted release or report answers.
 
 use reference::calls::{margin, Answer, Word, LEAST_MARGIN};
-use reference::composed::Composed;
+use reference::composed::{Composed, Place};
 use reference::numbers::Numbers;
 
 use super::super::calls::Call;
@@ -11,17 +11,19 @@ use super::super::state::{EARLIER, LEVEL, SUSPENDED};
 use super::{Asked, Difference};
 
 /// The numbers of a decision, and what it was found from.
-struct Decision {
-    word: Word,
-    remaining: u64,
-    margin: i64,
+pub struct Decision {
+    pub word: Word,
+    pub remaining: u64,
+    pub margin: i64,
     late: bool,
-    releases: bool,
+    pub releases: bool,
     suspended: bool,
     reading: u64,
     deadline: u64,
-    switch: u64,
+    pub switch: u64,
     stretch: u64,
+    pub place: Place,
+    pub is_final: bool,
     release_stretch: u64,
     /// The remaining of the last point's first visit.
     first_remaining: u64,
@@ -29,7 +31,7 @@ struct Decision {
 
 impl Decision {
     /// The word that this margin leads to.
-    fn weigh(&mut self, margin: i64) {
+    pub fn weigh(&mut self, margin: i64) {
         self.word = match (self.suspended, margin >= 0) {
             (true, _) => Word::Stay,
             (false, true) => Word::Go,
@@ -37,14 +39,32 @@ impl Decision {
         };
     }
 
+    /// What comes off beside the stretch, where the decision is final or not.
+    fn reserve(&self, is_final: bool) -> u64 {
+        match is_final {
+            true => 0,
+            false => self.remaining + self.switch,
+        }
+    }
+
+    /// The margin with so much taken off beside the stretch.
+    pub fn margin_beside(&self, reserve: u64) -> i64 {
+        margin(self.deadline, self.reading, self.stretch + reserve)
+    }
+
+    /// The margin if it were a final decision or not.
+    pub fn margin_if(&self, is_final: bool) -> i64 {
+        self.margin_beside(self.reserve(is_final))
+    }
+
     fn margin_with(&self, stretch: u64) -> i64 {
-        let (reading, remaining) = (self.reading, self.remaining);
-        margin(self.deadline, reading, remaining, stretch, self.switch)
+        let reserve = self.reserve(self.is_final);
+        margin(self.deadline, self.reading, stretch + reserve)
     }
 
     /// D less all the rest, with no regard to what 64 bits hold.
     fn margin_unheld(&self) -> i64 {
-        let taken = self.remaining + self.stretch + self.switch;
+        let taken = self.stretch + self.reserve(self.is_final);
         self.deadline.wrapping_sub(self.reading).wrapping_sub(taken) as i64
     }
 }
@@ -75,13 +95,15 @@ fn of_outcome(asked: &Asked, outcome: &Outcome) -> Option<Decision> {
         deadline: composed.plan().deadline,
         switch: composed.plan().switch,
         stretch: composed.stretch_at(&place),
+        is_final: composed.is_final(&place),
+        place,
         release_stretch: composed.release_stretch(),
         first_remaining: composed.remaining(&places::by_forms(&composed, &first)?),
     })
 }
 
 /// The right outcome with its decision changed, if one is made.
-fn decided(asked: &Asked, change: impl Fn(&mut Decision)) -> Outcome {
+pub fn decided(asked: &Asked, change: impl Fn(&mut Decision)) -> Outcome {
     let mut outcome = asked.right();
     if let Some(mut decision) = of_outcome(asked, &outcome) {
         change(&mut decision);
@@ -123,7 +145,9 @@ pub const ALL: &[Difference] = &[
     }),
     ("switch-left-out", |asked| {
         decided(asked, |found| {
-            found.weigh(found.margin + found.switch as i64)
+            if !found.is_final {
+                found.weigh(found.margin + found.switch as i64);
+            }
         })
     }),
     ("stretch-left-out", |asked| {

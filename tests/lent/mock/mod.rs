@@ -4,6 +4,7 @@
 mod broken;
 mod costless;
 mod decisions;
+mod finals;
 mod memory;
 mod numbers;
 mod planted;
@@ -33,6 +34,7 @@ fn difference() -> fn(&Asked) -> Outcome {
     *FOUND.get_or_init(|| {
         let parts = [
             decisions::ALL,
+            finals::ALL,
             refusals::ALL,
             states::ALL,
             broken::ALL,

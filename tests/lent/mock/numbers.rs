@@ -39,7 +39,7 @@ fn one_path(plan: &Plan, forms: &[Form]) -> (u64, u64) {
 }
 
 /// The plan with this function as its last one, as if nobody called it.
-fn alone(plan: &Plan, function: usize) -> Plan {
+pub fn alone(plan: &Plan, function: usize) -> Plan {
     Plan {
         functions: plan.functions[..=function].to_vec(),
         ..plan.clone()

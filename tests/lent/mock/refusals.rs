@@ -3,9 +3,10 @@
 use reference::calls::Answer;
 use reference::composed::Composed;
 use reference::numbers::Numbers;
+use reference::plan::Plan;
 
 use super::super::calls::Call;
-use super::super::law::{ended, Outcome};
+use super::super::law::{self, ended, Outcome};
 use super::super::places;
 use super::super::state::{State, EARLIER, LEAVES, LEVEL, READING, RUNNING, TIMES};
 use super::{Asked, Difference};
@@ -111,6 +112,26 @@ fn spare(asked: &Asked, with_stretch: bool) -> i64 {
     })
 }
 
+/// A release that is not refused by 13 where it is final and its condition holds. A
+/// final decision does not weigh T, so without it the answer is the same.
+fn unfit_by_condition(asked: &Asked) -> Outcome {
+    let right = asked.right();
+    let (Call::Release, 13, Some(plan)) = (asked.call, number(&right), asked.plan) else {
+        return right;
+    };
+    let plan = Plan {
+        switch: 0,
+        ..plan.clone()
+    };
+    let composed = Composed::new(&plan);
+    let release = composed.release();
+    let holds = composed.is_final(&release) && composed.needed(&release) <= plan.deadline;
+    match holds {
+        true => law::on_plan(&composed, asked.state, asked.call),
+        false => right,
+    }
+}
+
 /// A refused call that leaves another state.
 fn refusal_leaves(asked: &Asked, test: impl Fn(u32) -> bool, state: State) -> Outcome {
     let mut outcome = asked.right();
@@ -133,6 +154,7 @@ pub const ALL: &[Difference] = &[
         let unfit = asked.call == Call::Release && spare(asked, true) < 0;
         instead(asked, 13, |number| number == 0 && unfit)
     }),
+    ("unfit-by-condition", unfit_by_condition),
     ("equal-refused", |asked| {
         let equal = asked.call != Call::Release && asked.reading() == asked.state.reading();
         instead(asked, 16, |number| number == 0 && equal)

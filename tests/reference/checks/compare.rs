@@ -3,6 +3,7 @@
 
 use reference::calls::{Answer, Controller, Word};
 use reference::composed::Composed;
+use reference::finals::Finals;
 use reference::gen::{self, Random};
 use reference::listed::Listed;
 use reference::numbers::{listing, Numbers};
@@ -71,6 +72,7 @@ struct Met {
     late: usize,
     held: usize,
     deepest: usize,
+    finals: Finals,
 }
 
 impl Met {
@@ -114,6 +116,10 @@ impl Met {
         });
         tally.holds(self.late > 0 && self.held > 0, || {
             "late marks and held margins are met".to_string()
+        });
+        println!("  final decisions: {}", self.finals);
+        tally.holds(self.finals.met(500), || {
+            "each answer of a final decision is met often".to_string()
         });
     }
 }
@@ -209,6 +215,7 @@ impl<'a> Both<'a> {
         let (by_runs, by_forms) = (listed.next_points(history), composed.next_points(place));
         tally.equal(by_runs, by_forms, what);
         tally.equal(listed.can_end(history), composed.can_end(place), what);
+        tally.equal(listed.is_final(history), composed.is_final(place), what);
         let level = composed.level_in_run(place);
         tally.equal(listed.level_in_run(history), level, what);
         level
@@ -227,6 +234,9 @@ fn histories(
     for _ in 0..40 {
         let (first, second) = both.call(random);
         met.note(first);
+        if let Some(history) = both.by_runs.place() {
+            met.finals.note(listed, history, first);
+        }
         tally.equal(first.line(), second.line(), || both.shown());
         both.compare_states(tally);
         met.deepest = met.deepest.max(both.compare_places(tally));

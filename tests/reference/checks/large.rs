@@ -1,5 +1,6 @@
 //! Composed numbers of plans too large to list, against single runs of them:
-//! no run exceeds them, and the dearest run meets them.
+//! no run exceeds them, and the dearest run meets them. No decision is final with a
+//! point still to come, and the last one of a run is where no point can come next.
 
 use reference::composed::{Composed, Place};
 use reference::gen::{self, Random};
@@ -86,6 +87,9 @@ impl Followed<'_> {
         tally.holds(self.loaded <= self.stretch, || {
             format!("stretch up to {leaf} in {}", self.shown())
         });
+        tally.holds(!self.composed.is_final(&self.place), || {
+            format!("a final decision before {leaf} in {}", self.shown())
+        });
         let next = self.composed.report(&self.place, leaf);
         tally.holds(next.is_some(), || {
             format!("report of {leaf} in {}", self.shown())
@@ -111,6 +115,10 @@ impl Followed<'_> {
         });
         tally.holds(self.composed.can_end(&self.place), || {
             format!("end of {}", self.shown())
+        });
+        let last = self.composed.next_points(&self.place).is_empty();
+        tally.equal(self.composed.is_final(&self.place), last, || {
+            format!("whether the last decision is final, {}", self.shown())
         });
     }
 }

@@ -1,8 +1,9 @@
 //! The reference's own checks: the worked plans and logs, the readings taken, the
-//! aimed texts, tables that one rule refuses, the two ways of finding the numbers
-//! against each other, and timed runs.
+//! aimed texts, tables that one rule refuses, the two ways of finding the numbers and
+//! the final decisions against each other, timed runs and worst cases.
 
 mod compare;
+mod finals;
 mod large;
 mod readings_of_calls;
 mod readings_of_texts;
@@ -12,6 +13,7 @@ mod tally;
 mod texts;
 mod timed;
 mod worked;
+mod worst;
 
 use std::panic::{catch_unwind, AssertUnwindSafe};
 
@@ -19,7 +21,7 @@ use tally::Tally;
 
 fn main() {
     let mut tally = Tally::new();
-    let parts: [(&str, fn(&mut Tally)); 9] = [
+    let parts: [(&str, fn(&mut Tally)); 11] = [
         ("worked plans", worked::check),
         ("readings of texts", readings_of_texts::check),
         ("readings of calls", readings_of_calls::check),
@@ -27,8 +29,10 @@ fn main() {
         ("tables", tables::check),
         ("logs", replay::check),
         ("listed against composed", compare::check),
+        ("final decisions", finals::check),
         ("large plans", large::check),
         ("timed runs", timed::check),
+        ("worst cases", worst::check),
     ];
     for (name, check) in parts {
         let before = tally.passed + tally.failed;

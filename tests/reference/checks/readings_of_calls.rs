@@ -1,12 +1,14 @@
 //! The readings taken where document 01 leaves something open about the table,
-//! the margin and the times kept, each with an example that tells it from the
-//! other reading. Those about the calls are among the worked lists of calls.
+//! the margin and the times kept, and document 02 about final decisions,
+//! each with an example that tells it from the other reading. Those about the calls
+//! are among the worked lists of calls.
 
 use reference::aimed::{task, words};
 use reference::calls::{margin, LEAST_MARGIN};
 use reference::composed::Composed;
 use reference::listed::Listed;
 use reference::numbers::{listing, Numbers};
+use reference::worked::{EMPTY, PLAN_A, PLAN_B, TWICE};
 
 use super::tally::{accepted, Tally};
 
@@ -44,13 +46,13 @@ fn tables(tally: &mut Tally) {
 }
 
 fn margins(tally: &mut Tally) {
-    tally.equal(margin(1, 1 << 62, 0, 0, 0), LEAST_MARGIN + 1, || {
+    tally.equal(margin(1, 1 << 62, 0), LEAST_MARGIN + 1, || {
         "margin above".to_string()
     });
-    tally.equal(margin(0, 1 << 62, 0, 0, 0), LEAST_MARGIN, || {
+    tally.equal(margin(0, 1 << 62, 0), LEAST_MARGIN, || {
         "margin at".to_string()
     });
-    tally.equal(margin(0, (1 << 62) + 1, 0, 0, 0), LEAST_MARGIN, || {
+    tally.equal(margin(0, (1 << 62) + 1, 0), LEAST_MARGIN, || {
         "margin below".to_string()
     });
 }
@@ -90,8 +92,56 @@ fn times(tally: &mut Tally) {
     }
 }
 
+/// Reports one after the other, and after how many of them no run meets a further
+/// point; None where some run does after each, the release's decision included.
+const FINAL: [(&str, &[usize], Option<usize>); 11] = [
+    (EMPTY, &[], Some(0)),
+    // Plan A's loop at its fourth visit; before that it can turn.
+    (PLAN_A, &[0, 1, 1, 1], None),
+    (PLAN_A, &[0, 1, 1, 1, 1], Some(5)),
+    // By runs, not by text: the point of function 0 is final in the second call alone,
+    // whichever part of the if the run has taken.
+    (PLAN_B, &[1, 2, 0, 4], None),
+    (PLAN_B, &[1, 2, 0, 4, 0], Some(5)),
+    (PLAN_B, &[1, 4], None),
+    (PLAN_B, &[1, 4, 0], Some(3)),
+    // A loop in a function that is called twice is final at its last visit there.
+    (TWICE, &[1, 0, 0, 2, 0], None),
+    (TWICE, &[1, 0, 0, 2, 0, 0], Some(6)),
+    (TWICE, &[1, 0, 2, 0], None),
+    (TWICE, &[1, 0, 2, 0, 0], Some(5)),
+];
+
+/// How many of these reports it takes until a decision is final.
+fn until_final<N: Numbers>(numbers: &N, reports: &[usize]) -> Option<usize> {
+    let mut place = numbers.release();
+    for (count, &leaf) in reports.iter().enumerate() {
+        if numbers.is_final(&place) {
+            return Some(count);
+        }
+        let next = numbers.report(&place, leaf);
+        place = next.expect("a run has this report");
+    }
+    numbers.is_final(&place).then_some(reports.len())
+}
+
+fn final_decisions(tally: &mut Tally) {
+    for (text, reports, wanted) in FINAL {
+        let plan = accepted(text);
+        let listed = Listed::new(&plan, 10_000).expect("a plan of few runs");
+        tally.equal(until_final(&listed, reports), wanted, || {
+            format!("final decision of {reports:?}, by runs")
+        });
+        let composed = Composed::new(&plan);
+        tally.equal(until_final(&composed, reports), wanted, || {
+            format!("final decision of {reports:?}, composed")
+        });
+    }
+}
+
 pub fn check(tally: &mut Tally) {
     tables(tally);
     margins(tally);
     times(tally);
+    final_decisions(tally);
 }

@@ -4,6 +4,7 @@
 
 use reference::calls::{Answer, Controller, Word};
 use reference::composed::Composed;
+use reference::finals::Finals;
 use reference::gen::{self, Random};
 use reference::numbers::Numbers;
 use reference::plan::{text, Plan};
@@ -20,6 +21,7 @@ struct Timed<'a> {
     habit: u64,
     /// Whether the condition has held at every decision of this run.
     held: bool,
+    finals: &'a mut Finals,
 }
 
 /// How many ticks something takes that may take up to `most`.
@@ -38,6 +40,9 @@ impl Timed<'_> {
 
     /// Takes over the answer of a call of the timed run; false if it was refused.
     fn answered(&mut self, random: &mut Random, answer: Answer) -> bool {
+        if let Some(place) = self.controller.place() {
+            self.finals.note(self.composed, place, answer);
+        }
         let (word, late) = match answer {
             Answer::Refused(_) => return false,
             Answer::End { word, late } => (word, late),
@@ -54,14 +59,17 @@ impl Timed<'_> {
         !late
     }
 
-    /// The condition at the place that the controller stands at, for a reading.
+    /// The condition at the place that the controller stands at, for a reading: that of
+    /// document 01 where a point can come next, else that of L3 of document 02.
     fn condition(&self, reading: u64) -> bool {
         let Some(place) = self.controller.place() else {
             return true;
         };
-        let stretch = self.composed.stretch_at(place);
-        let needed = self.composed.remaining(place) + stretch + self.plan.switch;
-        reading <= self.plan.deadline && needed <= self.plan.deadline - reading
+        let reserve = match self.composed.next_points(place).is_empty() {
+            true => 0,
+            false => self.composed.remaining(place) + self.plan.switch,
+        };
+        reading + self.composed.stretch_at(place) + reserve <= self.plan.deadline
     }
 
     /// A call that the rules refuse, somewhere among the others.
@@ -147,7 +155,13 @@ impl Timed<'_> {
 }
 
 /// Several runs of one plan, run after run on one state.
-fn plan_runs(tally: &mut Tally, random: &mut Random, plan: &Plan, long: usize) -> usize {
+fn plan_runs(
+    tally: &mut Tally,
+    random: &mut Random,
+    plan: &Plan,
+    long: usize,
+    finals: &mut Finals,
+) -> usize {
     let composed = Composed::new(plan);
     if composed.total() + plan.switch > plan.deadline {
         return 0;
@@ -161,6 +175,7 @@ fn plan_runs(tally: &mut Tally, random: &mut Random, plan: &Plan, long: usize) -
         others_run: true,
         habit: 0,
         held: true,
+        finals,
     };
     let mut count = 0;
     for _ in 0..4 {
@@ -175,18 +190,23 @@ fn plan_runs(tally: &mut Tally, random: &mut Random, plan: &Plan, long: usize) -
 pub fn check(tally: &mut Tally) {
     let mut random = Random::new(31);
     let (mut small, mut large) = (0, 0);
+    let mut finals = Finals::default();
     for _ in 0..3_000 {
         let shape = gen::small_shape(&mut random);
         let plan = gen::valid_plan(&mut random, shape);
-        small += plan_runs(tally, &mut random, &plan, 200);
+        small += plan_runs(tally, &mut random, &plan, 200, &mut finals);
     }
     for _ in 0..200 {
         let shape = gen::large_shape(&mut random);
         let plan = gen::valid_plan(&mut random, shape);
-        large += plan_runs(tally, &mut random, &plan, 400);
+        large += plan_runs(tally, &mut random, &plan, 400, &mut finals);
     }
     println!("  {small} runs of small plans, {large} of large ones");
     tally.holds(small > 3_000 && large > 100, || {
         format!("{small} and {large} timed runs")
+    });
+    println!("  final decisions: {finals}");
+    tally.holds(finals.met(20), || {
+        "each answer of a final decision is met in timed runs".to_string()
     });
 }

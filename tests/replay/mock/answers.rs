@@ -1,7 +1,8 @@
 //! The answer to each line.
 
 use reference::calls::{Answer, Call, Controller};
-use reference::composed::Composed;
+use reference::composed::{Composed, Place};
+use reference::numbers::Numbers;
 use reference::replay::call_of;
 
 use super::forms::{self, Change};
@@ -9,6 +10,7 @@ use super::planted::planted;
 use super::sums::Sums;
 
 pub struct Answers<'a> {
+    composed: &'a Composed<'a>,
     controller: Controller<'a, Composed<'a>>,
     change: Change,
     sums: Sums,
@@ -20,10 +22,23 @@ pub struct Answers<'a> {
     pub closed: bool,
 }
 
+/// What is needed at a place beside the elapsed time, and what is planted there.
+fn needed(composed: &Composed, place: &Place) -> u64 {
+    let never_final = match composed.last_point(place) {
+        None => planted("release-never-final"),
+        Some(_) => planted("reports-never-final"),
+    };
+    match never_final && composed.is_final(place) {
+        true => composed.needed(place) + composed.remaining(place) + composed.plan().switch,
+        false => composed.needed(place),
+    }
+}
+
 impl<'a> Answers<'a> {
     pub fn new(composed: &'a Composed<'a>) -> Answers<'a> {
         Answers {
-            controller: Controller::new(composed),
+            composed,
+            controller: Controller::by_rule(composed, needed),
             change: forms::change(),
             sums: Sums::default(),
             lines: 0,
@@ -69,8 +84,21 @@ impl<'a> Answers<'a> {
         }
     }
 
+    /// The answer to a call, and what is planted in that of a final decision.
+    fn answer(&mut self, call: Call) -> Answer {
+        let mut answer = self.controller.call(call);
+        if let Answer::Decision { remaining, .. } = &mut answer {
+            let place = self.controller.place();
+            let is_final = place.is_some_and(|place| self.composed.is_final(place));
+            if is_final && planted("final-remaining-0") {
+                *remaining = 0;
+            }
+        }
+        answer
+    }
+
     fn call(&mut self, call: Call) -> String {
-        let answer = self.controller.call(call);
+        let answer = self.answer(call);
         match (call, answer) {
             (_, Answer::Refused(number)) => {
                 let sums = self.of_refused(call);

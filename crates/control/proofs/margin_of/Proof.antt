@@ -10,28 +10,25 @@ use borrow.Author.Needs.{needs}
 use Rattle.control.proofs.margin_of.Statement.{statement}
 use Rattle.control.proofs.margin_of.Tie as tie
 
--- What is left, as the four differences make it.
-weighing : (c : tie.After-less4) → let a = c .before .before .before .before .args in Weighs (c .less4 .result) (margin (terms (a .deadline) (a .switch)) (a .outlook) (a .reading))
+-- What is left, as the differences make it.
+weighing : (c : tie.After-less2) → let a = c .before .before .before .args in Weighs (c .less2 .result) (margin (terms (a .deadline) (a .switch)) (a .outlook) (a .reading))
 weighing c =
-    let s = c .before .before .before .before in
+    let s = c .before .before .before in
     let a = s .args in
-    weighs (a .deadline) (a .switch) (a .outlook) (a .reading) (s .pre) (c .less4 .result)
-    (omega (arith, c .before .before .before .less .ensures, c .before .before .less2 .ensures, c .before .less3 .ensures, c .less4 .ensures))
+    weighs (a .deadline) (a .switch) (a .outlook) (a .reading) (s .pre) (c .less2 .result)
+    (omega (arith, c .before .before .less-reserve .ensures, c .before .less .ensures, c .less2 .ensures))
 
-add-less : tie.Need-add-less
-add-less c = search needs
+add-less-reserve : tie.Need-add-less-reserve
+add-less-reserve c = search needs
+
+less-reserve-requires : tie.Need-less-reserve-requires
+less-reserve-requires c κs = search needs
 
 less-requires : tie.Need-less-requires
 less-requires c κs = search needs
 
 less-requires-2 : tie.Need-less-requires-2
 less-requires-2 c κs = search needs
-
-less-requires-3 : tie.Need-less-requires-3
-less-requires-3 c κs = search needs
-
-less-requires-4 : tie.Need-less-requires-4
-less-requires-4 c κs = search needs
 
 cast-result : tie.Need-cast-result
 cast-result c = search needs
@@ -49,11 +46,10 @@ pub margin-of-spec : {M : Type 1} → statement M
 margin-of-spec =
     tie.close
     (tie.spec
-    add-less
+    add-less-reserve
+    less-reserve-requires
     less-requires
     less-requires-2
-    less-requires-3
-    less-requires-4
     cast-result
     cast-result-2
     sub-result

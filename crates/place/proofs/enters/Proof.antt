@@ -1,12 +1,9 @@
 use mathlib.Core.Logic.{inl, inr}
 use mathlib.Core.Path.{_∙_, sym}
-use native.Mathlib.Omega.{arith}
 use borrow.Author.Needs.{needs}
+use Rattle.rows.proofs.Answers.{same-answer}
 use Rattle.place.proofs.enters.Statement.{statement}
 use Rattle.place.proofs.enters.Tie as tie
-use Rattle.place.proofs.enters.Reads as reads
-use Rattle.place.proofs.enters.Lts as lts
-use Rattle.rows.proofs.get.Reads as get-reads
 
 get-requires : tie.Need-get-requires
 get-requires c κs = search needs
@@ -14,18 +11,13 @@ get-requires c κs = search needs
 returns : tie.Need-returns
 returns c = inl (sym (c .before .get .ensures) ∙ c .if1 .taken)
 
+may-turn-requires : tie.Need-may-turn-requires
+may-turn-requires c κs = search needs
+
 returns-2 : tie.Need-returns-2
-returns-2 c = λ z. elim z [ inl y ↦ c .before .if1 .left (c .before .before .get .ensures ∙ y) | inr y ↦ c .if2 .taken (c .before .before .get .ensures ∙ y .0) ]
-
-get-requires-2 : tie.Need-get-requires-2
-get-requires-2 c κs = search needs
-
-returns-3 : tie.Need-returns-3
-returns-3 c = inr (sym (c .before .before .before .before .get .ensures) ∙ c .before .before .if2 .left, omega (arith, c .before .get2 .ensures, c .if3 .taken))
-
-returns-4 : tie.Need-returns-4
-returns-4 c = λ z. elim z [ inl y ↦ c .before .before .before .if1 .left (c .before .before .before .before .get .ensures ∙ y) | inr y ↦ omega (arith, y .1, c .before .get2 .ensures, c .if3 .left) ]
+returns-2 c =
+    same-answer (c .may-turn .result) (λ z. inr z) (λ z. elim z [ inl y ↦ absurd (c .before .if1 .left (c .before .before .get .ensures ∙ y)) | inr y ↦ y ])
+    (c .may-turn .ensures)
 
 pub enters-spec : {M : Type 1} → statement M
-enters-spec =
-    tie.close (tie.spec get-requires returns returns-2 get-requires-2 returns-3 returns-4)
+enters-spec = tie.close (tie.spec get-requires returns may-turn-requires returns-2)
