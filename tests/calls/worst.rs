@@ -6,12 +6,12 @@ use lent::calls::made;
 use lent::state::State;
 use lent::tally::Tally;
 use reference::composed::Composed;
-use reference::gen::{self, Random};
 use reference::plan::Plan;
 use reference::table;
-use reference::worst::{judge, Calls, Met};
+use reference::worst::{judge_random, Calls};
 
 const PLANS: usize = 1_500;
+const OFTEN: usize = 40;
 
 /// Delivered calls on the table of this plan.
 fn ready(plan: &Plan, play: &mut dyn FnMut(&mut Calls)) {
@@ -21,16 +21,7 @@ fn ready(plan: &Plan, play: &mut dyn FnMut(&mut Calls)) {
 }
 
 pub fn compare_all(tally: &mut Tally) {
-    let mut random = Random::new(93);
-    let mut met = Met::default();
-    while met.plans < PLANS {
-        let plan = gen::small_or_calling_plan(&mut random);
-        judge(&mut random, &plan, &mut met, &ready, &mut |truth, what| {
-            tally.holds(truth, what)
-        });
-    }
-    met.print();
-    tally.holds(met.met(40), || {
-        "each kind of final decision is met often".to_string()
+    judge_random(93, PLANS, OFTEN, &ready, &mut |truth, what| {
+        tally.holds(truth, what)
     });
 }

@@ -7,7 +7,7 @@
 use std::collections::{BTreeMap, BTreeSet};
 
 use super::calls::{Answer, Call, Word};
-use super::gen::Random;
+use super::gen::{self, Random};
 use super::listed::Listed;
 use super::numbers::Numbers;
 use super::plan::{text, Plan, MOST_DEADLINE};
@@ -28,8 +28,8 @@ pub type Holds<'a> = &'a mut dyn FnMut(bool, &dyn Fn() -> String);
 
 /// What was met, so that nothing goes untried.
 #[derive(Default)]
-pub struct Met {
-    pub plans: usize,
+struct Met {
+    plans: usize,
     runs: usize,
     /// Final decisions that go on with margin 0, of releases and of reports.
     releases: usize,
@@ -43,7 +43,7 @@ pub struct Met {
 }
 
 impl Met {
-    pub fn print(&self) {
+    fn print(&self) {
         println!("  {} runs of {} plans", self.runs, self.plans);
         let (releases, reports) = (self.releases, self.reports);
         println!("  final decisions with margin 0: {releases} releases, {reports} reports");
@@ -53,7 +53,7 @@ impl Met {
     }
 
     /// Whether each kind of final decision was met at least so often.
-    pub fn met(&self, least: usize) -> bool {
+    fn met(&self, least: usize) -> bool {
         let decisions = [self.releases, self.reports, self.at_deadline, self.shorter];
         let mut counts = decisions.into_iter().chain([self.tick_less]);
         counts.all(|count| count >= least)
@@ -314,8 +314,23 @@ impl<'a> Trial<'a> {
     }
 }
 
+/// Plays the worst cases of so many random plans, with each kind of final decision met at
+/// least so often.
+pub fn judge_random(seed: u64, plans: usize, least: usize, ready: Ready, holds: Holds) {
+    let mut random = Random::new(seed);
+    let mut met = Met::default();
+    while met.plans < plans {
+        let plan = gen::small_or_calling_plan(&mut random);
+        judge(&mut random, &plan, &mut met, ready, holds);
+    }
+    met.print();
+    holds(met.met(least), &|| {
+        format!("each kind of final decision is met {least} times")
+    });
+}
+
 /// Plays the worst cases of a plan, if it has few runs.
-pub fn judge(random: &mut Random, plan: &Plan, met: &mut Met, ready: Ready, holds: Holds) {
+fn judge(random: &mut Random, plan: &Plan, met: &mut Met, ready: Ready, holds: Holds) {
     let Some(runs) = Runs::new(plan) else {
         return;
     };

@@ -18,10 +18,10 @@ use Rattle.rows.specs.Rows.{kind-at, point-at, detail-at, block-at, Piece}
 use Rattle.place.specs.Pieces.{Spanned}
 use Rattle.place.specs.declared.Quiet.{Quiet}
 use Rattle.place.specs.Private.{look, scan-answer, Stands, Level, Running, Placed, ground, Finds, MayTurn, inner-from, inner-to, base-from, base-to}
-use Rattle.place.specs.Private.{quiet-of, empty, shut, joined, either, quiet-beyond, quiet-behind, quiet-levels, quiet-ahead}
+use Rattle.place.specs.Private.{quiet-of, empty, shut, series, either, quiet-beyond, quiet-behind, quiet-levels, quiet-ahead}
 use Rattle.place.specs.Stack.{FunctionTable}
 use Rattle.place.proofs.Suffixes.{seek-suffix}
-use Rattle.place.proofs.Quieting.{joined-shut, joined-empty, joined-assoc, quiet-⊕, tied-shut, beyond-tied}
+use Rattle.place.proofs.Quieting.{series-shut, series-empty, series-assoc, quiet-⊕, tied-shut, beyond-tied}
 use Rattle.place.proofs.Views.{View, a-leaf, a-call, a-loop, an-if}
 use Rattle.place.proofs.Falling.{verdict-two, top, spanned, as-loop, as-call, leaf-view}
 use Rattle.place.proofs.Finding.{CallTop, LoopTop, looked, front, there, loop-here}
@@ -51,7 +51,7 @@ module _ {w starts leaves : List ℕ} {n l : ℕ} (q : Running w starts n leaves
   abbrev ks : Levels
   ks = top q one .under
 
-  levels-are : quiet-levels (q .levels) ≡ joined (quiet-beyond g) (quiet-of (below ks))
+  levels-are : quiet-levels (q .levels) ≡ series (quiet-beyond g) (quiet-of (below ks))
   unfolding quiet-levels
   levels-are = ap quiet-levels (top q one .same)
 
@@ -74,12 +74,12 @@ module _ {w starts leaves : List ℕ} {n l : ℕ} (q : Running w starts n leaves
 
   pub outermost : {v : Quiet} → l ≡ 1 → v ≡ quiet-beyond g → v ≡ quiet-levels (q .levels)
   outermost {v} low h =
-      h ∙ sym (levels-are ∙ ap (joined (quiet-beyond g)) (nothing-below ks (omega (arith, top q one .depth))) ∙ joined-empty (quiet-beyond g))
+      h ∙ sym (levels-are ∙ ap (series (quiet-beyond g)) (nothing-below ks (omega (arith, top q one .depth))) ∙ series-empty (quiet-beyond g))
 
   pub level-shut : {v r : Quiet} → v ≡ quiet-beyond g → v .free ≡ false → r ≡ shut → r ≡ quiet-levels (q .levels)
   level-shut {v} {r} h f hr =
       let z = tied-shut (quiet-beyond g) (beyond-tied g) (ap (λ (y : Quiet). y .free) (sym h) ∙ f) in
-      hr ∙ sym (levels-are ∙ ap (λ (y : Quiet). joined y (quiet-of (below ks))) z)
+      hr ∙ sym (levels-are ∙ ap (λ (y : Quiet). series y (quiet-of (below ks))) z)
 
 -- Under the innermost level.
 module _ {w starts leaves : List ℕ} {n l : ℕ} (q : Running w starts n leaves l) (one : 1 ≤ l) (two : 2 ≤ l) where
@@ -92,7 +92,7 @@ module _ {w starts leaves : List ℕ} {n l : ℕ} (q : Running w starts n leaves
 
   turning-below : (b : Block) (m : ℕ) (body r g : Forms) (ks : Levels) → g ≡ loop b (suc m) body r → b .point ≡ true → quiet-of (below (g ∷ ks)) ≡ shut
   unfolding below behind
-  turning-below b m body r g ks e h = rw e (quiet-⊕ (loop b m body r) (below ks) ∙ ap (λ (y : Quiet). joined y (quiet-of (below ks))) (loop-shut b m body r h))
+  turning-below b m body r g ks e h = rw e (quiet-⊕ (loop b m body r) (below ks) ∙ ap (λ (y : Quiet). series y (quiet-of (below ks))) (loop-shut b m body r h))
 
   calling-below : (b : Block) (fun r g : Forms) (ks : Levels) → g ≡ call b fun r → quiet-of (below (g ∷ ks)) ≡ quiet-levels (g ∷ ks)
   unfolding below behind quiet-levels quiet-beyond
@@ -119,17 +119,17 @@ module _ {w starts leaves : List ℕ} {n l : ℕ} (q : Running w starts n leaves
   pub levels-turning : {hd kd : ℕ} {r : Quiet} → hd ≡ getD leaves (l - 1) 0 → kd ≡ kind-at w hd → kd ≡ 2 → r ≡ shut → r ≡ quiet-levels (q .levels)
   levels-turning hh hk k hr =
       let z = under .turning (ap (λ (p : ℕ). kind-at w p) (sym hh) ∙ sym hk ∙ k) in
-      hr ∙ sym (levels-are q one ∙ ap (joined (quiet-beyond (g q one))) z ∙ joined-shut (quiet-beyond (g q one)))
+      hr ∙ sym (levels-are q one ∙ ap (series (quiet-beyond (g q one))) z ∙ series-shut (quiet-beyond (g q one)))
 
   -- Through a call it goes on.
   pub levels-calling : {hd kd : ℕ} {v x r : Quiet} → hd ≡ getD leaves (l - 1) 0 → kd ≡ kind-at w hd → (kd ≡ 2 → ⊥) → v ≡ quiet-beyond (g q one) →
-      ((z : Running w starts n leaves (l - 1)) → x ≡ quiet-levels (z .levels)) → r ≡ joined v x → r ≡ quiet-levels (q .levels)
+      ((z : Running w starts n leaves (l - 1)) → x ≡ quiet-levels (z .levels)) → r ≡ series v x → r ≡ quiet-levels (q .levels)
   levels-calling {v = v} {x = x} hh hk k hv rec hr =
       let t = top q one in
       let y : Running w starts n leaves (l - 1) =
       record { table = q .table; counts = q .counts; levels = t .under; depth = omega (arith, t .depth); stands = t .stands; marked = λ k a b. q .marked k a (omega arith) } in
       let z = under .calling (λ y. k (hk ∙ ap (λ (p : ℕ). kind-at w p) hh ∙ y)) in
-      hr ∙ ap (λ (u : Quiet). joined u x) hv ∙ ap (joined (quiet-beyond (g q one))) (rec y ∙ sym z) ∙ sym (levels-are q one)
+      hr ∙ ap (λ (u : Quiet). series u x) hv ∙ ap (series (quiet-beyond (g q one))) (rec y ∙ sym z) ∙ sym (levels-are q one)
 
 -- AT THE PLACE
 
@@ -146,8 +146,8 @@ and-and true false false = refl
 and-and false b m = refl
 
 -- One part or the other, and then the same.
-either-joined : (x y z : Quiet) → either (joined x z) (joined y z) ≡ joined (either x y) z
-either-joined x y z = λ i. record { free = or-and (x .free) (y .free) (z .free) i; mute = and-and (x .mute) (y .mute) (z .mute) i }
+either-series : (x y z : Quiet) → either (series x z) (series y z) ≡ series (either x y) z
+either-series x y z = λ i. record { free = or-and (x .free) (y .free) (z .free) i; mute = and-and (x .mute) (y .mute) (z .mute) i }
 
 -- A loop that may turn again can be left; and it comes back.
 never-again : (s k : Bool) → (s || (k && false)) ≡ s
@@ -160,7 +160,7 @@ always-again true true = refl
 always-again true false = refl
 always-again false k = refl
 
-open-loop : (x y : Quiet) → _≡_ {A = Quiet} (either x (joined y shut)) (record { free = x .free; mute = false })
+open-loop : (x y : Quiet) → _≡_ {A = Quiet} (either x (series y shut)) (record { free = x .free; mute = false })
 open-loop x y = λ i. record { free = never-again (x .free) (y .free) i; mute = always-again (x .mute) (y .mute) i }
 
 module _ (ks : Levels) where
@@ -168,9 +168,9 @@ module _ (ks : Levels) where
   unfolding can-end no-further whole _⊕_ quiet-beyond quiet-levels
   ahead-leaf b r g e = rw e (quiet-⊕ r (below ks))
 
-  ahead-call : (b : Block) (fun r g : Forms) → g ≡ call b fun r → quiet-ahead (g ∷ ks) ≡ joined (quiet-of fun) (quiet-levels (g ∷ ks))
+  ahead-call : (b : Block) (fun r g : Forms) → g ≡ call b fun r → quiet-ahead (g ∷ ks) ≡ series (quiet-of fun) (quiet-levels (g ∷ ks))
   unfolding can-end no-further whole _⊕_ quiet-beyond quiet-levels
-  ahead-call b fun r g e = rw e (quiet-⊕ fun (r ⊕ below ks) ∙ ap (joined (quiet-of fun)) (quiet-⊕ r (below ks)))
+  ahead-call b fun r g e = rw e (quiet-⊕ fun (r ⊕ below ks) ∙ ap (series (quiet-of fun)) (quiet-⊕ r (below ks)))
 
   ahead-spent : (b : Block) (body r g : Forms) → g ≡ loop b zero body r → quiet-ahead (g ∷ ks) ≡ quiet-levels (g ∷ ks)
   unfolding can-end no-further whole _⊕_ quiet-beyond quiet-levels
@@ -181,7 +181,7 @@ module _ (ks : Levels) where
   unfolding can-end no-further whole _⊕_ quiet-beyond quiet-levels
   ahead-loop b m body r g e p =
       let again = loop b m body (r ⊕ below ks) in
-      let z : quiet-of (body ⊕ again) ≡ joined (quiet-of body) shut = quiet-⊕ body again ∙ ap (joined (quiet-of body)) (loop-shut b m body (r ⊕ below ks) p) in
+      let z : quiet-of (body ⊕ again) ≡ series (quiet-of body) shut = quiet-⊕ body again ∙ ap (series (quiet-of body)) (loop-shut b m body (r ⊕ below ks) p) in
       rw e (ap (either (quiet-of (r ⊕ below ks))) z ∙ open-loop (quiet-of (r ⊕ below ks)) (quiet-of body) ∙
       ap (λ (x : Quiet). record { free = x .free; mute = false }) (quiet-⊕ r (below ks)))
 
@@ -190,8 +190,8 @@ module _ (ks : Levels) where
   ahead-if b t s r g e =
       let R = r ⊕ below ks in
       let x = either (quiet-of t) (quiet-of s) in
-      rw e (ap (λ (y : Quiet). either y (quiet-of (s ⊕ R))) (quiet-⊕ t R) ∙ ap (either (joined (quiet-of t) (quiet-of R))) (quiet-⊕ s R) ∙
-      either-joined (quiet-of t) (quiet-of s) (quiet-of R) ∙ ap (joined x) (quiet-⊕ r (below ks)) ∙ joined-assoc x (quiet-of r) (quiet-of (below ks)))
+      rw e (ap (λ (y : Quiet). either y (quiet-of (s ⊕ R))) (quiet-⊕ t R) ∙ ap (either (series (quiet-of t) (quiet-of R))) (quiet-⊕ s R) ∙
+      either-series (quiet-of t) (quiet-of s) (quiet-of R) ∙ ap (series x) (quiet-⊕ r (below ks)) ∙ series-assoc x (quiet-of r) (quiet-of (below ks)))
 
 -- Where the leaf is no call's, and no loop's with a round left.
 ahead-view : {w : List ℕ} {G : List Forms} {k p v e : ℕ} {g : Forms} → View w G k p v e g → (kind-at w p ≡ 1 → ⊥) → (MayTurn w p v → ⊥) → (ks : Levels) →
@@ -218,9 +218,9 @@ module _ {w starts : List ℕ} {n : ℕ} {leaves counts : List ℕ} {l : ℕ} (q
   -- At a call.
   pub place-call : {hd : ℕ} {v x r : Quiet} → (c : CallTop w starts (q .table .funs) n hd (front q one .place)) →
       ((p : Piece w 62 (inner-from w starts hd) (inner-to w starts hd)) (G : List Forms) → v ≡ quiet-of (forms G (p .part .lines))) →
-      x ≡ quiet-levels (q .levels) → r ≡ joined v x → r ≡ quiet-ahead (q .levels)
+      x ≡ quiet-levels (q .levels) → r ≡ series v x → r ≡ quiet-ahead (q .levels)
   place-call {hd} {v} {x} c hv hx hr =
-      hr ∙ ap (λ (y : Quiet). joined y x) (forms-read (c .spanned) hv) ∙ ap (joined (quiet-of (c .fun))) (hx ∙ sym same-levels) ∙
+      hr ∙ ap (λ (y : Quiet). series y x) (forms-read (c .spanned) hv) ∙ ap (series (quiet-of (c .fun))) (hx ∙ sym same-levels) ∙
       sym (ahead-call (front q one .under) (block-at w hd) (c .fun) (c .later) (front q one .place) (c .shape)) ∙ same-ahead
 
   -- At a loop that may turn again.

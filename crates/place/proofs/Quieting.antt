@@ -19,7 +19,7 @@ use Rattle.rows.specs.Rows.{kind-at, point-at, other-at, after-at, block-at, Re
 use Rattle.rows.specs.First.{rest}
 use Rattle.rows.proofs.Shape.{rep-le, then-in, else-in}
 use Rattle.place.specs.declared.Quiet.{Quiet}
-use Rattle.place.specs.Private.{Nonempty, quiet-of, empty, shut, joined, either, quiet-parts, quiet-beyond, quiet-behind, quiet-within}
+use Rattle.place.specs.Private.{Nonempty, quiet-of, empty, shut, series, either, quiet-parts, quiet-beyond, quiet-behind, quiet-within}
 use Rattle.place.proofs.Shape.{cond-at, piece-after}
 use Rattle.place.proofs.Trailing.{truth, number-of}
 use Rattle.place.proofs.Answers.{suffix-headed}
@@ -43,14 +43,14 @@ pick-and : (p s t : Bool) → pick p false (s && t) ≡ (pick p false s && t)
 pick-and true s t = refl
 pick-and false s t = refl
 
-pub joined-shut : (x : Quiet) → joined x shut ≡ shut
-joined-shut x = λ i. record { free = and-false (x .free) i; mute = and-false (x .mute) i }
+pub series-shut : (x : Quiet) → series x shut ≡ shut
+series-shut x = λ i. record { free = and-false (x .free) i; mute = and-false (x .mute) i }
 
-pub joined-empty : (x : Quiet) → joined x empty ≡ x
-joined-empty x = λ i. record { free = and-true (x .free) i; mute = and-true (x .mute) i }
+pub series-empty : (x : Quiet) → series x empty ≡ x
+series-empty x = λ i. record { free = and-true (x .free) i; mute = and-true (x .mute) i }
 
-pub joined-assoc : (x y z : Quiet) → joined x (joined y z) ≡ joined (joined x y) z
-joined-assoc x y z = λ i. record { free = and-assoc (x .free) (y .free) (z .free) i; mute = and-assoc (x .mute) (y .mute) (z .mute) i }
+pub series-assoc : (x y z : Quiet) → series x (series y z) ≡ series (series x y) z
+series-assoc x y z = λ i. record { free = and-assoc (x .free) (y .free) (z .free) i; mute = and-assoc (x .mute) (y .mute) (z .mute) i }
 
 passes-join : (f g : Forms) → passes (f ⊕ g) ≡ (passes f && passes g)
 unfolding passes _⊕_
@@ -62,16 +62,16 @@ passes-join (cond b t e r) g =
     ap (λ (s : Bool). pick (b .point) false ((passes t || passes e) && s)) (passes-join r g) ∙
     ap (λ (s : Bool). pick (b .point) false s) (and-assoc (passes t || passes e) (passes r) (passes g)) ∙ pick-and (b .point) ((passes t || passes e) && passes r) (passes g)
 
-pub quiet-⊕ : (f g : Forms) → quiet-of (f ⊕ g) ≡ joined (quiet-of f) (quiet-of g)
+pub quiet-⊕ : (f g : Forms) → quiet-of (f ⊕ g) ≡ series (quiet-of f) (quiet-of g)
 quiet-⊕ f g = λ i. record { free = passes-join f g i; mute = no-more-⊕ f g i }
 
-pub beyond-⊕ : (f g : Forms) → Nonempty f → quiet-beyond (f ⊕ g) ≡ joined (quiet-beyond f) (quiet-of g)
+pub beyond-⊕ : (f g : Forms) → Nonempty f → quiet-beyond (f ⊕ g) ≡ series (quiet-beyond f) (quiet-of g)
 unfolding quiet-beyond _⊕_
 beyond-⊕ done g h = absurd h
 beyond-⊕ (leaf b r) g h = quiet-⊕ r g
 beyond-⊕ (call b fun r) g h = quiet-⊕ r g
 beyond-⊕ (loop b n body r) g h = quiet-⊕ r g
-beyond-⊕ (cond b t e r) g h = ap (joined (either (quiet-of t) (quiet-of e))) (quiet-⊕ r g) ∙ joined-assoc (either (quiet-of t) (quiet-of e)) (quiet-of r) (quiet-of g)
+beyond-⊕ (cond b t e r) g h = ap (series (either (quiet-of t) (quiet-of e))) (quiet-⊕ r g) ∙ series-assoc (either (quiet-of t) (quiet-of e)) (quiet-of r) (quiet-of g)
 
 -- WHAT IS NOT FREE IS NOT MUTE
 
@@ -101,8 +101,8 @@ tied-shut x t e = λ i. record { free = e i; mute = by (x .mute) refl i }
 either-tied : (x y : Quiet) → Tied x → Tied (either x y)
 either-tied x y t e = let (p, q) = both (x .mute) (y .mute) e in rw (t p)
 
-joined-tied : (x y : Quiet) → Tied x → Tied y → Tied (joined x y)
-joined-tied x y t u e = let (p, q) = both (x .mute) (y .mute) e in rw (t p, u q)
+series-tied : (x y : Quiet) → Tied x → Tied y → Tied (series x y)
+series-tied x y t u e = let (p, q) = both (x .mute) (y .mute) e in rw (t p, u q)
 
 parts-tied : (f : Forms) → Tied (quiet-parts f)
 unfolding quiet-parts
@@ -118,7 +118,7 @@ beyond-tied done e = e
 beyond-tied (leaf b r) e = mute-free r e
 beyond-tied (call b fun r) e = mute-free r e
 beyond-tied (loop b n body r) e = mute-free r e
-beyond-tied (cond b t s r) e = joined-tied (either (quiet-of t) (quiet-of s)) (quiet-of r) (either-tied (quiet-of t) (quiet-of s) (mute-free t)) (mute-free r) e
+beyond-tied (cond b t s r) e = series-tied (either (quiet-of t) (quiet-of s)) (quiet-of r) (either-tied (quiet-of t) (quiet-of s) (mute-free t)) (mute-free r) e
 
 behind-tied : (o : Option Forms) → Tied (quiet-behind o)
 unfolding quiet-behind
@@ -171,7 +171,7 @@ mark true f m = refl
 mark false f m = refl
 
 quiet-step : (w : List ℕ) (lv i e : ℕ) (l : Lines) (G : List Forms) → Rep w lv i e l → i < e →
-    quiet-of (forms G l) ≡ at-mark (block-at w i) (joined (quiet-parts (forms G l)) (quiet-of (forms G (rest l))))
+    quiet-of (forms G l) ≡ at-mark (block-at w i) (series (quiet-parts (forms G l)) (quiet-of (forms G (rest l))))
 unfolding Rep forms passes no-more quiet-parts rest
 quiet-step w lv i e close G h lt = absurd (omega arith)
 quiet-step w lv i e (leaf-line b r) G h lt =
@@ -186,7 +186,7 @@ quiet-step w lv i e (if-line b t s r) G h lt =
     let R = quiet-of (forms G r) in
     mark (b .point) ((T .free || S .free) && R .free) (T .mute && (S .mute && R .mute)) ∙
     ap (λ (m : Bool). at-mark b (record { free = (T .free || S .free) && R .free; mute = m })) (and-assoc (T .mute) (S .mute) (R .mute)) ∙
-    ap (λ (b : Block). at-mark b (joined (either T S) R)) (h .0 .1)
+    ap (λ (b : Block). at-mark b (series (either T S) R)) (h .0 .1)
 
 parts-flat : (w : List ℕ) (lv i e : ℕ) (l : Lines) (G : List Forms) → Rep w lv i e l → i < e → (kind-at w i ≡ 3 → ⊥) → quiet-parts (forms G l) ≡ empty
 unfolding Rep forms quiet-parts
@@ -218,7 +218,7 @@ module _ {w : List ℕ} {left i e : ℕ} (lt : i < e) (p : Piece w left i e) (G 
 -- What a walk over the siblings has done: how quiet all is, is how quiet what it passed was, and then the rest.
 pub record Walked (w : List ℕ) (left i e : ℕ) (G : List Forms) (passed all : Quiet) : Type 0 where
   pub more : Piece w left i e
-  pub same : all ≡ joined passed (quiet-of (forms G (more .part .lines)))
+  pub same : all ≡ series passed (quiet-of (forms G (more .part .lines)))
 
 module _ {w : List ℕ} {left i e : ℕ} {G : List Forms} {passed all : Quiet} where
   -- At a point.
@@ -226,20 +226,20 @@ module _ {w : List ℕ} {left i e : ℕ} {G : List Forms} {passed all : Quiet} w
   walk-stopped {v} {r} lt hv v1 hr q =
       let k : eqb (point-at w i) 1 ≡ true = eq-eqb (point-at w i) 1 (sym hv ∙ v1) in
       let s = quiet-step w (q .more .level) i e (q .more .part .lines) G (q .more .part .rep) lt in
-      let y = joined (quiet-parts (forms G (q .more .part .lines))) (quiet-of (forms G (rest (q .more .part .lines)))) in
+      let y = series (quiet-parts (forms G (q .more .part .lines))) (quiet-of (forms G (rest (q .more .part .lines)))) in
       let m : at-mark (block-at w i) y ≡ shut = rw k in
-      hr ∙ sym (q .same ∙ ap (joined passed) (s ∙ m) ∙ joined-shut passed)
+      hr ∙ sym (q .same ∙ ap (series passed) (s ∙ m) ∙ series-shut passed)
 
   -- The form at i, where it is silent.
   silent-step : {v : ℕ} {u : Quiet} → i < e → v ≡ point-at w i → (v ≡ 1 → ⊥) → ((p : Piece w left i e) (G : List Forms) → u ≡ quiet-parts (forms G (p .part .lines)))
-      → (q : Walked w left i e G passed all) → all ≡ joined passed (joined u (quiet-of (forms G (rest (q .more .part .lines)))))
+      → (q : Walked w left i e G passed all) → all ≡ series passed (series u (quiet-of (forms G (rest (q .more .part .lines)))))
   silent-step {v} {u} lt hv v1 hu q =
       let k : eqb (point-at w i) 1 ≡ false = ne-eqb (point-at w i) 1 (λ z. v1 (hv ∙ z)) in
       let s = quiet-step w (q .more .level) i e (q .more .part .lines) G (q .more .part .rep) lt in
       let x = quiet-of (forms G (rest (q .more .part .lines))) in
-      let y = joined (quiet-parts (forms G (q .more .part .lines))) x in
+      let y = series (quiet-parts (forms G (q .more .part .lines))) x in
       let m : at-mark (block-at w i) y ≡ y = rw k in
-      q .same ∙ ap (joined passed) (s ∙ m ∙ ap (λ (z : Quiet). joined z x) (sym (hu (q .more) G)))
+      q .same ∙ ap (series passed) (s ∙ m ∙ ap (λ (z : Quiet). series z x) (sym (hu (q .more) G)))
 
   -- No way leads through it.
   pub walk-shut : {v : ℕ} {u r : Quiet} → i < e → v ≡ point-at w i → (v ≡ 1 → ⊥) → ((p : Piece w left i e) (G : List Forms) → u ≡ quiet-parts (forms G (p .part .lines)))
@@ -248,17 +248,17 @@ module _ {w : List ℕ} {left i e : ℕ} {G : List Forms} {passed all : Quiet} w
       let x = quiet-of (forms G (rest (q .more .part .lines))) in
       let f = forms G (q .more .part .lines) in
       let z : u ≡ shut = hu (q .more) G ∙ tied-shut (quiet-parts f) (parts-tied f) (ap (λ (y : Quiet). y .free) (sym (hu (q .more) G)) ∙ uf) in
-      hr ∙ sym (silent-step lt hv v1 hu q ∙ ap (λ (y : Quiet). joined passed (joined y x)) z ∙ joined-shut passed)
+      hr ∙ sym (silent-step lt hv v1 hu q ∙ ap (λ (y : Quiet). series passed (series y x)) z ∙ series-shut passed)
 
   -- Past it.
   pub walk-on : {v en : ℕ} {u next : Quiet} → i < e → v ≡ point-at w i → (v ≡ 1 → ⊥) → ((p : Piece w left i e) (G : List Forms) → u ≡ quiet-parts (forms G (p .part .lines)))
-      → next ≡ joined passed u → en ≡ after-at w i → Walked w left i e G passed all → Walked w left en e G next all
+      → next ≡ series passed u → en ≡ after-at w i → Walked w left i e G passed all → Walked w left en e G next all
   walk-on {v} {en} {u} {next} lt hv v1 hu hn he q =
       let x = quiet-of (forms G (rest (q .more .part .lines))) in
-      record { more = piece-after lt (q .more) he; same = silent-step lt hv v1 hu q ∙ joined-assoc passed u x ∙ ap (λ (y : Quiet). joined y x) (sym hn) }
+      record { more = piece-after lt (q .more) he; same = silent-step lt hv v1 hu q ∙ series-assoc passed u x ∙ ap (λ (y : Quiet). series y x) (sym hn) }
 
   pub walk-done : e ≤ i → Walked w left i e G passed all → passed ≡ all
-  walk-done le q = sym (q .same ∙ ap (joined passed) (quiet-none w (q .more .level) i e (q .more .part .lines) G (q .more .part .rep) le) ∙ joined-empty passed)
+  walk-done le q = sym (q .same ∙ ap (series passed) (quiet-none w (q .more .level) i e (q .more .part .lines) G (q .more .part .rep) le) ∙ series-empty passed)
 
 -- BEHIND A LEAF
 
@@ -283,14 +283,14 @@ suffix-skip w lv i e (if-line b t s r) G p h lt le =
 
 -- A leaf in the first form: in its parts, and then the rest.
 in-parts : (u v : Option Forms) (r : Forms) → ((g : Forms) → u ≡ some g → Nonempty g) → ((g : Forms) → v ≡ some g → Nonempty g) →
-    quiet-behind (u ⊕? r or v ⊕? r or none) ≡ joined (quiet-behind (u or v)) (quiet-of r)
+    quiet-behind (u ⊕? r or v ⊕? r or none) ≡ series (quiet-behind (u or v)) (quiet-of r)
 unfolding quiet-behind
 in-parts none none r hu hv = refl
 in-parts none (some g) r hu hv = beyond-⊕ g r (hv g refl)
 in-parts (some g) v r hu hv = beyond-⊕ g r (hu g refl)
 
 suffix-step : (w : List ℕ) (lv i e : ℕ) (l : Lines) (G : List Forms) (p : ℕ) → Rep w lv i e l → i < e → i ≤ p → p < after-at w i →
-    quiet-behind (suffix (forms G l) p) ≡ joined (quiet-within (forms G l) p) (quiet-of (forms G (rest l)))
+    quiet-behind (suffix (forms G l) p) ≡ series (quiet-within (forms G l) p) (quiet-of (forms G (rest l)))
 unfolding Rep forms suffix rest quiet-behind quiet-beyond quiet-within
 suffix-step w lv i e close G p h lt ge le = absurd (omega arith)
 suffix-step w lv i e (leaf-line b r) G p h lt ge le = rw (eq-eqb (b .number) p (omega (arith, number-of (h .0 .1))))
@@ -375,10 +375,10 @@ module _ {w : List ℕ} {left i e : ℕ} {G : List Forms} {p : ℕ} {all : Quiet
       }
 
   inner-step : {en : ℕ} {v : Quiet} → i < e → i ≤ p → en ≡ after-at w i → p < en → ((q : Piece w left i e) (G : List Forms) → v ≡ quiet-within (forms G (q .part .lines)) p) →
-      (q : Beside w left i e G p all) → all ≡ joined v (quiet-of (forms G (rest (q .more .part .lines))))
+      (q : Beside w left i e G p all) → all ≡ series v (quiet-of (forms G (rest (q .more .part .lines))))
   inner-step lt ge he le hv q =
       let s = suffix-step w (q .more .level) i e (q .more .part .lines) G p (q .more .part .rep) lt ge (omega arith) in
-      q .same ∙ s ∙ ap (λ (y : Quiet). joined y (quiet-of (forms G (rest (q .more .part .lines))))) (sym (hv (q .more) G))
+      q .same ∙ s ∙ ap (λ (y : Quiet). series y (quiet-of (forms G (rest (q .more .part .lines))))) (sym (hv (q .more) G))
 
   -- No way leads out of the form.
   pub leaf-shut : {en : ℕ} {v r : Quiet} → i < e → i ≤ p → en ≡ after-at w i → p < en → ((q : Piece w left i e) (G : List Forms) → v ≡ quiet-within (forms G (q .part .lines)) p)
@@ -387,9 +387,9 @@ module _ {w : List ℕ} {left i e : ℕ} {G : List Forms} {p : ℕ} {all : Quiet
       let f = forms G (q .more .part .lines) in
       let x = quiet-of (forms G (rest (q .more .part .lines))) in
       let z : v ≡ shut = hv (q .more) G ∙ tied-shut (quiet-within f p) (within-tied f p) (ap (λ (y : Quiet). y .free) (sym (hv (q .more) G)) ∙ vf) in
-      hr ∙ sym (inner-step lt ge he le hv q ∙ ap (λ (y : Quiet). joined y x) z)
+      hr ∙ sym (inner-step lt ge he le hv q ∙ ap (λ (y : Quiet). series y x) z)
 
   -- Behind the form.
   pub leaf-leaves : {en : ℕ} {v x r : Quiet} → i < e → i ≤ p → en ≡ after-at w i → p < en → ((q : Piece w left i e) (G : List Forms) → v ≡ quiet-within (forms G (q .part .lines)) p)
-      → ((q : Piece w left en e) (G : List Forms) → x ≡ quiet-of (forms G (q .part .lines))) → r ≡ joined v x → Beside w left i e G p all → r ≡ all
-  leaf-leaves {v = v} lt ge he le hv hx hr q = hr ∙ ap (joined v) (hx (piece-after lt (q .more) he) G) ∙ sym (inner-step lt ge he le hv q)
+      → ((q : Piece w left en e) (G : List Forms) → x ≡ quiet-of (forms G (q .part .lines))) → r ≡ series v x → Beside w left i e G p all → r ≡ all
+  leaf-leaves {v = v} lt ge he le hv hx hr q = hr ∙ ap (series v) (hx (piece-after lt (q .more) he) G) ∙ sym (inner-step lt ge he le hv q)

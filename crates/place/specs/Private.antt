@@ -152,8 +152,8 @@ empty = record { free = true; mute = true }
 abbrev pub shut : Quiet
 shut = record { free = false; mute = false }
 
-abbrev pub joined : Quiet → Quiet → Quiet
-joined x y = record { free = x .free && y .free; mute = x .mute && y .mute }
+abbrev pub series : Quiet → Quiet → Quiet
+series x y = record { free = x .free && y .free; mute = x .mute && y .mute }
 
 abbrev pub either : Quiet → Quiet → Quiet
 either x y = record { free = x .free || y .free; mute = x .mute && y .mute }
@@ -172,7 +172,7 @@ quiet-beyond done = shut
 quiet-beyond (leaf b r) = quiet-of r
 quiet-beyond (call b fun r) = quiet-of r
 quiet-beyond (loop b n body r) = quiet-of r
-quiet-beyond (cond b t e r) = joined (either (quiet-of t) (quiet-of e)) (quiet-of r)
+quiet-beyond (cond b t e r) = series (either (quiet-of t) (quiet-of e)) (quiet-of r)
 
 -- The same behind a leaf that is there; shut where it is not.
 unfoldable pub quiet-behind : Option Forms → Quiet
@@ -190,7 +190,7 @@ quiet-within (cond b t e r) p = pick (eqb (b .number) p) (either (quiet-of t) (q
 -- The same once the run has left the form that the innermost level opens with (a loop for good), down to the end.
 unfoldable pub quiet-levels : Levels → Quiet
 quiet-levels [] = empty
-quiet-levels (g ∷ ks) = joined (quiet-beyond g) (quiet-of (below ks))
+quiet-levels (g ∷ ks) = series (quiet-beyond g) (quiet-of (below ks))
 
 -- The same behind the visit at a place: whether the run can end, and whether no further point can come.
 abbrev pub quiet-ahead : Levels → Quiet

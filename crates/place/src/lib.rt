@@ -14,7 +14,7 @@ ghost use Rattle.place.specs.Pieces.{Spanned};
 ghost use Rattle.place.specs.Stack.{FunctionTable, Decodes, Decoded, Put, NextStack};
 ghost use Rattle.place.specs.Private.{MayTurn, Enters, Counted, Settled, StackStands, Enterable, Running, Placed, Lands, Finds, fall-at, inner-from};
 ghost use Rattle.place.specs.Private.{inner-to, base-from, base-to, look, within-first, hits, trail, inner};
-ghost use Rattle.place.specs.Private.{empty, shut, joined, either, quiet-of, quiet-parts, quiet-within, quiet-behind, quiet-levels, quiet-ahead};
+ghost use Rattle.place.specs.Private.{empty, shut, series, either, quiet-of, quiet-parts, quiet-within, quiet-behind, quiet-levels, quiet-ahead};
 ghost use Rattle.place.specs.Private.{Opens, Level-fits, Fares};
 ghost use Rattle.place.specs.Private.{inner-time, first-time, level-time};
 ghost use Rattle.place.specs.Times.{CostedStack, Clocked, TimesAt};
@@ -506,9 +506,9 @@ fn both(a: bool, b: bool) -> bool
     if a { b } else { false }
 }
 
-// x, and then y.
-fn joined(x: Quiet, y: Quiet) -> Quiet
-    ensures { λ r. ⌜ r ≡ joined x y ⌝ }
+// In series: x, and then y.
+fn series(x: Quiet, y: Quiet) -> Quiet
+    ensures { λ r. ⌜ r ≡ series x y ⌝ }
 {
     Quiet {
         free: both(x.free, y.free),
@@ -567,7 +567,7 @@ fn quiet_forms(row: &[u64], from: usize, to: usize, left: usize) -> Quiet
         if !v.free {
             return shut();
         }
-        passed = joined(passed, v);
+        passed = series(passed, v);
         i = rows::index(row, i, AFTER);
     }
     passed
@@ -612,7 +612,7 @@ fn quiet_behind(row: &[u64], from: usize, to: usize, p: usize, left: usize) -> Q
                 return shut();
             }
             let x = quiet_forms(row, after, to, left);
-            return joined(v, x);
+            return series(v, x);
         }
         i = after;
     }
@@ -641,7 +641,7 @@ fn quiet_levels(row: &[u64], starts: &[u64], n: usize, leaves: &ByLevel, l: usiz
         return shut();
     }
     let x = quiet_levels(row, starts, n, leaves, l - 1);
-    joined(v, x)
+    series(v, x)
 }
 
 // How quiet it is inside the call at `head`.
@@ -672,7 +672,7 @@ fn quiet_ahead(row: &[u64], starts: &[u64], n: usize, place: Place) -> Quiet
     let here = leaf_at(&leaves, level);
     if rows::get(row, here, KIND) == CALL {
         let v = quiet_inside(row, starts, here);
-        return joined(v, q);
+        return series(v, q);
     }
     if may_turn(row, here, earlier[level]) {
         let free = q.free;

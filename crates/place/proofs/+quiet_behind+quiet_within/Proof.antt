@@ -23,7 +23,7 @@ use Rattle.rows.proofs.get.Reads as get-reads
 use Rattle.rows.proofs.index.Reads as index-reads
 use Rattle.rows.proofs.after.Reads as after-reads
 use Rattle.place.proofs.shut.Reads as shut-reads
-use Rattle.place.proofs.joined.Reads as joined-reads
+use Rattle.place.proofs.series.Reads as series-reads
 use Rattle.place.proofs.quiet_parts.Reads as parts-reads
 use Rattle.place.proofs.quiet_forms.Reads as forms-reads
 use Rattle.place.proofs.+quiet_behind+quiet_within.{statement}
@@ -48,7 +48,7 @@ abbrev within-below : ℕ → In 1 within-kinds.ps
 within-below t = and 1 within-kinds.ps (falls 1 within-kinds.ps _<_ μ-within t) within-reads.Pre
 
 abbrev behind-calls : ℕ → behind-lts.Claims
-behind-calls t = (shut-reads.Asked, shut-reads.Learnt, after-reads.Asked, after-reads.Learnt, within-below t, within-reads.Post, forms-reads.Asked, forms-reads.Learnt, joined-reads.Asked, joined-reads.Learnt)
+behind-calls t = (shut-reads.Asked, shut-reads.Learnt, after-reads.Asked, after-reads.Learnt, within-below t, within-reads.Post, forms-reads.Asked, forms-reads.Learnt, series-reads.Asked, series-reads.Learnt)
 
 abbrev behind-Inv-loop : behind-lts.InvT-loop
 behind-Inv-loop row from to p left i₀ i =
@@ -82,12 +82,12 @@ behind-returns-2 t c = λ q G.
 behind-quiet-forms-requires : (t : ℕ) → behind-lts.Need-quiet-forms-requires (behind-calls t) (behind-at t) behind-reads.Post behind-Inv-loop behind-μ-loop
 behind-quiet-forms-requires t c κs = (search needs, piece-after (c .before .before .before .before .before .loop-test .taken) (c .before .before .before .before .before .before .loop .inv .1) (c .before .before .before .before .after .ensures))
 
-behind-joined-requires : (t : ℕ) → behind-lts.Need-joined-requires (behind-calls t) (behind-at t) behind-reads.Post behind-Inv-loop behind-μ-loop
-behind-joined-requires t c κs = search needs
+behind-series-requires : (t : ℕ) → behind-lts.Need-series-requires (behind-calls t) (behind-at t) behind-reads.Post behind-Inv-loop behind-μ-loop
+behind-series-requires t c κs = search needs
 
 behind-returns-3 : (t : ℕ) → behind-lts.Need-returns-3 (behind-calls t) (behind-at t) behind-reads.Post behind-Inv-loop behind-μ-loop
 behind-returns-3 t c = λ q G.
-    leaf-leaves (c .before .before .before .before .before .before .before .loop-test .taken) (c .before .before .before .before .before .before .before .before .loop .inv .0) (c .before .before .before .before .before .before .after .ensures) (c .before .before .before .before .before .if2 .taken) (c .before .before .before .before .quiet-within .ensures) (c .before .quiet-forms .ensures) (c .joined .ensures) (c .before .before .before .before .before .before .before .before .loop .inv .2 q G)
+    leaf-leaves (c .before .before .before .before .before .before .before .loop-test .taken) (c .before .before .before .before .before .before .before .before .loop .inv .0) (c .before .before .before .before .before .before .after .ensures) (c .before .before .before .before .before .if2 .taken) (c .before .before .before .before .quiet-within .ensures) (c .before .quiet-forms .ensures) (c .series .ensures) (c .before .before .before .before .before .before .before .before .loop .inv .2 q G)
 
 behind-loop-less : (t : ℕ) → behind-lts.Need-loop-less (behind-calls t) (behind-at t) behind-reads.Post behind-Inv-loop behind-μ-loop
 behind-loop-less t c = omega (arith, ends (c .before .before .loop-test .taken) (c .before .before .before .loop .inv .1 .part))
@@ -172,7 +172,7 @@ pub +quiet-behind+quiet-within-spec : {M : Type 1} → statement M
     (behind-shut-requires-2 t)
     (behind-returns-2 t)
     (behind-quiet-forms-requires t)
-    (behind-joined-requires t)
+    (behind-series-requires t)
     (behind-returns-3 t)
     (behind-loop-less t)
     (behind-loop-again t)

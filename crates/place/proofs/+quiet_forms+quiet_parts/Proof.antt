@@ -22,7 +22,7 @@ use Rattle.rows.proofs.get.Reads as get-reads
 use Rattle.rows.proofs.index.Reads as index-reads
 use Rattle.place.proofs.empty.Reads as empty-reads
 use Rattle.place.proofs.shut.Reads as shut-reads
-use Rattle.place.proofs.joined.Reads as joined-reads
+use Rattle.place.proofs.series.Reads as series-reads
 use Rattle.place.proofs.either.Reads as either-reads
 use Rattle.place.proofs.+quiet_forms+quiet_parts.{statement}
 use Rattle.place.proofs.+quiet_forms+quiet_parts.Tie.{close}
@@ -97,7 +97,7 @@ parts-returns-2 t c = λ p G.
     (c .before .before .quiet-forms .ensures) (c .before .quiet-forms2 .ensures) (c .either .ensures)
 
 abbrev forms-calls : ℕ → forms-lts.Claims
-forms-calls t = (empty-reads.Asked, empty-reads.Learnt, get-reads.Asked, get-reads.Learnt, shut-reads.Asked, shut-reads.Learnt, parts-below t, parts-reads.Post, joined-reads.Asked, joined-reads.Learnt, index-reads.Asked, index-reads.Learnt)
+forms-calls t = (empty-reads.Asked, empty-reads.Learnt, get-reads.Asked, get-reads.Learnt, shut-reads.Asked, shut-reads.Learnt, parts-below t, parts-reads.Post, series-reads.Asked, series-reads.Learnt, index-reads.Asked, index-reads.Learnt)
 
 abbrev forms-Inv-loop : forms-lts.InvT-loop
 forms-Inv-loop row from to left passed₀ i₀ passed i =
@@ -112,7 +112,7 @@ forms-empty-requires t c κs = search needs
 forms-loop-holds : (t : ℕ) → forms-lts.Need-loop-holds (forms-calls t) (forms-at t) forms-reads.Post forms-Inv-loop forms-μ-loop
 forms-loop-holds t c =
     let s = c .before .before in
-    (s .pre .1 .1, λ p G. record { more = p; same = ap (λ x. Rattle.place.specs.Private.joined x (quiet-of (forms G (p .part .lines)))) (sym (c .empty .ensures)) })
+    (s .pre .1 .1, λ p G. record { more = p; same = ap (λ x. Rattle.place.specs.Private.series x (quiet-of (forms G (p .part .lines)))) (sym (c .empty .ensures)) })
 
 forms-get-requires : (t : ℕ) → forms-lts.Need-get-requires (forms-calls t) (forms-at t) forms-reads.Post forms-Inv-loop forms-μ-loop
 forms-get-requires t c κs = search needs
@@ -133,8 +133,8 @@ forms-returns-2 : (t : ℕ) → forms-lts.Need-returns-2 (forms-calls t) (forms-
 forms-returns-2 t c = λ p G.
     walk-shut (c .before .before .before .before .before .before .loop-test .taken) (c .before .before .before .before .before .get .ensures) (c .before .before .before .before .if1 .left) (c .before .before .before .quiet-parts .ensures) (not-true _ (c .before .if2 .taken)) (c .shut2 .ensures) (c .before .before .before .before .before .before .before .loop .inv .1 p G)
 
-forms-joined-requires : (t : ℕ) → forms-lts.Need-joined-requires (forms-calls t) (forms-at t) forms-reads.Post forms-Inv-loop forms-μ-loop
-forms-joined-requires t c κs = search needs
+forms-series-requires : (t : ℕ) → forms-lts.Need-series-requires (forms-calls t) (forms-at t) forms-reads.Post forms-Inv-loop forms-μ-loop
+forms-series-requires t c κs = search needs
 
 forms-index-requires : (t : ℕ) → forms-lts.Need-index-requires (forms-calls t) (forms-at t) forms-reads.Post forms-Inv-loop forms-μ-loop
 forms-index-requires t c κs = search needs
@@ -145,7 +145,7 @@ forms-loop-less t c = omega (arith, ends (c .before .before .before .before .bef
 forms-loop-again : (t : ℕ) → forms-lts.Need-loop-again (forms-calls t) (forms-at t) forms-reads.Post forms-Inv-loop forms-μ-loop
 forms-loop-again t c = (
   piece-after (c .before .before .before .before .before .before .before .loop-test .taken) (c .before .before .before .before .before .before .before .before .loop .inv .0) (c .index .ensures),
-  λ p G. walk-on (c .before .before .before .before .before .before .before .loop-test .taken) (c .before .before .before .before .before .before .get .ensures) (c .before .before .before .before .before .if1 .left) (c .before .before .before .before .quiet-parts .ensures) (c .before .joined .ensures) (c .index .ensures) (c .before .before .before .before .before .before .before .before .loop .inv .1 p G),
+  λ p G. walk-on (c .before .before .before .before .before .before .before .loop-test .taken) (c .before .before .before .before .before .before .get .ensures) (c .before .before .before .before .before .if1 .left) (c .before .before .before .before .quiet-parts .ensures) (c .before .series .ensures) (c .index .ensures) (c .before .before .before .before .before .before .before .before .loop .inv .1 p G),
 )
 
 forms-returns-3 : (t : ℕ) → forms-lts.Need-returns-3 (forms-calls t) (forms-at t) forms-reads.Post forms-Inv-loop forms-μ-loop
@@ -165,7 +165,7 @@ pub +quiet-forms+quiet-parts-spec : {M : Type 1} → statement M
     (forms-quiet-parts-requires t)
     (forms-shut-requires-2 t)
     (forms-returns-2 t)
-    (forms-joined-requires t)
+    (forms-series-requires t)
     (forms-index-requires t)
     (forms-loop-less t)
     (forms-loop-again t)

@@ -14,7 +14,7 @@ use Rattle.rows.proofs.get.Reads as get-reads
 use Rattle.place.proofs.span.Reads as span-reads
 use Rattle.place.proofs.leaf_at.Reads as leaf-at-reads
 use Rattle.place.proofs.shut.Reads as shut-reads
-use Rattle.place.proofs.joined.Reads as joined-reads
+use Rattle.place.proofs.series.Reads as series-reads
 use Rattle.place.proofs.quiet_behind.Reads as behind-reads
 use Rattle.place.proofs.+quiet_levels.{statement}
 use Rattle.place.proofs.+quiet_levels.Tie.{close}
@@ -29,7 +29,7 @@ abbrev lower-down : ℕ → In 3 kinds.ps
 lower-down t = and 3 kinds.ps (falls 3 kinds.ps _<_ μ t) reads.Pre
 
 abbrev calls : ℕ → lts.Claims
-calls t = (span-reads.Asked, span-reads.Learnt, leaf-at-reads.Asked, leaf-at-reads.Learnt, behind-reads.Asked, behind-reads.Learnt, shut-reads.Asked, shut-reads.Learnt, get-reads.Asked, get-reads.Learnt, lower-down t, reads.Post, joined-reads.Asked, joined-reads.Learnt)
+calls t = (span-reads.Asked, span-reads.Learnt, leaf-at-reads.Asked, leaf-at-reads.Learnt, behind-reads.Asked, behind-reads.Learnt, shut-reads.Asked, shut-reads.Learnt, get-reads.Asked, get-reads.Learnt, lower-down t, reads.Post, series-reads.Asked, series-reads.Learnt)
 
 span-requires : (t : ℕ) → lts.Need-span-requires (calls t) (here t) reads.Post
 span-requires t c κs = search needs
@@ -78,14 +78,14 @@ quiet-levels-requires t c κs =
     let h : 2 ≤ s .args .l = omega (arith, s .pre .1 .0, c .before .before .before .before .before .if1 .left) in
     (omega (arith, s .pre .0), ((omega arith, omega (arith, s .pre .1 .0)), lower (s .pre .1 .1) h))
 
-joined-requires : (t : ℕ) → lts.Need-joined-requires (calls t) (here t) reads.Post
-joined-requires t c κs = search needs
+series-requires : (t : ℕ) → lts.Need-series-requires (calls t) (here t) reads.Post
+series-requires t c κs = search needs
 
 returns-4 : (t : ℕ) → lts.Need-returns-4 (calls t) (here t) reads.Post
 returns-4 t c =
     let s = c .before .before .before .before .before .before .before .before .before .before .before .before .before in
     λ q. levels-calling q (s .pre .1 .0 .0) (omega (arith, s .pre .1 .0, c .before .before .before .before .before .before .before .if1 .left)) (c .before .before .before .before .leaf-at2 .ensures) (c .before .before .before .get .ensures) (c .before .before .if3 .left)
-    (level-read q (s .pre .1 .0 .0) (c .before .before .before .before .before .before .before .before .before .before .span .ensures .0) (c .before .before .before .before .before .before .before .before .before .before .span .ensures .1) (c .before .before .before .before .before .before .before .before .before .leaf-at .ensures) (c .before .before .before .before .before .before .before .before .quiet-behind .ensures)) (c .before .quiet-levels .ensures) (c .joined .ensures)
+    (level-read q (s .pre .1 .0 .0) (c .before .before .before .before .before .before .before .before .before .before .span .ensures .0) (c .before .before .before .before .before .before .before .before .before .before .span .ensures .1) (c .before .before .before .before .before .before .before .before .before .leaf-at .ensures) (c .before .before .before .before .before .before .before .before .quiet-behind .ensures)) (c .before .quiet-levels .ensures) (c .series .ensures)
 
 pub +quiet-levels-spec : {M : Type 1} → statement M
 +quiet-levels-spec = close μ λ t. lts.spec (calls t)
@@ -104,5 +104,5 @@ pub +quiet-levels-spec : {M : Type 1} → statement M
     (returns-3 t)
     (sub-quiet-levels t)
     (quiet-levels-requires t)
-    (joined-requires t)
+    (series-requires t)
     (returns-4 t)

@@ -23,14 +23,14 @@ quiet-inside-requires c κs =
     let k = call-here (placed (s .pre .0 .0) (s .pre .1)) (s .pre .0 .0) (c .before .before .leaf-at .ensures) (c .before .get .ensures) (c .if1 .taken) in
     (k .head, (k .spanned .room, k .spanned .piece))
 
-joined-requires : tie.Need-joined-requires
-joined-requires c κs = search needs
+series-requires : tie.Need-series-requires
+series-requires c κs = search needs
 
 returns : tie.Need-returns
 returns c =
     let h = c .before .before .before .before .before .before .before .before .before .before .before .before .pre .0 .0 in
     λ q. let k = placed h q in
-    place-call k h (call-here k h (c .before .before .before .before .leaf-at .ensures) (c .before .before .before .get .ensures) (c .before .before .if1 .taken)) (c .before .quiet-inside .ensures) (c .before .before .before .before .before .before .quiet-levels .ensures (running k)) (c .joined .ensures)
+    place-call k h (call-here k h (c .before .before .before .before .leaf-at .ensures) (c .before .before .before .get .ensures) (c .before .before .if1 .taken)) (c .before .quiet-inside .ensures) (c .before .before .before .before .before .before .quiet-levels .ensures (running k)) (c .series .ensures)
 
 mul-may-turn : tie.Need-mul-may-turn
 mul-may-turn c = search needs
@@ -61,7 +61,7 @@ quiet-ahead-spec =
     leaf-at-requires
     get-requires
     quiet-inside-requires
-    joined-requires
+    series-requires
     returns
     mul-may-turn
     array-read-may-turn

@@ -1,6 +1,6 @@
 use borrow.Author.Needs.{needs}
-use Rattle.place.proofs.joined.Statement.{statement}
-use Rattle.place.proofs.joined.Tie as tie
+use Rattle.place.proofs.series.Statement.{statement}
+use Rattle.place.proofs.series.Tie as tie
 
 both-requires : tie.Need-both-requires
 both-requires c κs = search needs
@@ -11,5 +11,5 @@ both-requires-2 c κs = search needs
 returns : tie.Need-returns
 returns c = λ i. record { free = c .before .both .ensures i; mute = c .both2 .ensures i }
 
-pub joined-spec : {M : Type 1} → statement M
-joined-spec = tie.close (tie.spec both-requires both-requires-2 returns)
+pub series-spec : {M : Type 1} → statement M
+series-spec = tie.close (tie.spec both-requires both-requires-2 returns)
