@@ -27,7 +27,7 @@ extern "C" {
 #endif
 
 /* The version of this header, to be compared by #if: 10000 * major + 100 * minor + patch. The library carries none: take both from one dist/. */
-#define ROLSIPAY_VERSION 10300            /* 1.3.0 */
+#define ROLSIPAY_VERSION 10301            /* 1.3.1 */
 
 /* The most stack that a call takes, in bytes, whatever it is given; docs/MEMORY.md tells how it was measured. */
 #define ROLSIPAY_STACK_READ 124928        /* rolsipay_read */

@@ -1,7 +1,7 @@
 /* Measures how much stack each delivered call takes, over families of plans, texts, tables and states that go as deep as they can, and holds it to the
- * figures of docs/MEMORY.md, which it is given, and to the header's; so it does with the sizes of what the caller lends. It fails where a figure is too
- * small, where another case goes deeper than the plan that docs/MEMORY.md names, or where a call is not answered as it must be. Its last line is
- * 'N passed, M failed'. */
+ * figures of docs/MEMORY.md, which it is given, and to the header's; so it does with the sizes of what the caller lends, and with code, read-only data and
+ * variables of the library, which it is given too. It fails where a figure is too small, where another case goes deeper than the plan that docs/MEMORY.md
+ * names, or where a call is not answered as it must be. Its last line is 'N passed, M failed'. */
 #include "plans.h"
 
 static int passed, failed;
@@ -269,12 +269,24 @@ static void stacks(const size_t documented[CALLS])
     check(astray == 0, "calls were not answered as they must be");
 }
 
+/* Holds what is in the library to docs/MEMORY.md, given each documented figure and behind it the one that was found. */
+static void library(char **figures)
+{
+    static const char *const names[] = {"code", "read-only data", "variables"};
+    for (int i = 0; i < 3; i++) {
+        const size_t documented = strtoull(figures[2 * i], NULL, 10), found = strtoull(figures[2 * i + 1], NULL, 10);
+        printf("%s of the library: %zu bytes, documented %zu\n", names[i], found, documented);
+        check(found <= documented, "more in the library than docs/MEMORY.md says");
+    }
+    check(0 < strtoull(figures[1], NULL, 10), "no code in the library");
+}
+
 int main(int count, char **figures)
 {
     static const size_t sizes[] = {sizeof(rolsipay_leaf), sizeof row, sizeof head, sizeof state};
     size_t documented[CALLS];
-    if (count != 9) {
-        fprintf(stderr, "use: %s LEAF ROW HEAD STATE READ RELEASE REPORT END\n", figures[0]);
+    if (count != 15) {
+        fprintf(stderr, "use: %s LEAF ROW HEAD STATE READ RELEASE REPORT END CODE FOUND DATA FOUND VARIABLES FOUND\n", figures[0]);
         return 2;
     }
     for (int i = 0; i < 4; i++) {
@@ -283,6 +295,7 @@ int main(int count, char **figures)
         documented[i] = strtoull(figures[i + 5], NULL, 10);
     }
     stacks(documented);
+    library(figures + 9);
     printf("%d passed, %d failed\n", passed, failed);
     return failed != 0;
 }

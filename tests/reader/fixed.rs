@@ -32,6 +32,7 @@ fn known_texts(tally: &mut Tally) {
     }
     with_rows(tally, "no text", b"");
     with_rows(tally, "no forms", b"(task 1 0\n(fun\n)\n)\n");
+    known(tally, "many digits", aimed::MANY_DIGITS.as_bytes(), 512, Some((3, 3)));
     with_rows(tally, "plan A", PLAN_A.as_bytes());
     with_rows(tally, "plan B", PLAN_B.as_bytes());
     for bytes in [MOST_BYTES, MOST_BYTES + 1, 2 * MOST_BYTES] {
@@ -66,7 +67,7 @@ fn changed_texts(tally: &mut Tally, base: &[u8]) {
 
 pub fn compare_all(tally: &mut Tally) {
     known_texts(tally);
-    for base in [aimed::EVERY_FORM, aimed::SMALLEST] {
+    for base in [aimed::EVERY_FORM, aimed::SMALLEST, aimed::MANY_DIGITS] {
         changed_texts(tally, base.as_bytes());
     }
 }

@@ -37,6 +37,10 @@ const FIVE_LEAVES: [&str; 11] = [
 
 pub const SMALLEST: &str = "(task 10 3\n(fun\n(leaf s 7 9)\n)\n)\n";
 
+/// A number of more digits than any range has, so that a byte can be wrong behind those
+/// that tell it: 3, on line 3.
+pub const MANY_DIGITS: &str = "(task 10 3\n(fun\n(leaf s 7 99999999999999)\n)\n)\n";
+
 /// One of every form, so that each line's bytes can be changed. One byte makes a point
 /// of a silent leaf that costs nothing.
 pub const EVERY_FORM: &str =

@@ -9,6 +9,10 @@ use super::replays::Replays;
 /// Lines of every form that a log has, with numbers of one digit and of several.
 const RIGHT: [&str; 4] = ["release\n", "point 1 9\n", "point 10 209\n", "end 40\n"];
 
+/// A number of more digits than any below 2^64 has, so that a byte can be wrong behind
+/// those that tell it.
+const MANY_DIGITS: &str = "end 199999999999999999999\n";
+
 /// Other lines, most of them near a right one. The line feeds inside some make
 /// several lines of them.
 const OTHERS: &[&str] = &[
@@ -160,7 +164,7 @@ fn everywhere(replays: &mut Replays, group: &str, lines: &[Vec<u8>]) {
 }
 
 fn off_by_bytes(replays: &mut Replays) {
-    for line in RIGHT {
+    for line in RIGHT.into_iter().chain([MANY_DIGITS]) {
         let dropped = damage::every_byte_dropped_or_doubled(line.as_bytes());
         everywhere(replays, "bytes dropped and doubled", &dropped);
         for at in 0..line.len() {

@@ -1,29 +1,35 @@
--- The byte class table: its rule is one comparison of whole lists, the table and the classes of 0 to 255 in order, which antt computes.
--- After it, what a class says of a byte. Assumes nothing.
-use Prim.Native.Nat.{ℕ, zero, suc, _+_, _≤_, _<_}
-use mathlib.Core.Path.{_≡_, refl, ap, _∙_}
-use mathlib.Core.List.{List, [], _∷_}
+-- The classes of bytes: which class a byte of a range has, and any other byte; and what a class says of a byte. Assumes nothing.
+use Prim.Native.Nat.{ℕ, _<_, _≤_}
+use mathlib.Core.Path.{_≡_, refl}
+use mathlib.Core.Logic.{_⊎_, inl, inr}
 use mathlib.Core.Bool.{Bool, true, false, _&&_, cond as pick}
 use native.Mathlib.Omega.{arith}
-use lib.ListN.{getD}
 use lib.Dec.{eqb, leb}
-use borrow.Author.Tests.{le-leb, leb-true, eqb-true}
+use borrow.Author.Tests.{le-leb, lt-leb, leb-true, eqb-true, ne-eqb}
 use Rattle.text.specs.Patterns.{class-of, is-digit}
 
--- The values of a rule at n places, from the place i on.
-unfoldable pub values : (ℕ → ℕ) → ℕ → ℕ → List ℕ
-values rule i zero = []
-values rule i (suc n) = rule i ∷ values rule (suc i) n
+-- The test of a range is true of a byte in it, and false of one below or above it.
+in-range : (low high b : ℕ) → low ≤ b → b ≤ high → (leb low b && leb b high) ≡ true
+in-range low high b l h = rw (le-leb low b l, le-leb b high h)
 
-value-from : (rule : ℕ → ℕ) (i n k : ℕ) → k < n → getD (values rule i n) k 0 ≡ rule (k + i)
-unfolding values
-value-from rule i zero k h = absurd (omega arith)
-value-from rule i (suc n) zero h = ap rule (omega arith)
-value-from rule i (suc n) (suc k) h = value-from rule (suc i) n k (omega arith) ∙ ap rule (omega arith)
+out-of-range : (low high b : ℕ) → (b < low) ⊎ (high < b) → (leb low b && leb b high) ≡ false
+out-of-range low high b (inl h) = rw (lt-leb low b h)
+out-of-range low high b (inr h) = rw (lt-leb b high h) (go (leb low b))
+  where
+    go : (t : Bool) → (t && false) ≡ false
+    go true = refl
+    go false = refl
 
--- A list of the values of a rule has at each place the rule's value there.
-pub value-at : (rule : ℕ → ℕ) (n k : ℕ) → k < n → getD (values rule 0 n) k 0 ≡ rule k
-value-at rule n k h = value-from rule 0 n k h ∙ ap rule (omega arith)
+-- The class of a digit, of a small letter, and of a byte that is neither, nor one of the four with a class of their own.
+pub digit-class : (b : ℕ) → 48 ≤ b → b ≤ 57 → class-of b ≡ 0
+digit-class b l h = rw (in-range 48 57 b l h)
+
+pub small-class : (b : ℕ) → 97 ≤ b → b ≤ 122 → class-of b ≡ 1
+small-class b l h = rw (out-of-range 48 57 b (inr (omega arith)), in-range 97 122 b l h)
+
+pub other-class : (b : ℕ) → (b < 48) ⊎ (57 < b) → (b < 97) ⊎ (122 < b) → (b ≡ 32 → ⊥) → (b ≡ 40 → ⊥) → (b ≡ 41 → ⊥) → (b ≡ 10 → ⊥) → class-of b ≡ 6
+other-class b no-digit no-small no-space no-open no-close no-feed =
+    rw (out-of-range 48 57 b no-digit, out-of-range 97 122 b no-small, ne-eqb b 32 no-space, ne-eqb b 40 no-open, ne-eqb b 41 no-close, ne-eqb b 10 no-feed)
 
 -- A byte from 48 to 57 is a digit, and a digit is such a byte.
 pub digit : (b : ℕ) → 48 ≤ b → b ≤ 57 → is-digit b ≡ true

@@ -1,7 +1,7 @@
 -- Lines worked through: what the grammar's definitions say of some lines of 01, and where two readings were possible. Each is a computation.
 -- Assumes nothing.
 use mathlib.Core.Path.{_≡_, refl}
-use mathlib.Core.List.{[], _∷_, _++_}
+use mathlib.Core.List.{[], _∷_, _++_, map}
 use mathlib.Core.Bool.{true, false}
 use Rattle.text.specs.declared.Form.the-variants.{Task, Leaf, Call, Loop, If}
 use Rattle.text.specs.declared.Read.the-variants.{Unread, Line}
@@ -120,6 +120,10 @@ greatest : decimal 1099511627776 ≡ bytes "1099511627776"
 unfolding decimal numerals
 greatest = refl
 
--- Neighbours of the ranges in the byte class table.
-classes : class-of 47 ∷ class-of 48 ∷ class-of 57 ∷ class-of 58 ∷ class-of 96 ∷ class-of 97 ∷ class-of 122 ∷ class-of 123 ∷ [] ≡ 6 ∷ 0 ∷ 0 ∷ 6 ∷ 6 ∷ 1 ∷ 1 ∷ 6 ∷ []
+-- The ends of both ranges, digits and small letters, and their neighbours.
+classes : map class-of (47 ∷ 48 ∷ 57 ∷ 58 ∷ 96 ∷ 97 ∷ 122 ∷ 123 ∷ []) ≡ 6 ∷ 0 ∷ 0 ∷ 6 ∷ 6 ∷ 1 ∷ 1 ∷ 6 ∷ []
 classes = refl
+
+-- The single bytes that have a class of their own, line feed, space and both brackets, and their neighbours.
+single-classes : map class-of (9 ∷ 10 ∷ 11 ∷ 31 ∷ 32 ∷ 33 ∷ 39 ∷ 40 ∷ 41 ∷ 42 ∷ []) ≡ 6 ∷ 5 ∷ 6 ∷ 6 ∷ 2 ∷ 6 ∷ 6 ∷ 3 ∷ 4 ∷ 6 ∷ []
+single-classes = refl

@@ -14,13 +14,8 @@ use Rattle.text.specs.declared.Fitted.{Fitted}
 use Rattle.text.specs.declared.Fitted.the-variants.{Misfit, Fit}
 use Rattle.text.specs.declared.Read.{Read}
 use Rattle.text.specs.Text.{line-at, line-end}
-use Rattle.text.specs.Patterns.{class-of, is-upper, digits, number, none, some, misfit, fit, fit-kind, fit-number, item, capped}
+use Rattle.text.specs.Patterns.{is-upper, digits, number, none, some, misfit, fit, fit-kind, fit-number, item, capped}
 use Rattle.text.specs.Grammar.{plain-form, block-form, answered}
-
--- The table of classes has the class of each byte.
-pub record Classed (t : List ℕ) : Type 0 where
-  pub long : length t ≡ 256
-  pub each : (b : ℕ) → b < 256 → getD t b 0 ≡ class-of b
 
 -- A step within a line, from one place to a later one.
 pub record Onward (s : List ℕ) (at e : ℕ) : Type 0 where

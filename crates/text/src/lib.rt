@@ -7,7 +7,7 @@ ghost use lib.ListN.{set};
 ghost use lib.Dec.{ltb};
 ghost use Rattle.text.specs.Patterns.{class-of, is-upper, MatchAt};
 ghost use Rattle.text.specs.Grammar.{read-at};
-ghost use Rattle.text.specs.Private.{Classed, DigitsTo, NumberAt, StandsAt, CapitalAt, LiteralStart, plain-line-at, block-line-at};
+ghost use Rattle.text.specs.Private.{DigitsTo, NumberAt, StandsAt, CapitalAt, LiteralStart, plain-line-at, block-line-at};
 
 // The lines of the grammar. The kind K is true for p, a point, and false for s, silent. Numbers over 2^41 are held at 2^41.
 pub enum Form {
@@ -72,283 +72,19 @@ const LINE_FEED: u8 = 5;
 
 const OTHER_BYTE: u8 = 6;
 
-// A class for each byte.
-type Classes = [u8; 256];
-
-// The class of each byte.
-const CLASS: [u8; 256] = [
-    OTHER_BYTE, // 0
-    OTHER_BYTE, // 1
-    OTHER_BYTE, // 2
-    OTHER_BYTE, // 3
-    OTHER_BYTE, // 4
-    OTHER_BYTE, // 5
-    OTHER_BYTE, // 6
-    OTHER_BYTE, // 7
-    OTHER_BYTE, // 8
-    OTHER_BYTE, // 9
-    LINE_FEED, // 10
-    OTHER_BYTE, // 11
-    OTHER_BYTE, // 12
-    OTHER_BYTE, // 13
-    OTHER_BYTE, // 14
-    OTHER_BYTE, // 15
-    OTHER_BYTE, // 16
-    OTHER_BYTE, // 17
-    OTHER_BYTE, // 18
-    OTHER_BYTE, // 19
-    OTHER_BYTE, // 20
-    OTHER_BYTE, // 21
-    OTHER_BYTE, // 22
-    OTHER_BYTE, // 23
-    OTHER_BYTE, // 24
-    OTHER_BYTE, // 25
-    OTHER_BYTE, // 26
-    OTHER_BYTE, // 27
-    OTHER_BYTE, // 28
-    OTHER_BYTE, // 29
-    OTHER_BYTE, // 30
-    OTHER_BYTE, // 31
-    SPACE, // 32
-    OTHER_BYTE, // 33 '!'
-    OTHER_BYTE, // 34 '"'
-    OTHER_BYTE, // 35 '#'
-    OTHER_BYTE, // 36 '$'
-    OTHER_BYTE, // 37 '%'
-    OTHER_BYTE, // 38 '&'
-    OTHER_BYTE, // 39 '''
-    OPEN_BRACKET, // 40 '('
-    CLOSE_BRACKET, // 41 ')'
-    OTHER_BYTE, // 42 '*'
-    OTHER_BYTE, // 43 '+'
-    OTHER_BYTE, // 44 ','
-    OTHER_BYTE, // 45 '-'
-    OTHER_BYTE, // 46 '.'
-    OTHER_BYTE, // 47 '/'
-    DIGIT, // 48 '0'
-    DIGIT, // 49 '1'
-    DIGIT, // 50 '2'
-    DIGIT, // 51 '3'
-    DIGIT, // 52 '4'
-    DIGIT, // 53 '5'
-    DIGIT, // 54 '6'
-    DIGIT, // 55 '7'
-    DIGIT, // 56 '8'
-    DIGIT, // 57 '9'
-    OTHER_BYTE, // 58 ':'
-    OTHER_BYTE, // 59 ';'
-    OTHER_BYTE, // 60 '<'
-    OTHER_BYTE, // 61 '='
-    OTHER_BYTE, // 62 '>'
-    OTHER_BYTE, // 63 '?'
-    OTHER_BYTE, // 64 '@'
-    OTHER_BYTE, // 65 'A'
-    OTHER_BYTE, // 66 'B'
-    OTHER_BYTE, // 67 'C'
-    OTHER_BYTE, // 68 'D'
-    OTHER_BYTE, // 69 'E'
-    OTHER_BYTE, // 70 'F'
-    OTHER_BYTE, // 71 'G'
-    OTHER_BYTE, // 72 'H'
-    OTHER_BYTE, // 73 'I'
-    OTHER_BYTE, // 74 'J'
-    OTHER_BYTE, // 75 'K'
-    OTHER_BYTE, // 76 'L'
-    OTHER_BYTE, // 77 'M'
-    OTHER_BYTE, // 78 'N'
-    OTHER_BYTE, // 79 'O'
-    OTHER_BYTE, // 80 'P'
-    OTHER_BYTE, // 81 'Q'
-    OTHER_BYTE, // 82 'R'
-    OTHER_BYTE, // 83 'S'
-    OTHER_BYTE, // 84 'T'
-    OTHER_BYTE, // 85 'U'
-    OTHER_BYTE, // 86 'V'
-    OTHER_BYTE, // 87 'W'
-    OTHER_BYTE, // 88 'X'
-    OTHER_BYTE, // 89 'Y'
-    OTHER_BYTE, // 90 'Z'
-    OTHER_BYTE, // 91 '['
-    OTHER_BYTE, // 92 '\'
-    OTHER_BYTE, // 93 ']'
-    OTHER_BYTE, // 94 '^'
-    OTHER_BYTE, // 95 '_'
-    OTHER_BYTE, // 96 '`'
-    SMALL, // 97 'a'
-    SMALL, // 98 'b'
-    SMALL, // 99 'c'
-    SMALL, // 100 'd'
-    SMALL, // 101 'e'
-    SMALL, // 102 'f'
-    SMALL, // 103 'g'
-    SMALL, // 104 'h'
-    SMALL, // 105 'i'
-    SMALL, // 106 'j'
-    SMALL, // 107 'k'
-    SMALL, // 108 'l'
-    SMALL, // 109 'm'
-    SMALL, // 110 'n'
-    SMALL, // 111 'o'
-    SMALL, // 112 'p'
-    SMALL, // 113 'q'
-    SMALL, // 114 'r'
-    SMALL, // 115 's'
-    SMALL, // 116 't'
-    SMALL, // 117 'u'
-    SMALL, // 118 'v'
-    SMALL, // 119 'w'
-    SMALL, // 120 'x'
-    SMALL, // 121 'y'
-    SMALL, // 122 'z'
-    OTHER_BYTE, // 123 '{'
-    OTHER_BYTE, // 124 '|'
-    OTHER_BYTE, // 125 '}'
-    OTHER_BYTE, // 126 '~'
-    OTHER_BYTE, // 127
-    OTHER_BYTE, // 128
-    OTHER_BYTE, // 129
-    OTHER_BYTE, // 130
-    OTHER_BYTE, // 131
-    OTHER_BYTE, // 132
-    OTHER_BYTE, // 133
-    OTHER_BYTE, // 134
-    OTHER_BYTE, // 135
-    OTHER_BYTE, // 136
-    OTHER_BYTE, // 137
-    OTHER_BYTE, // 138
-    OTHER_BYTE, // 139
-    OTHER_BYTE, // 140
-    OTHER_BYTE, // 141
-    OTHER_BYTE, // 142
-    OTHER_BYTE, // 143
-    OTHER_BYTE, // 144
-    OTHER_BYTE, // 145
-    OTHER_BYTE, // 146
-    OTHER_BYTE, // 147
-    OTHER_BYTE, // 148
-    OTHER_BYTE, // 149
-    OTHER_BYTE, // 150
-    OTHER_BYTE, // 151
-    OTHER_BYTE, // 152
-    OTHER_BYTE, // 153
-    OTHER_BYTE, // 154
-    OTHER_BYTE, // 155
-    OTHER_BYTE, // 156
-    OTHER_BYTE, // 157
-    OTHER_BYTE, // 158
-    OTHER_BYTE, // 159
-    OTHER_BYTE, // 160
-    OTHER_BYTE, // 161
-    OTHER_BYTE, // 162
-    OTHER_BYTE, // 163
-    OTHER_BYTE, // 164
-    OTHER_BYTE, // 165
-    OTHER_BYTE, // 166
-    OTHER_BYTE, // 167
-    OTHER_BYTE, // 168
-    OTHER_BYTE, // 169
-    OTHER_BYTE, // 170
-    OTHER_BYTE, // 171
-    OTHER_BYTE, // 172
-    OTHER_BYTE, // 173
-    OTHER_BYTE, // 174
-    OTHER_BYTE, // 175
-    OTHER_BYTE, // 176
-    OTHER_BYTE, // 177
-    OTHER_BYTE, // 178
-    OTHER_BYTE, // 179
-    OTHER_BYTE, // 180
-    OTHER_BYTE, // 181
-    OTHER_BYTE, // 182
-    OTHER_BYTE, // 183
-    OTHER_BYTE, // 184
-    OTHER_BYTE, // 185
-    OTHER_BYTE, // 186
-    OTHER_BYTE, // 187
-    OTHER_BYTE, // 188
-    OTHER_BYTE, // 189
-    OTHER_BYTE, // 190
-    OTHER_BYTE, // 191
-    OTHER_BYTE, // 192
-    OTHER_BYTE, // 193
-    OTHER_BYTE, // 194
-    OTHER_BYTE, // 195
-    OTHER_BYTE, // 196
-    OTHER_BYTE, // 197
-    OTHER_BYTE, // 198
-    OTHER_BYTE, // 199
-    OTHER_BYTE, // 200
-    OTHER_BYTE, // 201
-    OTHER_BYTE, // 202
-    OTHER_BYTE, // 203
-    OTHER_BYTE, // 204
-    OTHER_BYTE, // 205
-    OTHER_BYTE, // 206
-    OTHER_BYTE, // 207
-    OTHER_BYTE, // 208
-    OTHER_BYTE, // 209
-    OTHER_BYTE, // 210
-    OTHER_BYTE, // 211
-    OTHER_BYTE, // 212
-    OTHER_BYTE, // 213
-    OTHER_BYTE, // 214
-    OTHER_BYTE, // 215
-    OTHER_BYTE, // 216
-    OTHER_BYTE, // 217
-    OTHER_BYTE, // 218
-    OTHER_BYTE, // 219
-    OTHER_BYTE, // 220
-    OTHER_BYTE, // 221
-    OTHER_BYTE, // 222
-    OTHER_BYTE, // 223
-    OTHER_BYTE, // 224
-    OTHER_BYTE, // 225
-    OTHER_BYTE, // 226
-    OTHER_BYTE, // 227
-    OTHER_BYTE, // 228
-    OTHER_BYTE, // 229
-    OTHER_BYTE, // 230
-    OTHER_BYTE, // 231
-    OTHER_BYTE, // 232
-    OTHER_BYTE, // 233
-    OTHER_BYTE, // 234
-    OTHER_BYTE, // 235
-    OTHER_BYTE, // 236
-    OTHER_BYTE, // 237
-    OTHER_BYTE, // 238
-    OTHER_BYTE, // 239
-    OTHER_BYTE, // 240
-    OTHER_BYTE, // 241
-    OTHER_BYTE, // 242
-    OTHER_BYTE, // 243
-    OTHER_BYTE, // 244
-    OTHER_BYTE, // 245
-    OTHER_BYTE, // 246
-    OTHER_BYTE, // 247
-    OTHER_BYTE, // 248
-    OTHER_BYTE, // 249
-    OTHER_BYTE, // 250
-    OTHER_BYTE, // 251
-    OTHER_BYTE, // 252
-    OTHER_BYTE, // 253
-    OTHER_BYTE, // 254
-    OTHER_BYTE, // 255
-];
-
-// Gives the table of classes. A line is read with one, since a constant that is indexed is made anew each time.
-fn class_table() -> Classes
-    ensures { λ r. ⌜ Classed r ⌝ }
-{
-    CLASS
-}
-
-// Says which class a byte is of, by the table.
-fn class(table: &Classes, b: u8) -> u8
-    requires { ⌜ Classed (now table) ⌝ }
+// Says which class a byte is of, by ranges of its number.
+fn class(b: u8) -> u8
     ensures { λ r. ⌜ r ≡ class-of b ⌝ }
 {
-    let i = b as usize;
-    table[i]
+    match b {
+        b'0'..=b'9' => DIGIT,
+        b'a'..=b'z' => SMALL,
+        b' ' => SPACE,
+        b'(' => OPEN_BRACKET,
+        b')' => CLOSE_BRACKET,
+        b'\n' => LINE_FEED,
+        _ => OTHER_BYTE,
+    }
 }
 
 // Says whether a sign of a pattern is a capital, A to Z.
@@ -379,14 +115,14 @@ fn exceeds(v: u64, d: u64, limit: u64) -> bool
 }
 
 // Passes over the digits that stand from a place on.
-fn digits_end(table: &Classes, text: &[u8], at: usize) -> usize
-    requires { do ⌜ Classed (now table) × (at ≤ (← ⟦text.len()⟧)) ⌝ }
+fn digits_end(text: &[u8], at: usize) -> usize
+    requires { do ⌜ at ≤ (← ⟦text.len()⟧) ⌝ }
     ensures { λ r. ⌜ DigitsTo (now (text .entry)) at r ⌝ }
 {
     let mut i = at;
     while i < text.len() {
         let b = text[i];
-        if class(table, b) != DIGIT {
+        if class(b) != DIGIT {
             return i;
         }
         i += 1;
@@ -395,15 +131,14 @@ fn digits_end(table: &Classes, text: &[u8], at: usize) -> usize
 }
 
 // Reads the number that stands at a place, up to the limit: 0, or a digit that is not 0 and as many digits as follow.
-fn number(table: &Classes, text: &[u8], at: usize, limit: u64) -> Num
-    requires { ⌜ Classed (now table) ⌝ }
+fn number(text: &[u8], at: usize, limit: u64) -> Num
     ensures { λ r. ⌜ NumberAt limit (now (text .entry)) at r ⌝ }
 {
     if text.len() <= at {
         return Num::No;
     }
     let b = text[at];
-    if class(table, b) != DIGIT {
+    if class(b) != DIGIT {
         return Num::No;
     }
     if b == b'0' {
@@ -411,17 +146,17 @@ fn number(table: &Classes, text: &[u8], at: usize, limit: u64) -> Num
     }
     let mut v = wide(b - b'0');
     if limit < v {
-        return Num::Over(digits_end(table, text, at + 1));
+        return Num::Over(digits_end(text, at + 1));
     }
     let mut i = at + 1;
     while i < text.len() {
         let c = text[i];
-        if class(table, c) != DIGIT {
+        if class(c) != DIGIT {
             return Num::At(v, i);
         }
         let d = wide(c - b'0');
         if exceeds(v, d, limit) {
-            return Num::Over(digits_end(table, text, i + 1));
+            return Num::Over(digits_end(text, i + 1));
         }
         v = v * TEN + d;
         i += 1;
@@ -462,16 +197,8 @@ fn numbered(f: Shown, over: bool) -> Shown
 }
 
 // Holds the capital t of a pattern against what stands at a place: K takes a kind, any other capital a number, which is stored behind the others.
-fn capital(
-    table: &Classes,
-    text: &[u8],
-    at: usize,
-    t: u8,
-    limit: u64,
-    row: &mut [u64],
-    f: Shown,
-) -> Fitted
-    requires { ⌜ Classed (now table) × (f .count < 18446744073709551615) × (is-upper t ≡ true) ⌝ }
+fn capital(text: &[u8], at: usize, t: u8, limit: u64, row: &mut [u64], f: Shown) -> Fitted
+    requires { ⌜ (f .count < 18446744073709551615) × (is-upper t ≡ true) ⌝ }
     ensures { λ r. ⌜ CapitalAt limit (now (text .entry)) at t (now (row .entry)) (now (row .exit)) f r ⌝ }
 {
     if t == b'K' {
@@ -487,7 +214,7 @@ fn capital(
         }
         return Fitted::Misfit;
     }
-    match number(table, text, at, limit) {
+    match number(text, at, limit) {
         Num::No => Fitted::Misfit,
         Num::Over(e) => {
             store(row, f.count, limit);
@@ -515,16 +242,9 @@ fn stands(text: &[u8], at: usize, t: u8) -> bool
     t != b'\n'
 }
 
-// Holds a pattern against the line at a place, with the table of classes.
-fn matches_by(
-    table: &Classes,
-    text: &[u8],
-    at: usize,
-    pattern: &[u8],
-    limit: u64,
-    row: &mut [u64],
-) -> Fitted
-    requires { ⌜ Classed (now table) ⌝ }
+// Holds a pattern against the line at a place, with its line feed. Where it fits, the numbers of the line stand in the lent row in their order, each
+// held at the limit, as many as the row has places; where it does not, the row may have changed.
+pub fn matches(text: &[u8], at: usize, pattern: &[u8], limit: u64, row: &mut [u64]) -> Fitted
     ensures { λ r. ⌜ MatchAt limit (now (text .entry)) at (now (pattern .entry)) (now (row .entry)) (now (row .exit)) r ⌝ }
 {
     let mut f = Shown {
@@ -537,7 +257,7 @@ fn matches_by(
     while j < pattern.len() {
         let t = pattern[j];
         if is_upper(t) {
-            match capital(table, text, i, t, limit, row, f) {
+            match capital(text, i, t, limit, row, f) {
                 Fitted::Fit(g, e) => {
                     f = g;
                     i = e;
@@ -555,31 +275,15 @@ fn matches_by(
         return Fitted::Misfit;
     }
     let end = text[i];
-    if class(table, end) == LINE_FEED {
+    if class(end) == LINE_FEED {
         return Fitted::Fit(f, i + 1);
     }
     Fitted::Misfit
 }
 
-// Holds a pattern against the line at a place, with its line feed. Where it fits, the numbers of the line stand in the lent row in their order, each
-// held at the limit, as many as the row has places; where it does not, the row may have changed.
-pub fn matches(text: &[u8], at: usize, pattern: &[u8], limit: u64, row: &mut [u64]) -> Fitted
-    ensures { λ r. ⌜ MatchAt limit (now (text .entry)) at (now (pattern .entry)) (now (row .entry)) (now (row .exit)) r ⌝ }
-{
-    let table = class_table();
-    matches_by(&table, text, at, pattern, limit, row)
-}
-
 // Holds a pattern that begins with a bracket and a word against the line at a place. Their first two signs come first: they tell most lines apart.
-fn matches_word(
-    table: &Classes,
-    text: &[u8],
-    at: usize,
-    pattern: &[u8],
-    limit: u64,
-    row: &mut [u64],
-) -> Fitted
-    requires { ⌜ Classed (now table) × LiteralStart (now pattern) ⌝ }
+fn matches_word(text: &[u8], at: usize, pattern: &[u8], limit: u64, row: &mut [u64]) -> Fitted
+    requires { ⌜ LiteralStart (now pattern) ⌝ }
     ensures { λ r. ⌜ MatchAt limit (now (text .entry)) at (now (pattern .entry)) (now (row .entry)) (now (row .exit)) r ⌝ }
 {
     if !stands(text, at, pattern[0]) {
@@ -588,67 +292,56 @@ fn matches_word(
     if !stands(text, at + 1, pattern[1]) {
         return Fitted::Misfit;
     }
-    matches_by(table, text, at, pattern, limit, row)
+    matches(text, at, pattern, limit, row)
 }
 
-// Reads a line without numbers at a place, with the table of classes. Its row has no places.
-fn plain_line(table: &Classes, text: &[u8], at: usize) -> Read
-    requires { ⌜ Classed (now table) ⌝ }
+// Reads a line without numbers at a place. Its row has no places.
+fn plain_line(text: &[u8], at: usize) -> Read
     ensures { λ r. ⌜ r ≡ plain-line-at (now (text .entry)) at ⌝ }
 {
     let mut none = [0; 0];
-    if let Fitted::Fit(_, e) = matches_word(table, text, at, b"(fun", CAP, &mut none) {
+    if let Fitted::Fit(_, e) = matches_word(text, at, b"(fun", CAP, &mut none) {
         return Read::Line(Form::Fun, e);
     }
-    if let Fitted::Fit(_, e) = matches_word(table, text, at, b"(then", CAP, &mut none) {
+    if let Fitted::Fit(_, e) = matches_word(text, at, b"(then", CAP, &mut none) {
         return Read::Line(Form::Then, e);
     }
-    if let Fitted::Fit(_, e) = matches_word(table, text, at, b"(else", CAP, &mut none) {
+    if let Fitted::Fit(_, e) = matches_word(text, at, b"(else", CAP, &mut none) {
         return Read::Line(Form::Else, e);
     }
-    if let Fitted::Fit(_, e) = matches_by(table, text, at, b")", CAP, &mut none) {
+    if let Fitted::Fit(_, e) = matches(text, at, b")", CAP, &mut none) {
         return Read::Line(Form::Close, e);
     }
     Read::Unread
 }
 
-// Reads the line of a leaf, with its kind and costs, or one without numbers at a place, with the table of classes.
-fn block_line(table: &Classes, text: &[u8], at: usize) -> Read
-    requires { ⌜ Classed (now table) ⌝ }
+// Reads the line of a leaf, with its kind and costs, or one without numbers at a place.
+fn block_line(text: &[u8], at: usize) -> Read
     ensures { λ r. ⌜ r ≡ block-line-at (now (text .entry)) at ⌝ }
 {
     let mut n = [0; ROOM];
-    if let Fitted::Fit(f, e) = matches_word(table, text, at, b"(leaf K C M)", CAP, &mut n) {
+    if let Fitted::Fit(f, e) = matches_word(text, at, b"(leaf K C M)", CAP, &mut n) {
         return Read::Line(Form::Leaf(f.kind, n[0], n[1]), e);
     }
-    if let Fitted::Fit(f, e) = matches_word(table, text, at, b"(call K F C M)", CAP, &mut n) {
+    if let Fitted::Fit(f, e) = matches_word(text, at, b"(call K F C M)", CAP, &mut n) {
         return Read::Line(Form::Call(f.kind, n[0], n[1], n[2]), e);
     }
-    if let Fitted::Fit(f, e) = matches_word(table, text, at, b"(loop K B C M", CAP, &mut n) {
+    if let Fitted::Fit(f, e) = matches_word(text, at, b"(loop K B C M", CAP, &mut n) {
         return Read::Line(Form::Loop(f.kind, n[0], n[1], n[2]), e);
     }
-    if let Fitted::Fit(f, e) = matches_word(table, text, at, b"(if K C M", CAP, &mut n) {
+    if let Fitted::Fit(f, e) = matches_word(text, at, b"(if K C M", CAP, &mut n) {
         return Read::Line(Form::If(f.kind, n[0], n[1]), e);
     }
-    plain_line(table, text, at)
-}
-
-// Reads the line at a place, with the table of classes.
-fn line_by(table: &Classes, text: &[u8], at: usize) -> Read
-    requires { ⌜ Classed (now table) ⌝ }
-    ensures { λ r. ⌜ r ≡ read-at (now (text .entry)) at ⌝ }
-{
-    let mut n = [0; ROOM];
-    if let Fitted::Fit(_, e) = matches_word(table, text, at, b"(task D T", CAP, &mut n) {
-        return Read::Line(Form::Task(n[0], n[1]), e);
-    }
-    block_line(table, text, at)
+    plain_line(text, at)
 }
 
 // Reads the line at a place: its form and where the next line begins, or that it is no line of the grammar, as past the end of the text.
 pub fn line(text: &[u8], at: usize) -> Read
     ensures { λ r. ⌜ r ≡ read-at (now (text .entry)) at ⌝ }
 {
-    let table = class_table();
-    line_by(&table, text, at)
+    let mut n = [0; ROOM];
+    if let Fitted::Fit(_, e) = matches_word(text, at, b"(task D T", CAP, &mut n) {
+        return Read::Line(Form::Task(n[0], n[1]), e);
+    }
+    block_line(text, at)
 }

@@ -7,6 +7,19 @@ use reference::rules;
 use super::costless;
 use super::planted::planted;
 
+/// Bytes that are read as another: where a class begins or ends one off, or goes by
+/// seven bits of the number.
+const READ_AS: &[(&str, u8, u8)] = &[
+    ("slash-is-digit", b'/', b'1'),
+    ("colon-is-digit", b':', b'1'),
+    ("zero-is-no-digit", b'0', b'/'),
+    ("nine-is-no-digit", b'9', b':'),
+    ("byte-177-is-digit", b'1' + 128, b'1'),
+    ("tab-is-line-feed", b'\t', b'\n'),
+    ("vertical-tab-is-line-feed", 11, b'\n'),
+    ("byte-138-is-line-feed", b'\n' + 128, b'\n'),
+];
+
 /// Whether a silent form of the plan that passes the test has a point inside.
 fn hides_point(plan: &Plan, test: impl Fn(&Kind) -> bool) -> bool {
     let points = rules::functions_with_points(plan);
@@ -96,6 +109,10 @@ pub fn read(text: &[u8], records: usize) -> Result<Plan, Refusal> {
     }
     if planted("goes-on") && text.ends_with(b")\n)\n\n") {
         text.pop();
+    }
+    for &(_, byte, other) in READ_AS.iter().filter(|(name, ..)| planted(name)) {
+        let same = text.iter_mut().filter(|found| **found == byte);
+        same.for_each(|found| *found = other);
     }
     let plan = read_lines(&text, row)?;
     judge(&plan).map_err(|number| (number, 0))?;

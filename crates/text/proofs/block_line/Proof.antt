@@ -36,19 +36,19 @@ Tried c p row′ r = (row : List ℕ) × MatchAt (2 ^ 41) (c .args .text .now) (
 
 -- What the first pattern found, the second, and so on.
 tried-1 : (c : tie.After-matches-word)
-    → Tried (start-1 c) (bytes "(leaf K C M)") (c .matches-word .last .1 .1 .1 .1 .1 .0) (c .matches-word .result)
+    → Tried (start-1 c) (bytes "(leaf K C M)") (c .matches-word .last .1 .1 .1 .1 .0) (c .matches-word .result)
 tried-1 c = (_, c .matches-word .ensures, search needs)
 
 tried-2 : (c : tie.After-matches-word2)
-    → Tried (start-2 c) (bytes "(call K F C M)") (c .matches-word2 .last .1 .1 .1 .1 .1 .0) (c .matches-word2 .result)
+    → Tried (start-2 c) (bytes "(call K F C M)") (c .matches-word2 .last .1 .1 .1 .1 .0) (c .matches-word2 .result)
 tried-2 c = (_, c .matches-word2 .ensures, search needs)
 
 tried-3 : (c : tie.After-matches-word3)
-    → Tried (start-3 c) (bytes "(loop K B C M") (c .matches-word3 .last .1 .1 .1 .1 .1 .0) (c .matches-word3 .result)
+    → Tried (start-3 c) (bytes "(loop K B C M") (c .matches-word3 .last .1 .1 .1 .1 .0) (c .matches-word3 .result)
 tried-3 c = (_, c .matches-word3 .ensures, search needs)
 
 tried-4 : (c : tie.After-matches-word4)
-    → Tried (start-4 c) (bytes "(if K C M") (c .matches-word4 .last .1 .1 .1 .1 .1 .0) (c .matches-word4 .result)
+    → Tried (start-4 c) (bytes "(if K C M") (c .matches-word4 .last .1 .1 .1 .1 .0) (c .matches-word4 .result)
 tried-4 c = (_, c .matches-word4 .ensures, search needs)
 
 -- The line missed the first pattern, the second, and so on.
@@ -76,11 +76,11 @@ matches-word-requires c κs = search needs
 enum-known-f : tie.Need-enum-known-f
 enum-known-f c = search needs
 
-array-read-t24 : tie.Need-array-read-t24
-array-read-t24 c = search needs
+array-read-t23 : tie.Need-array-read-t23
+array-read-t23 c = search needs
 
-array-read-t27 : tie.Need-array-read-t27
-array-read-t27 c = search needs
+array-read-t26 : tie.Need-array-read-t26
+array-read-t26 c = search needs
 
 returns : tie.Need-returns
 unfolding block-line-at
@@ -103,14 +103,14 @@ matches-word-requires-2 c κs = search needs
 enum-known-f-2 : tie.Need-enum-known-f-2
 enum-known-f-2 c = search needs
 
-array-read-t36 : tie.Need-array-read-t36
-array-read-t36 c = search needs
+array-read-t35 : tie.Need-array-read-t35
+array-read-t35 c = search needs
 
-array-read-t39 : tie.Need-array-read-t39
-array-read-t39 c = search needs
+array-read-t38 : tie.Need-array-read-t38
+array-read-t38 c = search needs
 
-array-read-t42 : tie.Need-array-read-t42
-array-read-t42 c = search needs
+array-read-t41 : tie.Need-array-read-t41
+array-read-t41 c = search needs
 
 returns-2 : tie.Need-returns-2
 unfolding block-line-at
@@ -135,14 +135,14 @@ matches-word-requires-3 c κs = search needs
 enum-known-f-3 : tie.Need-enum-known-f-3
 enum-known-f-3 c = search needs
 
-array-read-t51 : tie.Need-array-read-t51
-array-read-t51 c = search needs
+array-read-t50 : tie.Need-array-read-t50
+array-read-t50 c = search needs
 
-array-read-t54 : tie.Need-array-read-t54
-array-read-t54 c = search needs
+array-read-t53 : tie.Need-array-read-t53
+array-read-t53 c = search needs
 
-array-read-t57 : tie.Need-array-read-t57
-array-read-t57 c = search needs
+array-read-t56 : tie.Need-array-read-t56
+array-read-t56 c = search needs
 
 returns-3 : tie.Need-returns-3
 unfolding block-line-at
@@ -169,11 +169,11 @@ matches-word-requires-4 c κs = search needs
 enum-known-f-4 : tie.Need-enum-known-f-4
 enum-known-f-4 c = search needs
 
-array-read-t66 : tie.Need-array-read-t66
-array-read-t66 c = search needs
+array-read-t65 : tie.Need-array-read-t65
+array-read-t65 c = search needs
 
-array-read-t69 : tie.Need-array-read-t69
-array-read-t69 c = search needs
+array-read-t68 : tie.Need-array-read-t68
+array-read-t68 c = search needs
 
 returns-4 : tie.Need-returns-4
 unfolding block-line-at
@@ -214,34 +214,34 @@ block-line-spec =
     slice-aggregate-matches-word-2
     matches-word-requires
     enum-known-f
-    array-read-t24
-    array-read-t27
+    array-read-t23
+    array-read-t26
     returns
     enum-told
     slice-aggregate-matches-word-3
     slice-aggregate-matches-word-4
     matches-word-requires-2
     enum-known-f-2
-    array-read-t36
-    array-read-t39
-    array-read-t42
+    array-read-t35
+    array-read-t38
+    array-read-t41
     returns-2
     enum-told-2
     slice-aggregate-matches-word-5
     slice-aggregate-matches-word-6
     matches-word-requires-3
     enum-known-f-3
-    array-read-t51
-    array-read-t54
-    array-read-t57
+    array-read-t50
+    array-read-t53
+    array-read-t56
     returns-3
     enum-told-3
     slice-aggregate-matches-word-7
     slice-aggregate-matches-word-8
     matches-word-requires-4
     enum-known-f-4
-    array-read-t66
-    array-read-t69
+    array-read-t65
+    array-read-t68
     returns-4
     enum-told-4
     plain-line-requires

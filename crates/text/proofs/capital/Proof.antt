@@ -24,7 +24,7 @@ abbrev line-there : tie.After-number → List ℕ
 line-there c = line-at (begin c .args .text .now) (begin c .args .at)
 
 asks-number : (c : tie.After-number) → item (begin c .args .t) (line-there c) ≡ number-item (number (line-there c))
-asks-number c = item-number _ _ (c .before .if1 .left) (begin c .pre .2)
+asks-number c = item-number _ _ (c .before .if1 .left) (begin c .pre .1)
 
 abbrev stored-with : tie.After-number → ℕ → List ℕ
 stored-with c v = set (begin c .args .row .now) (begin c .args .f .count) v
@@ -38,8 +38,8 @@ shared-slice-read-b c = search needs
 kinded-requires : tie.Need-kinded-requires
 kinded-requires c κs = search needs
 
-add-t18 : tie.Need-add-t18
-add-t18 c = search needs
+add-t17 : tie.Need-add-t17
+add-t17 c = search needs
 
 returns-2 : tie.Need-returns-2
 returns-2 c = (
@@ -55,8 +55,8 @@ returns-2 c = (
 kinded-requires-2 : tie.Need-kinded-requires-2
 kinded-requires-2 c κs = search needs
 
-add-t20 : tie.Need-add-t20
-add-t20 c = search needs
+add-t19 : tie.Need-add-t19
+add-t19 c = search needs
 
 returns-3 : tie.Need-returns-3
 returns-3 c = (
@@ -73,7 +73,7 @@ returns-4 : tie.Need-returns-4
 returns-4 c = (item-neither _ _ (omega arith) _ (c .before .before .before .before .if1 .taken) (c .before .if3 .left) (c .if4 .left), refl)
 
 number-requires : tie.Need-number-requires
-number-requires c κs = c .before .before .before .pre .0
+number-requires c κs = search needs
 
 enum-told : tie.Need-enum-told
 enum-told c = search needs
@@ -85,7 +85,7 @@ store-requires : tie.Need-store-requires
 store-requires c κs = search needs
 
 numbered-requires : tie.Need-numbered-requires
-numbered-requires c κs = c .before .before .before .before .before .before .before .before .before .before .before .pre .1
+numbered-requires c κs = c .before .before .before .before .before .before .before .before .before .before .before .pre .0
 
 enum-known-v : tie.Need-enum-known-v
 enum-known-v c = search needs
@@ -94,7 +94,7 @@ store-requires-2 : tie.Need-store-requires-2
 store-requires-2 c κs = search needs
 
 numbered-requires-2 : tie.Need-numbered-requires-2
-numbered-requires-2 c κs = c .before .before .before .before .before .before .before .before .before .before .before .pre .1
+numbered-requires-2 c κs = c .before .before .before .before .before .before .before .before .before .before .before .pre .0
 
 returns-5 : tie.Need-returns-5
 returns-5 c = (asks-number (c .before .before) ∙ ap number-item (subst (NumberAt _ _ _) (c .enum-told .given .1) (c .before .before .number .ensures)), refl)
@@ -138,10 +138,10 @@ capital-spec =
     returns
     shared-slice-read-b
     kinded-requires
-    add-t18
+    add-t17
     returns-2
     kinded-requires-2
-    add-t20
+    add-t19
     returns-3
     returns-4
     number-requires

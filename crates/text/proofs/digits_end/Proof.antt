@@ -11,19 +11,19 @@ use Rattle.text.proofs.digits_end.Statement.{statement}
 use Rattle.text.proofs.digits_end.Tie as tie
 
 abbrev Inv-loop : tie.InvT-loop
-Inv-loop table text at i₀ i = Passing text at i
+Inv-loop text at i₀ i = Passing text at i
 
 abbrev μ-loop : tie.MeasureT-loop
-μ-loop table text at i₀ i = length text - i
+μ-loop text at i₀ i = length text - i
 
 loop-holds : tie.Need-loop-holds Inv-loop μ-loop
-loop-holds c = none-passed _ _ (c .before .pre .1)
+loop-holds c = none-passed _ _ (c .before .pre)
 
 shared-slice-read-b : tie.Need-shared-slice-read-b Inv-loop μ-loop
 shared-slice-read-b c = search needs
 
 class-requires : tie.Need-class-requires Inv-loop μ-loop
-class-requires c κs = c .before .before .before .before .pre .0
+class-requires c κs = search needs
 
 returns : tie.Need-returns Inv-loop μ-loop
 returns c =

@@ -23,7 +23,7 @@ stands-requires c κs = search needs
 returns : tie.Need-returns
 returns c =
     let a = c .before .before .before .before .before .before .args in
-    match-miss (match-begins (a .limit) (a .text .now) (a .at) (a .pattern .now) (a .row .now)) (omega (arith, c .before .before .before .before .before .before .pre .1 .long))
+    match-miss (match-begins (a .limit) (a .text .now) (a .at) (a .pattern .now) (a .row .now)) (omega (arith, c .before .before .before .before .before .before .pre .long))
     (subst (StandsAt _ _ _) (not-true (c .before .stands .result) (c .if1 .taken)) (c .before .stands .ensures))
 
 add-stands : tie.Need-add-stands
@@ -38,11 +38,11 @@ stands-requires-2 c κs = search needs
 returns-2 : tie.Need-returns-2
 returns-2 c =
     let a = c .before .before .before .before .before .before .before .before .before .args in
-    match-miss (sign-step (match-begins (a .limit) (a .text .now) (a .at) (a .pattern .now) (a .row .now)) (omega (arith, c .before .before .before .before .before .before .before .before .before .pre .1 .long)) (bracket-stands (c .before .before .before))) (omega (arith, c .before .before .before .before .before .before .before .before .before .pre .1 .long))
+    match-miss (sign-step (match-begins (a .limit) (a .text .now) (a .at) (a .pattern .now) (a .row .now)) (omega (arith, c .before .before .before .before .before .before .before .before .before .pre .long)) (bracket-stands (c .before .before .before))) (omega (arith, c .before .before .before .before .before .before .before .before .before .pre .long))
     (subst (StandsAt _ _ _) (not-true (c .before .stands2 .result) (c .if2 .taken)) (c .before .stands2 .ensures))
 
-matches-by-requires : tie.Need-matches-by-requires
-matches-by-requires c κs = search needs
+matches-requires : tie.Need-matches-requires
+matches-requires c κs = search needs
 
 same-length : tie.Need-same-length
 same-length c = search needs
@@ -61,6 +61,6 @@ matches-word-spec =
     shared-slice-read-stands-2
     stands-requires-2
     returns-2
-    matches-by-requires
+    matches-requires
     same-length
     returns-3)

@@ -13,10 +13,10 @@ use Rattle.text.proofs.number.Statement.{statement}
 use Rattle.text.proofs.number.Tie as tie
 
 abbrev Inv-loop : tie.InvT-loop
-Inv-loop table text at limit b v₀ i₀ v i = Reading limit text at v i
+Inv-loop text at limit b v₀ i₀ v i = Reading limit text at v i
 
 abbrev μ-loop : tie.MeasureT-loop
-μ-loop table text at limit b v₀ i₀ v i = length text - i
+μ-loop text at limit b v₀ i₀ v i = length text - i
 
 -- The first byte is a digit.
 abbrev first-byte : tie.Else2 Inv-loop μ-loop → ℕ
@@ -48,13 +48,13 @@ shared-slice-read-b : tie.Need-shared-slice-read-b Inv-loop μ-loop
 shared-slice-read-b c = search needs
 
 class-requires : tie.Need-class-requires Inv-loop μ-loop
-class-requires c κs = c .before .before .before .pre
+class-requires c κs = search needs
 
 returns-2 : tie.Need-returns-2 Inv-loop μ-loop
 returns-2 c = number-no _ _ (omega arith) (λ e. c .if2 .taken (c .before .class .ensures ∙ e))
 
-add-t14 : tie.Need-add-t14 Inv-loop μ-loop
-add-t14 c = search needs
+add-t13 : tie.Need-add-t13 Inv-loop μ-loop
+add-t13 c = search needs
 
 returns-3 : tie.Need-returns-3 Inv-loop μ-loop
 returns-3 c = (number-zero _ _ (omega arith) (c .if3 .taken), omega arith, one-on _ _ (omega arith) (λ z. omega arith))
@@ -69,7 +69,7 @@ add-digits-end : tie.Need-add-digits-end Inv-loop μ-loop
 add-digits-end c = search needs
 
 digits-end-requires : tie.Need-digits-end-requires Inv-loop μ-loop
-digits-end-requires c κs = (c .before .before .before .before .before .before .before .before .pre, omega arith)
+digits-end-requires c κs = search needs
 
 returns-4 : tie.Need-returns-4 Inv-loop μ-loop
 returns-4 c =
@@ -94,7 +94,7 @@ shared-slice-read-c : tie.Need-shared-slice-read-c Inv-loop μ-loop
 shared-slice-read-c c = search needs
 
 class-requires-2 : tie.Need-class-requires-2 Inv-loop μ-loop
-class-requires-2 c κs = c .before .before .before .before .before .before .before .before .before .before .before .pre
+class-requires-2 c κs = search needs
 
 returns-5 : tie.Need-returns-5 Inv-loop μ-loop
 returns-5 c = stop-at (c .before .before .before .before .loop .inv) (digits-stop _ _ (omega arith) _ (λ e. c .if5 .taken (c .before .class2 .ensures ∙ e)))
@@ -112,7 +112,7 @@ add-digits-end-2 : tie.Need-add-digits-end-2 Inv-loop μ-loop
 add-digits-end-2 c = search needs
 
 digits-end-requires-2 : tie.Need-digits-end-requires-2 Inv-loop μ-loop
-digits-end-requires-2 c κs = (begin (c .before .before .before) .pre, omega arith)
+digits-end-requires-2 c κs = search needs
 
 returns-6 : tie.Need-returns-6 Inv-loop μ-loop
 returns-6 c =
@@ -155,7 +155,7 @@ number-spec =
     shared-slice-read-b
     class-requires
     returns-2
-    add-t14
+    add-t13
     returns-3
     sub-wide
     wide-requires

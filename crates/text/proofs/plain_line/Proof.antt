@@ -39,7 +39,7 @@ missed-3 : (c : tie.After-enum-told3) → matched (bytes "(else") false (line-fr
 missed-3 c = subst (MatchAt _ _ _ _ _ _) (c .enum-told3 .given .1) (c .before .before .before .matches-word3 .ensures)
 
 missed-4 : (c : tie.After-enum-told4) → matched (bytes ")") false (line-from (start-4 c)) ≡ miss
-missed-4 c = subst (MatchAt _ _ _ _ _ _) (c .enum-told4 .given .1) (c .before .before .before .matches-by .ensures)
+missed-4 c = subst (MatchAt _ _ _ _ _ _) (c .enum-told4 .given .1) (c .before .before .before .matches .ensures)
 
 slice-aggregate-matches-word : tie.Need-slice-aggregate-matches-word
 slice-aggregate-matches-word c = search needs
@@ -110,14 +110,14 @@ returns-3 c =
 enum-told-3 : tie.Need-enum-told-3
 enum-told-3 c = search needs
 
-slice-aggregate-matches-by : tie.Need-slice-aggregate-matches-by
-slice-aggregate-matches-by c = search needs
+slice-aggregate-matches : tie.Need-slice-aggregate-matches
+slice-aggregate-matches c = search needs
 
-slice-aggregate-matches-by-2 : tie.Need-slice-aggregate-matches-by-2
-slice-aggregate-matches-by-2 c = search needs
+slice-aggregate-matches-2 : tie.Need-slice-aggregate-matches-2
+slice-aggregate-matches-2 c = search needs
 
-matches-by-requires : tie.Need-matches-by-requires
-matches-by-requires c κs = search needs
+matches-requires : tie.Need-matches-requires
+matches-requires c κs = search needs
 
 enum-known-e-4 : tie.Need-enum-known-e-4
 enum-known-e-4 c = search needs
@@ -128,7 +128,7 @@ returns-4 c =
     let third = c .before .before .before .before .before .before .before in
     let second = third .before .before .before .before .before .before in
     let first = second .before .before .before .before .before .before in
-    let got = subst (MatchAt _ _ _ _ _ _) (c .before .e4 .given .1) (c .before .before .before .before .matches-by .ensures) in
+    let got = subst (MatchAt _ _ _ _ _ _) (c .before .e4 .given .1) (c .before .before .before .before .matches .ensures) in
     answer-miss _ _ _ _ _ (missed-1 first)
     (answer-miss _ _ _ _ _ (missed-2 second)
     (answer-miss _ _ _ _ _ (missed-3 third)
@@ -171,9 +171,9 @@ plain-line-spec =
     enum-known-e-3
     returns-3
     enum-told-3
-    slice-aggregate-matches-by
-    slice-aggregate-matches-by-2
-    matches-by-requires
+    slice-aggregate-matches
+    slice-aggregate-matches-2
+    matches-requires
     enum-known-e-4
     returns-4
     enum-told-4

@@ -1,4 +1,4 @@
--- `text::matches_by` meets its contract. The loop's invariant: the signs passed have taken the line up to here, and the lent row has the numbers found.
+-- `text::matches` meets its contract. The loop's invariant: the signs passed have taken the line up to here, and the lent row has the numbers found.
 -- The measure is what is left of the pattern. Assumes nothing.
 use native.Mathlib.Omega.{arith}
 use borrow.Author.Needs.{needs}
@@ -9,14 +9,14 @@ use mathlib.Core.Logic.{⊎-elim}
 use Rattle.text.specs.Private.{StandsAt, CapitalAt}
 use Rattle.text.proofs.Classes.{class-feed, class-no-feed}
 use Rattle.text.proofs.Laws.{Matching, match-begins, sign-step, capital-step, match-miss, match-short, match-long, match-whole, row-long}
-use Rattle.text.proofs.matches_by.Statement.{statement}
-use Rattle.text.proofs.matches_by.Tie as tie
+use Rattle.text.proofs.matches.Statement.{statement}
+use Rattle.text.proofs.matches.Tie as tie
 
 abbrev Inv-loop : tie.InvT-loop
-Inv-loop table text at pattern limit row₀ f₀ i₀ j₀ row f i j = Matching limit text at pattern row₀ f row i j
+Inv-loop text at pattern limit row₀ f₀ i₀ j₀ row f i j = Matching limit text at pattern row₀ f row i j
 
 abbrev μ-loop : tie.MeasureT-loop
-μ-loop table text at pattern limit row₀ f₀ i₀ j₀ row f i j = length pattern - j
+μ-loop text at pattern limit row₀ f₀ i₀ j₀ row f i j = length pattern - j
 
 loop-holds : tie.Need-loop-holds Inv-loop μ-loop
 loop-holds c = match-begins _ _ _ _ _
@@ -29,7 +29,6 @@ is-upper-requires c κs = search needs
 
 capital-requires : tie.Need-capital-requires Inv-loop μ-loop
 capital-requires c κs = (
-  c .before .before .before .before .before .before .before .before .before .pre,
   omega (arith, c .before .before .before .before .before .loop .inv .few),
   sym (c .before .before .is-upper .ensures) ∙ c .before .if1 .taken,
 )
@@ -90,10 +89,10 @@ shared-slice-read-end : tie.Need-shared-slice-read-end Inv-loop μ-loop
 shared-slice-read-end c = search needs
 
 class-requires : tie.Need-class-requires Inv-loop μ-loop
-class-requires c κs = c .before .before .before .before .before .before .before .pre
+class-requires c κs = search needs
 
-add-t27 : tie.Need-add-t27 Inv-loop μ-loop
-add-t27 c = search needs
+add-t26 : tie.Need-add-t26 Inv-loop μ-loop
+add-t26 c = search needs
 
 same-length-4 : tie.Need-same-length-4 Inv-loop μ-loop
 same-length-4 c = row-long (c .before .before .before .before .before .loop .inv)
@@ -111,8 +110,8 @@ returns-5 c =
     match-long (c .before .before .before .before .before .loop .inv) (omega arith) (omega arith)
     (class-no-feed _ (λ e. c .if4 .left (c .before .class .ensures ∙ e)))
 
-pub matches-by-spec : {M : Type 1} → statement M
-matches-by-spec =
+pub matches-spec : {M : Type 1} → statement M
+matches-spec =
     tie.close
     (tie.spec
     Inv-loop
@@ -136,7 +135,7 @@ matches-by-spec =
     returns-3
     shared-slice-read-end
     class-requires
-    add-t27
+    add-t26
     same-length-4
     returns-4
     same-length-5
