@@ -23,6 +23,7 @@ pub mod replay;
 pub mod rules;
 pub mod rulings;
 pub mod runs;
+pub mod sheet;
 pub mod table;
 pub mod two_faults;
 pub mod worked;

@@ -63,34 +63,51 @@ pub trait Numbers {
     }
 }
 
-/// What the table program prints for an accepted plan.
-pub fn listing<N: Numbers>(numbers: &N) -> String {
+/// The numbers that a listing shows: of the task the total, the max-load total, D and
+/// T, and of each point, in leaf order, its number, its level, its tail and its stretch.
+pub struct Figures {
+    pub task: [u64; 4],
+    pub points: Vec<[u64; 4]>,
+}
+
+pub fn figures<N: Numbers>(numbers: &N) -> Figures {
     let plan = numbers.plan();
-    let mut lines = format!(
-        "task {} {} {} {}\n",
-        numbers.total(),
-        numbers.max_load_total(),
-        plan.deadline,
-        plan.switch
-    );
-    for (_, form) in plan.leaves() {
-        if form.point {
-            let leaf = form.leaf;
-            lines.push_str(&format!(
-                "point {leaf} {} {} {}\n",
-                numbers.level(leaf),
-                numbers.tail(leaf),
-                numbers.stretch(leaf)
-            ));
-        }
+    let point = |leaf: usize| {
+        let (level, tail) = (numbers.level(leaf), numbers.tail(leaf));
+        [leaf as u64, level as u64, tail, numbers.stretch(leaf)]
+    };
+    let leaves = plan.leaves().into_iter();
+    let points = leaves.filter(|(_, form)| form.point);
+    let (total, max_load) = (numbers.total(), numbers.max_load_total());
+    Figures {
+        task: [total, max_load, plan.deadline, plan.switch],
+        points: points.map(|(_, form)| point(form.leaf)).collect(),
     }
-    lines
+}
+
+impl Figures {
+    /// What the table program prints for an accepted plan with these.
+    pub fn listing(&self) -> String {
+        let line = |word: &str, [a, b, c, d]: [u64; 4]| format!("{word} {a} {b} {c} {d}\n");
+        let points = self.points.iter().map(|&point| line("point", point));
+        line("task", self.task) + &points.collect::<String>()
+    }
+}
+
+pub fn listing<N: Numbers>(numbers: &N) -> String {
+    figures(numbers).listing()
+}
+
+/// What a program prints for a text: for an accepted plan what it makes of the numbers,
+/// for a refused one the line that every program prints.
+pub fn answer(text: &[u8], accepted: fn(&Figures) -> String) -> String {
+    match plan::read(text, MOST_LEAVES) {
+        Ok(plan) => accepted(&figures(&Composed::new(&plan))),
+        Err((number, line)) => format!("refused {number} {line}\n"),
+    }
 }
 
 /// What the table program prints for a text.
 pub fn printed(text: &[u8]) -> String {
-    match plan::read(text, MOST_LEAVES) {
-        Ok(plan) => listing(&Composed::new(&plan)),
-        Err((number, line)) => format!("refused {number} {line}\n"),
-    }
+    answer(text, Figures::listing)
 }

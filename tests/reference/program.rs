@@ -105,6 +105,33 @@ fn run_fed(
     })
 }
 
+/// The beginning of some bytes, for messages.
+fn shown(bytes: &[u8]) -> String {
+    let beginning = &bytes[..bytes.len().min(80)];
+    format!("{:?}", String::from_utf8_lossy(beginning))
+}
+
+/// The first line in which an output is not as wanted, in words.
+fn difference(found: &[u8], wanted: &[u8]) -> Option<String> {
+    let lines = |text| <[u8]>::split_inclusive(text, |&byte| byte == b'\n').collect();
+    let (found, wanted): (Vec<&[u8]>, Vec<&[u8]>) = (lines(found), lines(wanted));
+    let most = found.len().max(wanted.len());
+    let at = (0..most).find(|&at| found.get(at) != wanted.get(at))?;
+    let line = |of: &[&[u8]]| of.get(at).map_or("nothing".to_string(), |line| shown(line));
+    let (found, wanted) = (line(&found), line(&wanted));
+    Some(format!("line {}: found {found}, wanted {wanted}", at + 1))
+}
+
+/// What is wrong with a run that is to write this, in words; `errors` says whether
+/// standard error has what it should.
+pub fn fault(found: &Ended, errors: bool, wanted: &[u8]) -> Option<String> {
+    match (found.status, errors) {
+        (Some(0), true) => difference(&found.output, wanted),
+        (Some(0), false) => Some(format!("on standard error {}", shown(&found.errors))),
+        (status, _) => Some(format!("ended with the status {status:?}")),
+    }
+}
+
 /// Counts a run; `fault` says what is wrong with one that ended. One that does not
 /// end is the test's last, since the next would not end either.
 pub fn note(

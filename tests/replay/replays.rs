@@ -48,23 +48,6 @@ impl Wanted<'_> {
     }
 }
 
-/// The beginning of some bytes, for messages.
-fn shown(bytes: &[u8]) -> String {
-    let beginning = &bytes[..bytes.len().min(80)];
-    format!("{:?}", String::from_utf8_lossy(beginning))
-}
-
-/// The first line in which an output is not as wanted, in words.
-fn difference(found: &[u8], wanted: &[u8]) -> Option<String> {
-    let lines = |text| <[u8]>::split_inclusive(text, |&byte| byte == b'\n').collect();
-    let (found, wanted): (Vec<&[u8]>, Vec<&[u8]>) = (lines(found), lines(wanted));
-    let most = found.len().max(wanted.len());
-    let at = (0..most).find(|&at| found.get(at) != wanted.get(at))?;
-    let line = |of: &[&[u8]]| of.get(at).map_or("nothing".to_string(), |line| shown(line));
-    let (found, wanted) = (line(&found), line(&wanted));
-    Some(format!("line {}: found {found}, wanted {wanted}", at + 1))
-}
-
 /// Whether this is one line that has the name in it and says something about it.
 fn complains(errors: &[u8], name: &[u8]) -> bool {
     let Some(line) = errors.strip_suffix(b"\n") else {
@@ -81,11 +64,7 @@ fn fault(found: &Ended, wanted: Wanted) -> Option<String> {
         None => found.errors.is_empty(),
         Some(name) => complains(&found.errors, name),
     };
-    match (found.status, complained) {
-        (Some(0), true) => difference(&found.output, wanted.output.as_bytes()),
-        (Some(0), false) => Some(format!("on standard error {}", shown(&found.errors))),
-        (status, _) => Some(format!("ended with the status {status:?}")),
-    }
+    program::fault(found, complained, wanted.output.as_bytes())
 }
 
 impl Replays {

@@ -1,3 +1,6 @@
+pub mod Numbers
+pub mod Points
 pub mod Lines
-pub mod PlanListing
+pub mod Limits
+pub mod Reading
 pub mod Theorems

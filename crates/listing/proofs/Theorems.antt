@@ -16,22 +16,12 @@ use Rattle.model.specs.Tail.{Tail, tail}
 use Rattle.model.specs.Acceptance.{Accepted}
 use Rattle.model.proofs.Theorems as model
 use Rattle.print.proofs.Theorems.{begins}
-use Rattle.table.specs.declared.Head.{Head}
-use Rattle.table.specs.Reading.{verdict, verdict-of, stored}
-use Rattle.listing.specs.Listing.{listing}
+use Rattle.table.specs.Reading.{verdict}
 use Rattle.listing.specs.PlanListing.{outcome-listing}
-use Rattle.listing.proofs.PlanListing as lists
+use Rattle.listing.proofs.Points.{among-all}
 
--- Consider lent memory with room for 512 leaves, and any text. The listing of what `read` answers and leaves there is the listing of the plan that the
--- text is read as, and the line of the refusal where it is refused.
-pub listing-is-of-text : (row tails stretches : List ℕ) → length row ≡ 4096 → length tails ≡ 512 → length stretches ≡ 512 →
-    (h : Head) (capacity : ℕ) (text : List ℕ) →
-    listing (stored (verdict capacity text) (λ t. t .row) row) (stored (verdict capacity text) (λ t. t .tails) tails)
-    (stored (verdict capacity text) (λ t. t .stretches) stretches) (verdict-of (verdict capacity text) h) ≡ outcome-listing (verdict capacity text)
-listing-is-of-text = lists.text-listed
-
--- So the bytes that a program hands over to standard output are that listing: consider a buffer of 65,664 bytes, and m and n as `list_text` leaves
--- the buffer and gives the length by its contract. The first n bytes of m are the listing of the plan, or the line of the refusal.
+-- The bytes that a program hands over to standard output are the listing: consider a buffer of 65,664 bytes, and m and n as `list_text` leaves the buffer
+-- and gives the length by its contract. The first n bytes of m are the listing of the plan that the text is read as, or the line of the refusal.
 pub bytes-are-of-text : (text buffer m : List ℕ) (n : ℕ) → length buffer ≡ 65664 → m ≡ sets buffer 0 (outcome-listing (verdict 512 text)) →
     n ≡ length (outcome-listing (verdict 512 text)) → n ≤ 65664 → take n m ≡ outcome-listing (verdict 512 text)
 bytes-are-of-text text buffer m n long e k h = rw (e, k) (begins (outcome-listing (verdict 512 text)) buffer (omega arith))
@@ -48,4 +38,4 @@ pub point-line-means : (p : Plan) → Accepted p → (f : ℕ) → f < length (p
     b .point ≡ true →
     Tail (getD (linked [] (p .functions)) f done) (b .number) (tail (tallies C [] (p .functions)) (b .number) (getD (p .functions) f close) 0) ×
     Stretch M (main p) (b .number) (stretch M (b .number) (main p) 0)
-point-line-means p a f h b m k = (model.tail-is-largest p a f h b m, model.stretch-is-largest p a b (lists.among-all (p .functions) f h b m) k)
+point-line-means p a f h b m k = (model.tail-is-largest p a f h b m, model.stretch-is-largest p a b (among-all (p .functions) f h b m) k)

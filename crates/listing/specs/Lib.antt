@@ -1,2 +1,3 @@
-pub mod Listing
 pub mod PlanListing
+pub mod Listed
+pub mod Private

@@ -1,13 +1,16 @@
-// The listing of a plan, or its refusal, as text (document 01, 'Plans worked through'): from the numbers that reading the plan left in lent memory, and from
-// the plan's text.
+// The listing of a plan, or its refusal, as text (document 01, 'Plans worked through'): the numbers that are listed, for this listing and for the review
+// sheet, and their lines.
 ghost use mathlib.Core.Path.{_≡_};
-ghost use Prim.Native.Nat.{_≤_, _<_, min};
+ghost use mathlib.Core.List.{flatMap, flatten};
+ghost use Prim.Native.Nat.{_*_, _≤_, _<_, min};
 ghost use lib.ListN.{length};
 ghost use lib.Seq.{sets};
+ghost use Rattle.print.specs.Lines.{point-line};
 ghost use Rattle.print.specs.Printed.{PrintedWithin};
 ghost use Rattle.table.specs.Reading.{verdict};
-ghost use Rattle.listing.specs.Listing.{leaf-text, leaves-text, listing};
-ghost use Rattle.listing.specs.PlanListing.{outcome-listing};
+ghost use Rattle.listing.specs.PlanListing.{outcome-points, outcome-listing};
+ghost use Rattle.listing.specs.Listed.{points-in, listed-of};
+ghost use Rattle.listing.specs.Private.{leaf-points, leaves-points, Collected};
 use print::point_line;
 use print::refused_plan_line;
 use print::task_line;
@@ -17,92 +20,77 @@ use rows::MAX_LEAVES;
 use rows::POINT;
 use rows::ROW;
 use rows::STRIDE;
-use table::Verdict;
 use table::no_head;
 use table::read;
+
+// How many numbers are listed of a point: its number, its level, its tail and its stretch.
+pub const FIELDS: usize = 4;
+
+// How many numbers are listed of as many points as a plan has leaves.
+pub const POINTS: usize = MAX_LEAVES * FIELDS;
 
 // How many bytes a listing has room for: a line for the task and one for each leaf.
 pub const LISTING: usize = 65664;
 
-// Writes the line of a leaf at a place, where the leaf is a point.
-fn put_leaf(
-    out: &mut [u8],
-    at: usize,
+// What is listed of a text beside its points: what reading it answers, the total, the max-load total, D and T, and how many points there are.
+pub struct Listed {
+    pub answer: Answer,
+    pub task: [u64; FIELDS],
+    pub count: usize,
+}
+
+// Stores what is listed of a leaf behind the points before it, where the leaf is a point, and gives how many points there are then.
+fn collect_leaf(
+    points: &mut [u64; POINTS],
+    count: usize,
     row: &[u64; ROW],
     tails: &[u64; MAX_LEAVES],
     stretches: &[u64; MAX_LEAVES],
     i: usize,
 ) -> usize
-    requires { ⌜ i < 512 ⌝ }
-    ensures { λ r. ⌜ PrintedWithin 128 (now (out .entry)) at (leaf-text (now (row .entry)) (now (tails .entry)) (now (stretches .entry)) i)
-        (now (out .exit)) r ⌝ }
+    requires { ⌜ (i < 512) × (count ≤ i) ⌝ }
+    ensures { λ r. ⌜ Collected (now (points .entry)) count (leaf-points (now (row .entry)) (now (tails .entry)) (now (stretches .entry)) i)
+        (now (points .exit)) r ⌝ }
 {
     if row[i * STRIDE + POINT] == 1 {
-        let level = row[i * STRIDE + LEVEL];
-        return point_line(out, at, i as u64, level, tails[i], stretches[i]);
+        let at = count * FIELDS;
+        points[at] = i as u64;
+        points[at + 1] = row[i * STRIDE + LEVEL];
+        points[at + 2] = tails[i];
+        points[at + 3] = stretches[i];
+        return count + 1;
     }
-    at
+    count
 }
 
-// Writes the lines of the first so many leaves, of at most 512, from a place on.
-fn put_leaves(
-    out: &mut [u8],
-    at: usize,
+// Stores what is listed of the first so many leaves, of at most 512, and gives how many points there are among them.
+fn collect_leaves(
+    points: &mut [u64; POINTS],
     row: &[u64; ROW],
     tails: &[u64; MAX_LEAVES],
     stretches: &[u64; MAX_LEAVES],
     n: usize,
 ) -> usize
-    ensures { λ r. ⌜ PrintedWithin 65536 (now (out .entry)) at (leaves-text (now (row .entry)) (now (tails .entry)) (now (stretches .entry)) (min 512 n))
-        (now (out .exit)) r ⌝ }
+    ensures { λ r. ⌜ Collected (now (points .entry)) 0 (leaves-points (now (row .entry)) (now (tails .entry)) (now (stretches .entry)) (min 512 n))
+        (now (points .exit)) r ⌝ }
 {
-    let mut end = at;
+    let mut count = 0;
     let mut i = 0;
     while i < n {
         if i == MAX_LEAVES {
-            return end;
+            return count;
         }
-        end = put_leaf(out, end, row, tails, stretches, i);
+        count = collect_leaf(points, count, row, tails, stretches, i);
         i += 1;
     }
-    end
+    count
 }
 
-// Writes the listing of what was read into lent memory, and gives its length.
-pub fn list(
-    out: &mut [u8; LISTING],
-    row: &[u64; ROW],
-    tails: &[u64; MAX_LEAVES],
-    stretches: &[u64; MAX_LEAVES],
-    verdict: Verdict,
-) -> usize
-    ensures lines { λ r. ⌜ now (out .exit) ≡ sets (now (out .entry)) 0 (listing (now (row .entry)) (now (tails .entry)) (now (stretches .entry)) verdict) ⌝ }
-    ensures size { λ r. ⌜ r ≡ length (listing (now (row .entry)) (now (tails .entry)) (now (stretches .entry)) verdict) ⌝ }
-    ensures fits { λ r. ⌜ r ≤ 65664 ⌝ }
-{
-    let answer = verdict.answer;
-    let head = verdict.head;
-    match answer {
-        Answer::Refused(k, j) => refused_plan_line(out, 0, k, j as u64),
-        Answer::Accepted => {
-            let first = task_line(
-                out,
-                0,
-                head.total,
-                head.max_load_total,
-                head.deadline,
-                head.switch,
-            );
-            put_leaves(out, first, row, tails, stretches, head.leaves)
-        }
-    }
-}
-
-// Reads a plan text and writes the listing of the plan, or the refusal, and gives its length.
-pub fn list_text(out: &mut [u8; LISTING], text: &[u8]) -> usize
-    ensures lines { λ r. ⌜ now (out .exit) ≡ sets (now (out .entry)) 0 (outcome-listing (verdict 512 (now (text .entry)))) ⌝ }
-    ensures size { λ r. ⌜ r ≡ length (outcome-listing (verdict 512 (now (text .entry)))) ⌝ }
-    ensures fits { λ r. ⌜ r ≤ 65664 ⌝ }
+// Reads a plan text, stores the numbers that are listed of its points, four for each, one point behind the other, and gives what else is listed. Of a
+// refused text nothing is stored.
+pub fn collect(points: &mut [u64; POINTS], text: &[u8]) -> Listed
+    ensures listed { λ r. ⌜ r ≡ listed-of (verdict 512 (now (text .entry))) ⌝ }
+    ensures numbers { λ r. ⌜ now (points .exit) ≡ sets (now (points .entry)) 0 (flatten (outcome-points (verdict 512 (now (text .entry))))) ⌝ }
 {
     let mut row = [0; ROW];
     let mut turns = [0; MAX_LEAVES];
@@ -117,5 +105,46 @@ pub fn list_text(out: &mut [u8; LISTING], text: &[u8]) -> usize
         &mut stretches,
         no_head(),
     );
-    list(out, &row, &tails, &stretches, verdict)
+    let answer = verdict.answer;
+    let head = verdict.head;
+    let count = collect_leaves(points, &row, &tails, &stretches, head.leaves);
+    Listed {
+        answer: answer,
+        task: [head.total, head.max_load_total, head.deadline, head.switch],
+        count: count,
+    }
+}
+
+// Writes the lines of the first so many points from a place on, and gives the place after them.
+fn put_points(out: &mut [u8; LISTING], at: usize, points: &[u64], count: usize) -> usize
+    requires { ⌜ count * 4 ≤ length (now points) ⌝ }
+    ensures { λ r. ⌜ PrintedWithin (count * 90) (now (out .entry)) at (flatMap point-line (points-in count (now (points .entry)))) (now (out .exit)) r ⌝ }
+{
+    let mut end = at;
+    let mut i = 0;
+    while i < count {
+        let from = i * FIELDS;
+        end = point_line(out, end, &points[from..from + FIELDS]);
+        i += 1;
+    }
+    end
+}
+
+// Reads a plan text and writes the listing of the plan, or the refusal, and gives its length.
+pub fn list_text(out: &mut [u8; LISTING], text: &[u8]) -> usize
+    ensures lines { λ r. ⌜ now (out .exit) ≡ sets (now (out .entry)) 0 (outcome-listing (verdict 512 (now (text .entry)))) ⌝ }
+    ensures size { λ r. ⌜ r ≡ length (outcome-listing (verdict 512 (now (text .entry)))) ⌝ }
+    ensures fits { λ r. ⌜ r ≤ 65664 ⌝ }
+{
+    let mut points = [0; POINTS];
+    let listed = collect(&mut points, text);
+    let answer = listed.answer;
+    let task = listed.task;
+    match answer {
+        Answer::Refused(k, j) => refused_plan_line(out, 0, k, j as u64),
+        Answer::Accepted => {
+            let first = task_line(out, 0, &task);
+            put_points(out, first, &points, listed.count)
+        }
+    }
 }

@@ -1,13 +1,13 @@
 -- Texts written one behind the other, as far as there is room, and how long they are. Assumes nothing.
-use Prim.Native.Nat.{ℕ, zero, suc, _+_, _-_, _/_, _%_, _^_, _≤_, _<_, min}
-use mathlib.Core.Path.{_≡_, refl, sym, ap, _∙_}
-use mathlib.Core.List.{List, [], _∷_, _++_}
+use Prim.Native.Nat.{ℕ, zero, suc, _+_, _-_, _*_, _/_, _%_, _^_, _≤_, _<_, min}
+use mathlib.Core.Path.{_≡_, refl, sym, ap, subst, _∙_}
+use mathlib.Core.List.{List, [], _∷_, _++_, append-assoc, append-nil, flatMap}
 use mathlib.Core.Bool.{Bool, true, false}
 use native.Mathlib.Numerals.{add-one}
 use native.Mathlib.Omega.{arith}
 use lib.Dec.{leb}
 use lib.ListN.{length, take, getD, set, length-append, length-take, length-set}
-use lib.Seq.{sets, take-suc, take-nil, set-out, length-sets}
+use lib.Seq.{sets, take-suc, take-nil, take-length, set-out, length-sets}
 use borrow.Author.Tests.{leb-true, leb-false}
 use Rattle.text.specs.Spelling.{decimal}
 use Rattle.text.proofs.Decimal.{decimal-digit, decimal-step, decimal-length, tens}
@@ -16,7 +16,7 @@ use Rattle.print.specs.Printed.{Printed, PrintedWithin}
 -- STORES IN A ROW
 
 -- Stores that go on behind others are the stores of both texts.
-stores-join : (xs ys l : List ℕ) (at i : ℕ) → i ≡ at + length xs → sets (sets l at xs) i ys ≡ sets l at (xs ++ ys)
+pub stores-join : (xs ys l : List ℕ) (at i : ℕ) → i ≡ at + length xs → sets (sets l at xs) i ys ≡ sets l at (xs ++ ys)
 stores-join [] ys l at i e = let e′ : i ≡ at = omega arith in rw e′
 stores-join (x ∷ xs) ys l at i e = stores-join xs ys (set l at x) (suc at) i (omega arith)
 
@@ -89,6 +89,35 @@ whole p = record { printed = p; short = omega arith }
 -- What has at most so many bytes has at most more.
 pub wider : {most more : ℕ} {l m xs : List ℕ} {at e : ℕ} → most ≤ more → PrintedWithin most l at xs m e → PrintedWithin more l at xs m e
 wider h p = record { printed = p .printed; short = omega (arith, p .short) }
+
+-- THE TEXTS OF A LIST
+
+-- The texts of two lists, one behind the other, are those of both.
+pub flat-append : {A : Type 0} (f : A → List ℕ) (xs ys : List A) → flatMap f (xs ++ ys) ≡ flatMap f xs ++ flatMap f ys
+unfolding flatMap
+flat-append f [] ys = refl
+flat-append f (x ∷ xs) ys = rw (flat-append f xs ys, append-assoc (f x) (flatMap f xs) (flatMap f ys))
+
+-- Of none nothing is written.
+pub none-written : {A : Type 0} (f : A → List ℕ) (xs : List A) (most : ℕ) (l : List ℕ) (at : ℕ) → PrintedWithin (0 * most) l at (flatMap f (take 0 xs)) l at
+unfolding flatMap
+none-written f xs most l at = record { printed = record { stored = refl; after = omega arith }; short = omega arith }
+
+-- One more, of at most so many bytes as each.
+pub one-written : {A : Type 0} (f : A → List ℕ) (d : A) (xs : List A) (most i : ℕ) {l m n : List ℕ} {at e r : ℕ} → i < length xs →
+    PrintedWithin (i * most) l at (flatMap f (take i xs)) m e → PrintedWithin most m e (f (getD xs i d)) n r →
+    PrintedWithin ((i + 1) * most) l at (flatMap f (take (i + 1) xs)) n r
+unfolding flatMap
+one-written f d xs most i h p q =
+    rw (add-one i, take-suc xs i d h, flat-append f (take i xs) (getD xs i d ∷ []), append-nil (f (getD xs i d))) (wider (omega arith) (joined p q))
+
+-- All of them.
+pub all-written : {A : Type 0} (f : A → List ℕ) (xs : List A) (most i : ℕ) {l m : List ℕ} {at e : ℕ} → i ≡ length xs →
+    PrintedWithin (i * most) l at (flatMap f (take i xs)) m e → PrintedWithin (length xs * most) l at (flatMap f xs) m e
+all-written f xs most i {l} {m} {at} {e} k p =
+    let w : PrintedWithin (length xs * most) l at (flatMap f (take (length xs) xs)) m e =
+    subst (λ (n : ℕ). PrintedWithin (n * most) l at (flatMap f (take n xs)) m e) k p in
+    subst (λ (ys : List _). PrintedWithin (length xs * most) l at (flatMap f ys) m e) (take-length xs) w
 
 -- NUMBERS
 

@@ -1,7 +1,7 @@
 -- The lines that the programs print (01, 'Calls' and 'Plans worked through'; 02, L1).
 -- Assumes nothing: these are definitions.
 use Prim.Native.Nat.{ℕ, suc}
-use mathlib.Core.List.{List, _++_}
+use mathlib.Core.List.{List, _++_, flatMap}
 use mathlib.Core.Bool.{Bool, true, false}
 use lib.IntN.{ℤ, pos, negsuc}
 use Rattle.text.specs.Text.{bytes}
@@ -38,17 +38,17 @@ unfoldable pub ending-text : Ending → List ℕ
 ending-text Resume = bytes "resume"
 ending-text Ended = bytes "ended"
 
--- Four fields to the end of a line.
-unfoldable pub four : ℕ → ℕ → ℕ → ℕ → List ℕ
-four a b c d = number-field a ++ (number-field b ++ (number-field c ++ (number-field d ++ bytes "\n")))
+-- Numbers, each as a further field.
+unfoldable pub number-fields : List ℕ → List ℕ
+number-fields = flatMap number-field
 
 -- The first line of a plan's listing: total, max-load total, deadline, switch cost.
-unfoldable pub task-line : ℕ → ℕ → ℕ → ℕ → List ℕ
-task-line total max-total deadline switch = bytes "task" ++ four total max-total deadline switch
+unfoldable pub task-line : List ℕ → List ℕ
+task-line numbers = bytes "task" ++ (number-fields numbers ++ bytes "\n")
 
 -- The line of a point: its number, its level in its own function, its tail and its stretch.
-unfoldable pub point-line : ℕ → ℕ → ℕ → ℕ → List ℕ
-point-line number level tail stretch = bytes "point" ++ four number level tail stretch
+unfoldable pub point-line : List ℕ → List ℕ
+point-line numbers = bytes "point" ++ (number-fields numbers ++ bytes "\n")
 
 -- The line of a refused plan: the refusal's number and the plan's line.
 unfoldable pub refused-plan-line : ℕ → ℕ → List ℕ

@@ -2,12 +2,13 @@
 // room.
 ghost use mathlib.Core.Path.{_≡_};
 ghost use mathlib.Core.List.{[], _∷_};
-ghost use Prim.Native.Nat.{_+_, _<_};
+ghost use Prim.Native.Nat.{_+_, _*_, _<_};
+ghost use lib.ListN.{length};
 ghost use lib.IntN.{natAbs};
 ghost use Rattle.text.specs.Spelling.{decimal};
 ghost use Rattle.model.specs.declared.Answer.the-variants.{Refused, Decided, Closed};
 ghost use Rattle.print.specs.Printed.{Printed, PrintedWithin};
-ghost use Rattle.print.specs.Lines.{number-field, signed-field, late-mark, word-text, ending-text, four};
+ghost use Rattle.print.specs.Lines.{number-field, signed-field, late-mark, word-text, ending-text, number-fields};
 ghost use Rattle.print.specs.Lines.{task-line, point-line, refused-plan-line, ticks-line, answer-line};
 use model::Answer;
 use model::Ending;
@@ -53,8 +54,8 @@ fn digit(d: u64) -> u8
     d as u8 + b'0'
 }
 
-// Writes a number in decimal at a place: the digits of its tenth, then its last digit.
-fn put_number(out: &mut [u8], at: usize, n: u64) -> usize
+// Writes a number in decimal at a place, the digits of its tenth, then its last digit, and gives the place after it.
+pub fn put_number(out: &mut [u8], at: usize, n: u64) -> usize
     ensures { λ r. ⌜ Printed (now (out .entry)) at (decimal n) (now (out .exit)) r ⌝ }
 {
     if n < TEN {
@@ -125,45 +126,35 @@ fn put_ending(out: &mut [u8], at: usize, ending: Ending) -> usize
     }
 }
 
-// Writes four fields and ends the line.
-fn put_four(out: &mut [u8], at: usize, a: u64, b: u64, c: u64, d: u64) -> usize
-    ensures { λ r. ⌜ PrintedWithin 85 (now (out .entry)) at (four a b c d) (now (out .exit)) r ⌝ }
+// Writes numbers, each as a further field of a line.
+fn put_fields(out: &mut [u8], at: usize, numbers: &[u64]) -> usize
+    ensures { λ r. ⌜ PrintedWithin (length (now (numbers .entry)) * 21) (now (out .entry)) at (number-fields (now (numbers .entry))) (now (out .exit)) r ⌝ }
 {
-    let second = put_field(out, at, a);
-    let third = put_field(out, second, b);
-    let fourth = put_field(out, third, c);
-    let end = put_field(out, fourth, d);
-    put_byte(out, end, b'\n')
+    let mut end = at;
+    let mut i = 0;
+    while i < numbers.len() {
+        end = put_field(out, end, numbers[i]);
+        i += 1;
+    }
+    end
 }
 
 // Writes the first line of a plan's listing at a place, and gives the place after it.
-pub fn task_line(
-    out: &mut [u8],
-    at: usize,
-    total: u64,
-    max_total: u64,
-    deadline: u64,
-    switch: u64,
-) -> usize
-    ensures { λ r. ⌜ PrintedWithin 128 (now (out .entry)) at (task-line total «max_total» deadline switch) (now (out .exit)) r ⌝ }
+pub fn task_line(out: &mut [u8], at: usize, numbers: &[u64]) -> usize
+    ensures { λ r. ⌜ PrintedWithin (length (now (numbers .entry)) * 21 + 5) (now (out .entry)) at (task-line (now (numbers .entry))) (now (out .exit)) r ⌝ }
 {
     let first = put_bytes(out, at, b"task");
-    put_four(out, first, total, max_total, deadline, switch)
+    let end = put_fields(out, first, numbers);
+    put_byte(out, end, b'\n')
 }
 
 // Writes the line of a point at a place, and gives the place after it.
-pub fn point_line(
-    out: &mut [u8],
-    at: usize,
-    number: u64,
-    level: u64,
-    tail: u64,
-    stretch: u64,
-) -> usize
-    ensures { λ r. ⌜ PrintedWithin 128 (now (out .entry)) at (point-line number level tail stretch) (now (out .exit)) r ⌝ }
+pub fn point_line(out: &mut [u8], at: usize, numbers: &[u64]) -> usize
+    ensures { λ r. ⌜ PrintedWithin (length (now (numbers .entry)) * 21 + 6) (now (out .entry)) at (point-line (now (numbers .entry))) (now (out .exit)) r ⌝ }
 {
     let first = put_bytes(out, at, b"point");
-    put_four(out, first, number, level, tail, stretch)
+    let end = put_fields(out, first, numbers);
+    put_byte(out, end, b'\n')
 }
 
 // Writes the line of a refused plan at a place, and gives the place after it.

@@ -1,6 +1,6 @@
-//! The reference's own checks: the worked plans and logs, the readings taken, the
-//! aimed texts, tables that one rule refuses, the two ways of finding the numbers and
-//! the final decisions against each other, timed runs and worst cases.
+//! The reference's own checks: the worked plans, sheets and logs, the readings taken,
+//! the aimed texts, tables that one rule refuses, the two ways of finding the numbers
+//! and the final decisions against each other, timed runs and worst cases.
 
 mod compare;
 mod finals;
@@ -8,6 +8,7 @@ mod large;
 mod readings_of_calls;
 mod readings_of_texts;
 mod replay;
+mod sheet;
 mod tables;
 mod tally;
 mod texts;
@@ -21,8 +22,9 @@ use tally::Tally;
 
 fn main() {
     let mut tally = Tally::new();
-    let parts: [(&str, fn(&mut Tally)); 11] = [
+    let parts: [(&str, fn(&mut Tally)); 12] = [
         ("worked plans", worked::check),
+        ("sheets", sheet::check),
         ("readings of texts", readings_of_texts::check),
         ("readings of calls", readings_of_calls::check),
         ("texts", texts::check),

@@ -1,24 +1,65 @@
--- `listing::list_text` meets its contract: what is listed from memory after reading is the listing of the plan, or the refusal. Assumes nothing.
+-- `listing::list_text` meets its contract, once for a refused text and once for a plan. Assumes nothing.
+use mathlib.Core.Path.{refl, sym}
+use native.Mathlib.Omega.{arith}
 use borrow.Author.Needs.{needs}
-use Rattle.listing.proofs.PlanListing.{list-read}
+use Rattle.table.specs.Reading.{verdict}
+use Rattle.listing.specs.PlanListing.{outcome-listing}
+use Rattle.listing.proofs.Lines.{collected-back, refusal-printed, list-accepted}
 use Rattle.listing.proofs.list_text.Statement.{statement}
 use Rattle.listing.proofs.list_text.Tie as tie
 
-no-head-requires : tie.Need-no-head-requires
-no-head-requires c κs = search needs
+collect-requires : tie.Need-collect-requires
+collect-requires c κs = search needs
 
-read-requires : tie.Need-read-requires
-read-requires c κs = search needs
+enum-known-answer : tie.Need-enum-known-answer
+enum-known-answer c = search needs
 
-list-requires : tie.Need-list-requires
-list-requires c κs = search needs
+refused-plan-line-requires : tie.Need-refused-plan-line-requires
+refused-plan-line-requires c κs = search needs
+
+enum-told : tie.Need-enum-told
+enum-told c = search needs
+
+slice-aggregate-task-line : tie.Need-slice-aggregate-task-line
+slice-aggregate-task-line c = search needs
+
+task-line-requires : tie.Need-task-line-requires
+task-line-requires c κs = search needs
+
+slice-aggregate-put-points : tie.Need-slice-aggregate-put-points
+slice-aggregate-put-points c =
+    let g = c .before .before .before .before .before .before .before .before in
+    sym (collected-back (g .before .before .before .args .text .now) (g .collect .ensures .0) (g .collect .ensures .1) .0)
+
+put-points-requires : tie.Need-put-points-requires
+put-points-requires c κs =
+    let g = c .before .before .before .before .before .before .before .before in
+    collected-back (g .before .before .before .args .text .now) (g .collect .ensures .0) (g .collect .ensures .1) .1
 
 returns : tie.Need-returns
 returns c =
-    let s = c .before .before .before .before .before .before .before .before .before .before .before .before .args in
-    let e = c .before .before .before .before .before .read .ensures in
-    list-read (s .text .now) (c .before .before .before .before .before .before .no-head .result) (s .out .now)
-    (e .0) (e .1 .0) (e .1 .1 .1 .0) (e .1 .1 .1 .1) (c .list .ensures)
+    let g = c .before .before .before .before .before .before in
+    refusal-printed outcome-listing 65664 (verdict 512 (g .before .before .before .args .text .now)) refl (omega arith) (search needs) (g .collect .ensures .0)
+    (c .before .before .before .answer .given .1) (c .refused-plan-line .ensures)
+
+returns-2 : tie.Need-returns-2
+returns-2 c =
+    let told = c .before .before .before .before .before .before in
+    let g = told .before .before .before in
+    list-accepted (g .before .before .before .args .text .now) (search needs) (g .collect .ensures .0) (told .enum-told .given .1) (g .collect .ensures .1)
+    (c .before .before .before .task-line .ensures) (c .put-points .ensures)
 
 pub list-text-spec : {M : Type 1} → statement M
-list-text-spec = tie.close (tie.spec no-head-requires read-requires list-requires returns)
+list-text-spec =
+    tie.close
+    (tie.spec
+    collect-requires
+    enum-known-answer
+    refused-plan-line-requires
+    enum-told
+    slice-aggregate-task-line
+    task-line-requires
+    slice-aggregate-put-points
+    put-points-requires
+    returns
+    returns-2)

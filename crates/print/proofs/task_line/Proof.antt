@@ -1,4 +1,4 @@
--- `print::task_line` meets its contract: the word, and four fields behind it. Assumes nothing.
+-- `print::task_line` meets its contract: the word, the fields behind it, and a line feed. Assumes nothing.
 use native.Mathlib.Omega.{arith}
 use borrow.Author.Needs.{needs}
 use Rattle.print.specs.Lines.{task-line}
@@ -12,17 +12,24 @@ slice-aggregate-put-bytes c = search needs
 put-bytes-requires : tie.Need-put-bytes-requires
 put-bytes-requires c κs = search needs
 
-put-four-requires : tie.Need-put-four-requires
-put-four-requires c κs = search needs
+put-fields-requires : tie.Need-put-fields-requires
+put-fields-requires c κs = search needs
+
+put-byte-requires : tie.Need-put-byte-requires
+put-byte-requires c κs = search needs
 
 same-length : tie.Need-same-length
 same-length c = search needs
 
 returns : tie.Need-returns
 unfolding task-line
-returns c = wider (omega arith) (joined (whole (c .before .before .before .before .before .before .put-bytes .ensures)) (c .before .before .put-four .ensures))
+returns c =
+    let last = c .before .before in
+    let fields = last .before .before .before .before in
+    let word = fields .before .before .before .before in
+    wider (omega arith) (joined (whole (word .put-bytes .ensures)) (joined (fields .put-fields .ensures) (whole (last .put-byte .ensures))))
 
 pub task-line-spec : {M : Type 1} → statement M
 task-line-spec =
     tie.close
-    (tie.spec slice-aggregate-put-bytes put-bytes-requires put-four-requires same-length returns)
+    (tie.spec slice-aggregate-put-bytes put-bytes-requires put-fields-requires put-byte-requires same-length returns)

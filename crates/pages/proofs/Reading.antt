@@ -1,0 +1,151 @@
+-- A sheet read back: page by page, and as a whole. Assumes nothing.
+use Prim.Native.Nat.{ℕ, zero, suc, _+_, _*_, _%_, _≤_, _<_}
+use mathlib.Core.Path.{_≡_, refl, sym, _∙_}
+use mathlib.Core.List.{List, [], _∷_, _++_, append-assoc, append-nil}
+use native.Mathlib.Omega.{arith}
+use native.Mathlib.Decide.{decLe}
+use lib.ListN.{length, getD, take, drop, replicate, length-drop, List·getD-append, List·getD-eq-default}
+use lib.Seq.{take-all, take-suc, take-add, getD-drop, getD-at, getD-append-add}
+use borrow.Author.Tests.{le-leb, lt-leb}
+use Rattle.text.specs.Text.{bytes}
+use Rattle.model.specs.Plan.{Plan}
+use Rattle.model.specs.Acceptance.{Accepted}
+use Rattle.listing.specs.PlanListing.{task-numbers, points}
+use Rattle.listing.proofs.Limits.{AllSmall, points-small}
+use Rattle.pages.specs.Sheet.{fields, sheet-line, heading-widths, point-widths, point-lines, page, pages-to, page-count, sheet-lines}
+use Rattle.pages.specs.ReadBack.{in-columns, point-on, points-on}
+use Rattle.pages.proofs.Columns.{read-line}
+use Rattle.pages.proofs.Sheets.{pages-needed, point-count, pages-size, points-fit, no-wider}
+
+-- BY PLACE
+
+-- A line of points, by its place.
+point-at : (all : List (List ℕ)) (first n j : ℕ) → j < n → getD (point-lines all first n) j [] ≡ sheet-line point-widths (getD all (first + j) [])
+unfolding point-lines
+point-at all first zero j h = absurd (omega arith)
+point-at all first (suc n) j h =
+    let ls = point-lines all first n in
+    let size = point-count all first n in
+    elim (decLe (suc j) n) [
+      | yes l ↦ List·getD-append ls (_ ∷ []) [] j (omega arith) ∙ point-at all first n j l
+      | no l ↦
+          let e : j ≡ n = omega arith in
+          rw e (getD-at ls _ [] [] n size)
+    ]
+
+-- A line of pages, by its page and its place there.
+page-at : (task : List ℕ) (all : List (List ℕ)) (n k j : ℕ) → k < n → j < 60 → getD (pages-to task all n) (k * 60 + j) [] ≡ getD (page task all k) j []
+unfolding pages-to
+page-at task all zero k j h l = absurd (omega arith)
+page-at task all (suc n) k j h l =
+    let ls = pages-to task all n in
+    let size = pages-size task all n in
+    elim (decLe (suc k) n) [
+      | yes m ↦ List·getD-append ls (page task all n) [] (k * 60 + j) (omega arith) ∙ page-at task all n k j m l
+      | no m ↦
+          let e : k ≡ n = omega arith in
+          let place : n * 60 + j ≡ length ls + j = omega arith in
+          rw (e, place) (getD-append-add ls (page task all n) j [])
+    ]
+
+-- Read back, page by page.
+pub page-read : (p : Plan) → Accepted p → (k : ℕ) → k < page-count (length (points p)) →
+    (in-columns heading-widths (getD (sheet-lines p) (k * 60) []) ≡ task-numbers p) ×
+    (in-columns heading-widths (getD (sheet-lines p) (k * 60 + 1) []) ≡ (k + 1) ∷ []) ×
+    (getD (sheet-lines p) (k * 60 + 2) [] ≡ replicate 72 32 ++ bytes "\n") ×
+    ((j : ℕ) → j < 57 → in-columns point-widths (getD (sheet-lines p) (k * 60 + 3 + j) []) ≡ getD (points p) (k * 57 + j) [])
+unfolding page sheet-line fields
+page-read p a k h =
+    let (of-task, of-point, of-page) = no-wider p a in
+    let at = page-at (task-numbers p) (points p) (page-count (length (points p))) k in
+    let z : k * 60 + 0 ≡ k * 60 = omega arith in (
+      rw (rw z at (at 0 h (omega arith))) (read-line heading-widths (task-numbers p) (omega arith) of-task),
+      rw (at 1 h (omega arith)) (read-line heading-widths ((k + 1) ∷ []) (omega arith) (of-page k h)),
+      at 2 h (omega arith),
+      λ j l.
+          let e : k * 60 + 3 + j ≡ k * 60 + suc (suc (suc j)) = omega arith in
+          rw (e, at (suc (suc (suc j))) h (omega arith), point-at (points p) (k * 57) 57 j l)
+          (read-line point-widths (getD (points p) (k * 57 + j) []) (omega arith) (of-point (k * 57 + j))),
+    )
+
+-- AS A WHOLE
+
+-- The points on two lists of lines are those on the first, and those on the second behind it.
+points-append : (before : ℕ) (ls ms : List (List ℕ)) → points-on before (ls ++ ms) ≡ points-on before ls ++ points-on (before + length ls) ms
+unfolding points-on
+points-append before [] ms =
+    let e : before + 0 ≡ before = omega arith in
+    rw e
+points-append before (l ∷ ls) ms =
+    let e : before + suc (length ls) ≡ suc before + length ls = omega arith in
+    rw (e, points-append (suc before) ls ms, append-assoc)
+
+-- The first three lines of a page are passed over.
+passed : (before : ℕ) (l : List ℕ) (ls : List (List ℕ)) → before % 60 < 3 → points-on before (l ∷ ls) ≡ points-on (suc before) ls
+unfolding points-on
+passed before l ls h = rw (lt-leb 3 (before % 60) h)
+
+-- A small point has numbers.
+point-there : (xs : List (List ℕ)) → AllSmall xs → (i : ℕ) → i < length xs → point-on (getD xs i []) ≡ getD xs i [] ∷ []
+unfolding AllSmall
+point-there [] s i h = absurd (omega arith)
+point-there (x ∷ xs) s zero h = rw (s .0 .is)
+point-there (x ∷ xs) s (suc i) h = point-there xs (s .1) i (omega arith)
+
+-- Consider small points.
+module _ (task : List ℕ) (all : List (List ℕ)) (small : AllSmall all) where
+  -- The first points and one more, if there is one.
+  take-more : (first n : ℕ) → take (suc n) (drop first all) ≡ take n (drop first all) ++ point-on (getD all (first + n) [])
+  take-more first n =
+      let xs = drop first all in
+      let size = length-drop first all in
+      elim (decLe (suc n) (length xs)) [
+        | yes l ↦ take-suc xs n [] l ∙ rw (getD-drop first all n [], point-there all small (first + n) (omega arith))
+        | no l ↦
+            rw (
+              take-all (suc n) xs (omega arith),
+              take-all n xs (omega arith),
+              List·getD-eq-default all [] {n = first + n} (omega arith),
+              append-nil xs,
+            )
+      ]
+
+  -- The points on the lines of points of a page.
+  lines-read : (k n : ℕ) → n ≤ 57 → points-on (k * 60 + 3) (point-lines all (k * 57) n) ≡ take n (drop (k * 57) all)
+  unfolding points-on point-lines
+  lines-read k zero h = refl
+  lines-read k (suc n) h =
+      let ls = point-lines all (k * 57) n in
+      let x = getD all (k * 57 + n) [] in
+      points-append (k * 60 + 3) ls (sheet-line point-widths x ∷ []) ∙ rw (
+        lines-read k n (omega arith),
+        point-count all (k * 57) n,
+        le-leb 3 ((k * 60 + 3 + n) % 60) (omega arith),
+        read-line point-widths x (omega arith) (points-fit all small (k * 57 + n)),
+        append-nil (point-on x),
+      ) (sym (take-more (k * 57) n))
+
+  -- The points on a page.
+  points-of-page : (k : ℕ) → points-on (k * 60) (page task all k) ≡ take 57 (drop (k * 57) all)
+  unfolding page
+  points-of-page k =
+      let e : suc (suc (suc (k * 60))) ≡ k * 60 + 3 = omega arith in
+      passed (k * 60) _ _ (omega arith) ∙ (passed (suc (k * 60)) _ _ (omega arith) ∙ (passed (suc (suc (k * 60))) _ _ (omega arith) ∙
+      rw e (lines-read k 57 (omega arith))))
+
+  -- The points on the first pages.
+  pages-read : (k : ℕ) → points-on 0 (pages-to task all k) ≡ take (k * 57) all
+  unfolding points-on pages-to
+  pages-read zero = refl
+  pages-read (suc k) =
+      let e : suc k * 57 ≡ k * 57 + 57 = omega arith in
+      let place : 0 + length (pages-to task all k) ≡ k * 60 = omega (arith, pages-size task all k) in
+      points-append 0 (pages-to task all k) (page task all k) ∙
+      rw (pages-read k, place, points-of-page k, e) (sym (take-add (k * 57) 57 all))
+
+-- Read back as a whole: the points on the sheet are those of the plain listing, in the same order.
+pub points-read : (p : Plan) → Accepted p → points-on 0 (sheet-lines p) ≡ points p
+points-read p a =
+    let count = page-count (length (points p)) in
+    pages-read (task-numbers p) (points p) (points-small p a) count ∙
+    take-all (count * 57) (points p) (omega (arith, pages-needed (length (points p)) .1))
