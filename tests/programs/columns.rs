@@ -87,6 +87,6 @@ pub fn listing(output: &[u8]) -> Result<Vec<u8>, String> {
     }
     match std::str::from_utf8(output) {
         Ok(sheet) if sheet.is_ascii() => on_pages(&pages(sheet)?).map(String::into_bytes),
-        _ => Err("bytes other than blanks and digits".to_string()),
+        _ => Err("bytes that are not ASCII".to_string()),
     }
 }

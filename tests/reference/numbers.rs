@@ -94,6 +94,7 @@ impl Figures {
     }
 }
 
+/// What the table program prints for an accepted plan with these numbers.
 pub fn listing<N: Numbers>(numbers: &N) -> String {
     figures(numbers).listing()
 }

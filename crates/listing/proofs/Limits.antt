@@ -29,12 +29,13 @@ use Rattle.table.proofs.Holding.{joined-size}
 use Rattle.table.proofs.Deriving.{leaves-join}
 use Rattle.table.proofs.Bridge.{formed-plan}
 use Rattle.listing.specs.PlanListing.{task-numbers, point-numbers, points-of, all-points, points}
+use Rattle.listing.proofs.Each.{Each, each-append}
 use Rattle.listing.proofs.Points.{among-all}
 
 -- WHAT IS SMALL
 
 -- What is listed of a point: a leaf number below 512, a level of at most 32, a tail and a stretch of at most 2^40.
-pub record Small (x : List ℕ) : Type 0 where
+pub record PointSmall (x : List ℕ) : Type 0 where
   pub number : ℕ
   pub level : ℕ
   pub tail : ℕ
@@ -44,17 +45,6 @@ pub record Small (x : List ℕ) : Type 0 where
   pub level-low : level ≤ 32
   pub tail-low : tail ≤ 2 ^ 40
   pub stretch-low : stretch ≤ 2 ^ 40
-
--- Each of some points.
-unfoldable pub AllSmall : List (List ℕ) → Type 0
-AllSmall [] = Unit
-AllSmall (x ∷ xs) = Small x × AllSmall xs
-
--- The points of two lists.
-small-append : (xs ys : List (List ℕ)) → AllSmall xs → AllSmall ys → AllSmall (xs ++ ys)
-unfolding AllSmall
-small-append [] ys f g = g
-small-append (x ∷ xs) ys f g = (f .0, small-append xs ys (f .1) g)
 
 -- What is listed of the task: a total, a max-load total and a D of at most 2^40, a T of at most 2^20.
 pub record TaskSmall (x : List ℕ) : Type 0 where
@@ -69,17 +59,6 @@ pub record TaskSmall (x : List ℕ) : Type 0 where
   pub switch-low : switch ≤ 2 ^ 20
 
 -- THE LEAVES OF A FUNCTION
-
--- What holds of each of some leaves.
-unfoldable Each : (Leveled → Type 0) → List Leveled → Type 0
-Each P [] = Unit
-Each P (v ∷ vs) = P v × Each P vs
-
--- The leaves of two lists.
-each-append : (P : Leveled → Type 0) (us vs : List Leveled) → Each P us → Each P vs → Each P (us ++ vs)
-unfolding Each
-each-append P [] vs f g = g
-each-append P (u ∷ us) vs f g = (f .0, each-append P us vs (f .1) g)
 
 -- Consider any P, the heights hs of the functions before one, and a greatest level m.
 module _ (P : Leveled → Type 0) (hs : List ℕ) (m : ℕ) where
@@ -119,22 +98,24 @@ module _ (P : Leveled → Type 0) (hs : List ℕ) (m : ℕ) where
 -- THE POINTS AMONG THEM
 
 -- Where what is listed of each point among some leaves is small, the points among them are.
-small-of : (p : Plan) (l : Lines) (vs : List Leveled) → Each (λ v. v .block .point ≡ true → Small (point-numbers p l v)) vs → AllSmall (points-of p l vs)
-unfolding AllSmall Each points-of
+small-of : (p : Plan) (l : Lines) (vs : List Leveled) → Each (λ v. v .block .point ≡ true → PointSmall (point-numbers p l v)) vs →
+    Each PointSmall (points-of p l vs)
+unfolding Each points-of
 small-of p l [] h = tt
 small-of p l (v ∷ vs) h = by (v .block .point) (h .0) (points-of p l vs) (small-of p l vs (h .1))
   where
-    by : (b : Bool) → (b ≡ true → Small (point-numbers p l v)) → (xs : List (List ℕ)) → AllSmall xs → AllSmall (pick b (point-numbers p l v ∷ xs) xs)
+    by : (b : Bool) → (b ≡ true → PointSmall (point-numbers p l v)) → (xs : List (List ℕ)) → Each PointSmall xs →
+        Each PointSmall (pick b (point-numbers p l v ∷ xs) xs)
     by true s xs f = (s refl, f)
     by false s xs f = f
 
 -- Where those of each function are, all are.
 small-all : (p : Plan) (ls : List Lines) →
-    ((f : ℕ) → f < length ls → AllSmall (points-of p (getD ls f close) (own-levels 1 (getD ls f close)))) → AllSmall (all-points p ls)
+    ((f : ℕ) → f < length ls → Each PointSmall (points-of p (getD ls f close) (own-levels 1 (getD ls f close)))) → Each PointSmall (all-points p ls)
 unfolding all-points
-small-all p [] h = unfold AllSmall in tt
+small-all p [] h = unfold Each in tt
 small-all p (l ∷ ls) h =
-    small-append (points-of p l (own-levels 1 l)) (all-points p ls) (h 0 (omega arith)) (small-all p ls (λ f lt. h (suc f) (omega arith)))
+    each-append PointSmall (points-of p l (own-levels 1 l)) (all-points p ls) (h 0 (omega arith)) (small-all p ls (λ f lt. h (suc f) (omega arith)))
 
 -- SUMS OVER A PART OF A RUN
 
@@ -197,12 +178,12 @@ module _ (p : Plan) (a : Accepted p) where
 
   -- What is listed of the points of a function is small.
   function-small : (f : ℕ) → f < length (p .functions) →
-      AllSmall (points-of p (getD (p .functions) f close) (own-levels 1 (getD (p .functions) f close)))
+      Each PointSmall (points-of p (getD (p .functions) f close) (own-levels 1 (getD (p .functions) f close)))
   function-small f lt =
       let l = getD (p .functions) f close in
       let kept = function-kept (p .functions) [] 0 f (a .formed .each) lt in
       small-of p l (own-levels 1 l)
-      (own-each (λ v. v .block .point ≡ true → Small (point-numbers p l v)) (heights [] (take f (p .functions))) 32 1 l (omega (arith, kept .levels))
+      (own-each (λ v. v .block .point ≡ true → PointSmall (point-numbers p l v)) (heights [] (take f (p .functions))) 32 1 l (omega (arith, kept .levels))
       (λ v low m k.
       let among = among-all (p .functions) f lt (v .block) m in
       record {
@@ -220,7 +201,7 @@ module _ (p : Plan) (a : Accepted p) where
 -- THE NUMBERS OF A PLAN
 
 -- The points of an accepted plan are so.
-pub points-small : (p : Plan) → Accepted p → AllSmall (points p)
+pub points-small : (p : Plan) → Accepted p → Each PointSmall (points p)
 points-small p a = small-all p (p .functions) (function-small p a)
 
 -- Its total, its max-load total and D are at most 2^40, T at most 2^20.

@@ -1,7 +1,7 @@
 -- The numbers of points, stored one point behind the other and read back. Assumes nothing.
-use Prim.Native.Nat.{ℕ, zero, suc, _+_, _-_, _*_, _≤_, _<_, min}
+use Prim.Native.Nat.{ℕ, zero, suc, _+_, _-_, _*_, _≤_, _<_}
 use mathlib.Core.Bool.{Bool, true, false}
-use mathlib.Core.Path.{_≡_, refl, sym, ap, subst, _∙_}
+use mathlib.Core.Path.{_≡_, refl, sym, ap, _∙_}
 use mathlib.Core.List.{List, [], _∷_, _++_, flatten, append-assoc}
 use native.Mathlib.Numerals.{add-one}
 use native.Mathlib.Omega.{arith}
@@ -12,41 +12,31 @@ use Rattle.model.specs.Places.{pick}
 use Rattle.rows.specs.Rows.{point-at, level-at}
 use Rattle.print.specs.Lines.{point-line}
 use Rattle.print.specs.Printed.{PrintedWithin}
-use Rattle.print.proofs.Laws.{stores-join, wider}
-use Rattle.listing.specs.Listed.{points-in}
+use Rattle.print.proofs.Laws.{flatten-append, stores-join, wider}
+use Rattle.listing.specs.Summary.{points-in}
 use Rattle.listing.specs.Private.{leaf-points, leaves-points, Collected}
+use Rattle.listing.proofs.Each.{Each, each-append}
 
 -- FOUR FOR EACH
 
--- Each point has four numbers.
-unfoldable pub Fours : List (List ℕ) → Type 0
-Fours [] = Unit
-Fours (x ∷ xs) = (length x ≡ 4) × Fours xs
-
-pub fours-append : (xs ys : List (List ℕ)) → Fours xs → Fours ys → Fours (xs ++ ys)
-unfolding Fours
-fours-append [] ys f g = g
-fours-append (x ∷ xs) ys f g = (f .0, fours-append xs ys (f .1) g)
+-- A point has four numbers.
+abbrev pub Four : List ℕ → Type 0
+Four x = length x ≡ 4
 
 -- So they have four times as many numbers.
-pub flat-length : (xs : List (List ℕ)) → Fours xs → length (flatten xs) ≡ length xs * 4
-unfolding Fours flatten
+flat-length : (xs : List (List ℕ)) → Each Four xs → length (flatten xs) ≡ length xs * 4
+unfolding Each flatten
 flat-length [] f = refl
 flat-length (x ∷ xs) f = omega (arith, length-append x (flatten xs), flat-length xs (f .1), f .0)
-
-pub flatten-append : (xs ys : List (List ℕ)) → flatten (xs ++ ys) ≡ flatten xs ++ flatten ys
-unfolding flatten
-flatten-append [] ys = refl
-flatten-append (x ∷ xs) ys = rw (flatten-append xs ys, append-assoc x (flatten xs) (flatten ys))
 
 -- STORED
 
 -- At most one point for a leaf, with four numbers.
-leaf-fours : (row tails stretches : List ℕ) (i : ℕ) → Fours (leaf-points row tails stretches i) × (length (leaf-points row tails stretches i) ≤ 1)
-unfolding Fours
+leaf-fours : (row tails stretches : List ℕ) (i : ℕ) → Each Four (leaf-points row tails stretches i) × (length (leaf-points row tails stretches i) ≤ 1)
+unfolding Each
 leaf-fours row tails stretches i = by (eqb (point-at row i) 1)
   where
-    by : (b : Bool) → Fours (pick b ((i ∷ level-at row i ∷ getD tails i 0 ∷ getD stretches i 0 ∷ []) ∷ []) []) ×
+    by : (b : Bool) → Each Four (pick b ((i ∷ level-at row i ∷ getD tails i 0 ∷ getD stretches i 0 ∷ []) ∷ []) []) ×
         (length (pick b ((i ∷ level-at row i ∷ getD tails i 0 ∷ getD stretches i 0 ∷ []) ∷ []) []) ≤ 1)
     by true = ((refl, tt), omega arith)
     by false = (tt, omega arith)
@@ -62,12 +52,12 @@ four-stored l at a b c d =
 -- What was stored of the first leaves.
 pub record First (row tails stretches l : List ℕ) (i : ℕ) (m : List ℕ) (count : ℕ) : Type 0 where
   pub collected : Collected l 0 (leaves-points row tails stretches i) m count
-  pub fours : Fours (leaves-points row tails stretches i)
+  pub fours : Each Four (leaves-points row tails stretches i)
   pub few : count ≤ i
 
 -- Before the first leaf nothing.
 pub first-none : (row tails stretches l : List ℕ) → First row tails stretches l 0 l 0
-unfolding leaves-points flatten Fours
+unfolding leaves-points flatten Each
 first-none row tails stretches l = record { collected = record { stored = refl; counted = refl }; fours = tt; few = omega arith }
 
 -- A leaf more.
@@ -86,24 +76,24 @@ first-more {row} {tails} {stretches} {l} {m} {n} {i} {count} {r} f g =
             (stores-join (flatten xs) (flatten ys) l 0 (count * 4) at ∙ ap (sets l 0) (sym (flatten-append xs ys))));
         counted = omega (arith, f .collected .counted, g .counted, length-append xs ys);
       };
-      fours = fours-append xs ys (f .fours) four;
+      fours = each-append Four xs ys (f .fours) four;
       few = omega (arith, f .few, g .counted, one);
     })
 
--- Then fewer are left.
+-- Behind one more, fewer are left.
 pub fewer : (i n : ℕ) → i < n → n - (i + 1) < n - i
 fewer i n h = omega arith
 
--- All leaves that are listed.
-pub first-all : {row tails stretches l m : List ℕ} {count : ℕ} (i n : ℕ) → i ≡ min 512 n → First row tails stretches l i m count →
-    Collected l 0 (leaves-points row tails stretches (min 512 n)) m count
+-- All leaves.
+pub first-all : {row tails stretches l m : List ℕ} {count : ℕ} (i n : ℕ) → i ≡ n → First row tails stretches l i m count →
+    Collected l 0 (leaves-points row tails stretches n) m count
 first-all i n e f = rw (sym e) (f .collected)
 
 -- READ BACK
 
 -- Points that stand at the beginning of a list are read there.
-back : (ps : List (List ℕ)) (rest : List ℕ) → Fours ps → points-in (length ps) (flatten ps ++ rest) ≡ ps
-unfolding Fours flatten points-in
+back : (ps : List (List ℕ)) (rest : List ℕ) → Each Four ps → points-in (length ps) (flatten ps ++ rest) ≡ ps
+unfolding Each flatten points-in
 back [] rest f = refl
 back (x ∷ ps) rest f =
     rw (
@@ -114,7 +104,7 @@ back (x ∷ ps) rest f =
     )
 
 -- So what was stored is read.
-pub stored-back : (ps : List (List ℕ)) (l : List ℕ) → Fours ps → length ps * 4 ≤ length l → points-in (length ps) (sets l 0 (flatten ps)) ≡ ps
+pub stored-back : (ps : List (List ℕ)) (l : List ℕ) → Each Four ps → length ps * 4 ≤ length l → points-in (length ps) (sets l 0 (flatten ps)) ≡ ps
 stored-back ps l f h =
     let k : 0 + length (flatten ps) ≤ length l = omega (arith, flat-length ps f) in
     rw (sets-eq (flatten ps) l 0 k) (back ps (drop (0 + length (flatten ps)) l) f)
@@ -125,7 +115,7 @@ points-count zero l = refl
 points-count (suc n) l = ap suc (points-count n (drop 4 l))
 
 -- A point by its place.
-pub point-place : (n i : ℕ) (l : List ℕ) → i < n → getD (points-in n l) i [] ≡ take 4 (drop (i * 4) l)
+point-place : (n i : ℕ) (l : List ℕ) → i < n → getD (points-in n l) i [] ≡ take 4 (drop (i * 4) l)
 unfolding points-in
 point-place zero i l h = absurd (omega arith)
 point-place (suc n) zero l h = refl
@@ -144,7 +134,7 @@ point-part n i l h k =
 
 -- Its line, where it is written from there.
 pub line-part : (n i : ℕ) (l : List ℕ) {m o : List ℕ} {e r : ℕ} → i < n → n * 4 ≤ length l →
-    PrintedWithin (length (take (i * 4 + 4 - i * 4) (drop (i * 4) l)) * 21 + 6) m e (point-line (take (i * 4 + 4 - i * 4) (drop (i * 4) l))) o r →
+    PrintedWithin (5 + (length (take (i * 4 + 4 - i * 4) (drop (i * 4) l)) * 21 + 1)) m e (point-line (take (i * 4 + 4 - i * 4) (drop (i * 4) l))) o r →
     PrintedWithin 90 m e (point-line (getD (points-in n l) i [])) o r
 line-part n i l h k p =
     let (a, b) = point-part n i l h k in

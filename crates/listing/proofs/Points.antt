@@ -3,7 +3,7 @@
 use mathlib.Core.Bool.{Bool, true, false}
 use mathlib.Core.List.{List, [], _∷_, _++_, map, flatten, map-append, append-assoc, append-nil}
 use mathlib.Core.Path.{_≡_, refl, sym, ap, _∙_, subst}
-use Prim.Native.Nat.{ℕ, zero, suc, _+_, _*_, _≤_, _<_, min}
+use Prim.Native.Nat.{ℕ, zero, suc, _+_, _*_, _≤_, _<_}
 use native.Mathlib.Omega.{arith}
 use lib.Dec.{eqb}
 use lib.ListN.{length, getD, replicate, length-append, length-replicate, length-map, List·getD-append, List·getD-map}
@@ -31,10 +31,10 @@ use Rattle.table.proofs.Writing.{take-stored}
 use Rattle.table.proofs.Written.{tails-size, stretches-size}
 use Rattle.table.proofs.Theorems.{read-as-plan}
 use Rattle.listing.specs.PlanListing.{point-numbers, points-of, all-points, points, outcome-points}
-use Rattle.listing.specs.declared.Listed.{Listed}
-use Rattle.listing.specs.Listed.{listed-of}
+use Rattle.listing.specs.Summary.{summary-of}
 use Rattle.listing.specs.Private.{leaf-points, leaves-points, Collected}
-use Rattle.listing.proofs.Numbers.{Fours, fours-append}
+use Rattle.listing.proofs.Each.{Each, each-append}
+use Rattle.listing.proofs.Numbers.{Four}
 
 -- LEAVES AND THEIR LEVELS
 
@@ -177,7 +177,8 @@ module _ (p : Plan) (row tails stretches : List ℕ) where
       ))
 
   -- The points of all functions behind those of the first k leaves.
-  all-behind : (ls : List Lines) (k : ℕ) → Shown k ls → leaves-points row tails stretches (k + sizes ls) ≡ leaves-points row tails stretches k ++ all-points p ls
+  all-behind : (ls : List Lines) (k : ℕ) → Shown k ls →
+      leaves-points row tails stretches (k + sizes ls) ≡ leaves-points row tails stretches k ++ all-points p ls
   unfolding sizes all-points
   all-behind [] k h =
       let e : k + 0 ≡ k = omega arith in
@@ -197,32 +198,32 @@ module _ (p : Plan) (row tails stretches : List ℕ) where
 -- HOW MANY, AND HOW MANY NUMBERS OF EACH
 
 -- At most one for each leaf, each with four numbers.
-few-of : (p : Plan) (l : Lines) (vs : List Leveled) → (length (points-of p l vs) ≤ length vs) × Fours (points-of p l vs)
-unfolding points-of Fours
+few-of : (p : Plan) (l : Lines) (vs : List Leveled) → (length (points-of p l vs) ≤ length vs) × Each Four (points-of p l vs)
+unfolding points-of Each
 few-of p l [] = (omega arith, tt)
 few-of p l (v ∷ vs) = by (v .block .point) (points-of p l vs) (few-of p l vs)
   where
-    by : (b : Bool) (xs : List (List ℕ)) → (length xs ≤ length vs) × Fours xs →
-        (length (pick b (point-numbers p l v ∷ xs) xs) ≤ suc (length vs)) × Fours (pick b (point-numbers p l v ∷ xs) xs)
+    by : (b : Bool) (xs : List (List ℕ)) → (length xs ≤ length vs) × Each Four xs →
+        (length (pick b (point-numbers p l v ∷ xs) xs) ≤ suc (length vs)) × Each Four (pick b (point-numbers p l v ∷ xs) xs)
     by true xs (h, f) = (omega arith, (refl, f))
     by false xs (h, f) = (omega arith, f)
 
-pub few-all : (p : Plan) (ls : List Lines) → (length (all-points p ls) ≤ sizes ls) × Fours (all-points p ls)
+pub few-all : (p : Plan) (ls : List Lines) → (length (all-points p ls) ≤ sizes ls) × Each Four (all-points p ls)
 unfolding all-points sizes
-few-all p [] = (omega arith, unfold Fours in tt)
+few-all p [] = (omega arith, unfold Each in tt)
 few-all p (l ∷ ls) =
     let xs = points-of p l (own-levels 1 l) in
     let (h, f) = few-of p l (own-levels 1 l) in
     let (k, g) = few-all p ls in
-    (omega (arith, h, k, own-size l, length-append xs (all-points p ls)), fours-append xs (all-points p ls) f g)
+    (omega (arith, h, k, own-size l, length-append xs (all-points p ls)), each-append Four xs (all-points p ls) f g)
 
--- So a text has at most 512.
-pub few-points : (o : Outcome) → ((p : Plan) → o ≡ plan p → Formed p) → (length (outcome-points o) ≤ 512) × Fours (outcome-points o)
-few-points (plan p) f = let (h, g) = few-all p (p .functions) in (omega (arith, h, f p refl .few-leaves), g)
-few-points (refused k j) f = (omega arith, unfold Fours in tt)
-
-pub few-of-text : (text : List ℕ) → (length (outcome-points (verdict 512 text)) ≤ 512) × Fours (outcome-points (verdict 512 text))
-few-of-text text = few-points (verdict 512 text) (λ p e. read-as-plan 512 text p .0 e .1 .formed)
+-- So a text has at most 512; a refused one has none.
+pub few-of-text : (text : List ℕ) → (length (outcome-points (verdict 512 text)) ≤ 512) × Each Four (outcome-points (verdict 512 text))
+few-of-text text = by (verdict 512 text) (λ p e. read-as-plan 512 text p .0 e .1 .formed)
+  where
+    by : (o : Outcome) → ((p : Plan) → o ≡ plan p → Formed p) → (length (outcome-points o) ≤ 512) × Each Four (outcome-points o)
+    by (plan p) f = let (h, g) = few-all p (p .functions) in (omega (arith, h, f p refl .few-leaves), g)
+    by (refused k j) f = (omega arith, unfold Each in tt)
 
 -- FROM THE LENT MEMORY
 
@@ -253,23 +254,23 @@ module _ (row tails stretches : List ℕ) (long : length row ≡ 4096) (wide-tai
 
   plan-collected : (p : Plan) (h : Head) → Formed p →
       leaves-points (stored (plan p) (λ t. t .row) row) (stored (plan p) (λ t. t .tails) tails) (stored (plan p) (λ t. t .stretches) stretches)
-      (min 512 (verdict-of (plan p) h .head .leaves)) ≡ points p
+      (verdict-of (plan p) h .head .leaves) ≡ points p
   unfolding leaves-points
   plan-collected p h f =
-      let few : min 512 (sizes (p .functions)) ≡ 0 + sizes (p .functions) = omega (arith, f .few-leaves) in
-      ap (leaves-points (sets row 0 (row-of p)) (sets tails 0 (table-of p .tails)) (sets stretches 0 (table-of p .stretches))) few ∙
+      let z : sizes (p .functions) ≡ 0 + sizes (p .functions) = omega arith in
+      ap (leaves-points (sets row 0 (row-of p)) (sets tails 0 (table-of p .tails)) (sets stretches 0 (table-of p .stretches))) z ∙
       all-behind p (sets row 0 (row-of p)) (sets tails 0 (table-of p .tails)) (sets stretches 0 (table-of p .stretches)) (p .functions) 0 (plan-shown p f)
 
   -- After a text was read into it, the points among its leaves are those of the plan; of a refused text there are none.
-  pub text-collected : (capacity : ℕ) (text : List ℕ) →
+  text-collected : (capacity : ℕ) (text : List ℕ) →
       leaves-points (stored (verdict capacity text) (λ t. t .row) row) (stored (verdict capacity text) (λ t. t .tails) tails)
-      (stored (verdict capacity text) (λ t. t .stretches) stretches) (min 512 (verdict-of (verdict capacity text) zero-head .head .leaves))
+      (stored (verdict capacity text) (λ t. t .stretches) stretches) (verdict-of (verdict capacity text) zero-head .head .leaves)
       ≡ outcome-points (verdict capacity text)
   text-collected capacity text = by (verdict capacity text) (λ p e. read-as-plan capacity text p .0 e .1 .formed)
     where
       by : (o : Outcome) → ((p : Plan) → o ≡ plan p → Formed p) →
           leaves-points (stored o (λ t. t .row) row) (stored o (λ t. t .tails) tails) (stored o (λ t. t .stretches) stretches)
-          (min 512 (verdict-of o zero-head .head .leaves)) ≡ outcome-points o
+          (verdict-of o zero-head .head .leaves) ≡ outcome-points o
       by (plan p) f = plan-collected p zero-head (f p refl)
       by (refused k j) f = unfold leaves-points in refl
 
@@ -283,23 +284,32 @@ beside : (o : Outcome) (count : ℕ) → count ≡ length (outcome-points o) →
           verdict-of o zero-head .head .total ∷ verdict-of o zero-head .head .«max_load_total» ∷ verdict-of o zero-head .head .deadline ∷
           verdict-of o zero-head .head .switch ∷ [];
       count = count;
-    } ≡ listed-of o
+    } ≡ summary-of o
 beside (plan p) count e = rw e
 beside (refused k j) count e = rw e
+
+-- Reading gives at most 512 leaves.
+pub leaves-read : (text : List ℕ) (v : Verdict) {h : Head} → h ≡ zero-head → v ≡ verdict-of (verdict 512 text) h → v .head .leaves ≤ 512
+leaves-read text v z e =
+    rw (e ∙ ap (verdict-of (verdict 512 text)) z) (by (verdict 512 text) (λ p e. read-as-plan 512 text p .0 e .1 .formed))
+  where
+    by : (o : Outcome) → ((p : Plan) → o ≡ plan p → Formed p) → verdict-of o zero-head .head .leaves ≤ 512
+    by (plan p) f = f p refl .few-leaves
+    by (refused k j) f = omega arith
 
 -- The numbers that were collected where `read` left its own, with 0 everywhere before, are those of the plan.
 pub collect-read : (text : List ℕ) (v : Verdict) {h : Head} {row tails stretches l m : List ℕ} {count : ℕ} → h ≡ zero-head →
     v ≡ verdict-of (verdict 512 text) h → row ≡ stored (verdict 512 text) (λ t. t .row) (replicate 4096 0) →
     tails ≡ stored (verdict 512 text) (λ t. t .tails) (replicate 512 0) → stretches ≡ stored (verdict 512 text) (λ t. t .stretches) (replicate 512 0) →
-    Collected l 0 (leaves-points row tails stretches (min 512 (v .head .leaves))) m count →
+    Collected l 0 (leaves-points row tails stretches (v .head .leaves)) m count →
     (record {
       answer = v .answer;
       task = v .head .total ∷ v .head .«max_load_total» ∷ v .head .deadline ∷ v .head .switch ∷ [];
       count = count;
-    } ≡ listed-of (verdict 512 text)) × (m ≡ sets l 0 (flatten (outcome-points (verdict 512 text))))
+    } ≡ summary-of (verdict 512 text)) × (m ≡ sets l 0 (flatten (outcome-points (verdict 512 text))))
 collect-read text v {h} {row} {tails} {stretches} {l} {m} {count} z e a b c g =
     let k : v ≡ verdict-of (verdict 512 text) zero-head = e ∙ ap (verdict-of (verdict 512 text)) z in
-    let x : leaves-points row tails stretches (min 512 (v .head .leaves)) ≡ outcome-points (verdict 512 text) =
+    let x : leaves-points row tails stretches (v .head .leaves) ≡ outcome-points (verdict 512 text) =
     rw (k, a, b, c)
     (text-collected (replicate 4096 0) (replicate 512 0) (replicate 512 0) (length-replicate {A = ℕ} 4096 0) (length-replicate {A = ℕ} 512 0)
     (length-replicate {A = ℕ} 512 0) 512 text) in

@@ -13,9 +13,10 @@ use Rattle.text.specs.Patterns.{is-upper, item, match, matched}
 use Rattle.text.specs.Spelling.{decimal}
 use Rattle.text.proofs.Decimal.{Apart}
 use Rattle.text.proofs.Spell.{nothing, ends, lines-one, ends-decimal, item-decimal}
-use Rattle.print.specs.Lines.{number-field, number-fields, task-line, point-line}
+use Rattle.print.specs.Lines.{number-field, number-fields, numbers-line, task-line, point-line}
 use Rattle.listing.specs.PlanListing.{task-numbers, points, plan-listing}
-use Rattle.listing.proofs.Numbers.{Fours}
+use Rattle.listing.proofs.Each.{Each}
+use Rattle.listing.proofs.Numbers.{Four}
 use Rattle.listing.proofs.Points.{few-all}
 
 -- THE LINES
@@ -31,13 +32,13 @@ lines-of-points : (xs : List (List ℕ)) → lines (flatMap point-line xs) ≡ m
 unfolding flatMap lines
 lines-of-points [] = refl
 lines-of-points (x ∷ xs) =
-    lines-one (point-line x) (flatMap point-line xs) (unfold point-line ends in ends-fields x) ∙
+    lines-one (point-line x) (flatMap point-line xs) (unfold numbers-line ends in ends-fields x) ∙
     ap (λ (ls : List (List ℕ)). point-line x ∷ ls) (lines-of-points xs)
 
 -- The lines of a plan's listing: that of the task, and one for each point.
 pub lines-of-listing : (p : Plan) → lines (plan-listing p) ≡ task-line (task-numbers p) ∷ map point-line (points p)
 lines-of-listing p =
-    lines-one (task-line (task-numbers p)) (flatMap point-line (points p)) (unfold task-line ends in ends-fields (task-numbers p)) ∙
+    lines-one (task-line (task-numbers p)) (flatMap point-line (points p)) (unfold numbers-line ends in ends-fields (task-numbers p)) ∙
     ap (λ (ls : List (List ℕ)). task-line (task-numbers p) ∷ ls) (lines-of-points (points p))
 
 -- THE NUMBERS
@@ -72,22 +73,22 @@ fields-read (t ∷ ts) (n ∷ ns) (k, u, c) e =
     )
 
 -- Those of a point are read back from its line, where each point has four.
-points-read : (xs : List (List ℕ)) (i : ℕ) → Fours xs → i < length xs →
+each-read : (xs : List (List ℕ)) (i : ℕ) → Each Four xs → i < length xs →
     matched (bytes "point N L C S") false (getD (map point-line xs) i []) ≡ match false (getD xs i [])
-unfolding Fours
-points-read [] i f h = absurd (omega arith)
-points-read (x ∷ xs) zero f h =
-    unfold point-line matched item spaced Capitals in
+unfolding Each
+each-read [] i f h = absurd (omega arith)
+each-read (x ∷ xs) zero f h =
+    unfold numbers-line matched item spaced Capitals in
     fields-read (bytes "NLCS") x (refl, refl, (refl, refl, (refl, refl, (refl, refl, tt)))) (omega (arith, f .0))
-points-read (x ∷ xs) (suc i) f h = points-read xs i (f .1) (omega arith)
+each-read (x ∷ xs) (suc i) f h = each-read xs i (f .1) (omega arith)
 
 -- The numbers of the first line are read back from its text,
 pub task-read : (p : Plan) → matched (bytes "task A B D T") false (getD (lines (plan-listing p)) 0 []) ≡ match false (task-numbers p)
 task-read p =
-    rw (lines-of-listing p) (unfold task-line matched item spaced Capitals in
+    rw (lines-of-listing p) (unfold numbers-line matched item spaced Capitals in
     fields-read (bytes "ABDT") (task-numbers p) (refl, refl, (refl, refl, (refl, refl, (refl, refl, tt)))) refl)
 
 -- and those of each point from its line.
 pub point-read : (p : Plan) (i : ℕ) → i < length (points p) →
     matched (bytes "point N L C S") false (getD (lines (plan-listing p)) (i + 1) []) ≡ match false (getD (points p) i [])
-point-read p i h = rw (lines-of-listing p, add-one i) (points-read (points p) i (few-all p (p .functions) .1) h)
+point-read p i h = rw (lines-of-listing p, add-one i) (each-read (points p) i (few-all p (p .functions) .1) h)

@@ -1,3 +1,3 @@
 pub mod PlanListing
-pub mod Listed
+pub mod Summary
 pub mod Private

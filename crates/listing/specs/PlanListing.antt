@@ -33,6 +33,7 @@ unfoldable pub all-points : Plan → List Lines → List (List ℕ)
 all-points p [] = []
 all-points p (l ∷ ls) = points-of p l (own-levels 1 l) ++ all-points p ls
 
+-- Those of the plan.
 abbrev pub points : Plan → List (List ℕ)
 points p = all-points p (p .functions)
 

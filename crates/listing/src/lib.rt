@@ -2,18 +2,17 @@
 // sheet, and their lines.
 ghost use mathlib.Core.Path.{_≡_};
 ghost use mathlib.Core.List.{flatMap, flatten};
-ghost use Prim.Native.Nat.{_*_, _≤_, _<_, min};
+ghost use Prim.Native.Nat.{_*_, _≤_, _<_};
 ghost use lib.ListN.{length};
 ghost use lib.Seq.{sets};
 ghost use Rattle.print.specs.Lines.{point-line};
 ghost use Rattle.print.specs.Printed.{PrintedWithin};
 ghost use Rattle.table.specs.Reading.{verdict};
 ghost use Rattle.listing.specs.PlanListing.{outcome-points, outcome-listing};
-ghost use Rattle.listing.specs.Listed.{points-in, listed-of};
+ghost use Rattle.listing.specs.Summary.{points-in, summary-of};
 ghost use Rattle.listing.specs.Private.{leaf-points, leaves-points, Collected};
-use print::point_line;
+use print::numbers_line;
 use print::refused_plan_line;
-use print::task_line;
 use reader::Answer;
 use rows::LEVEL;
 use rows::MAX_LEAVES;
@@ -27,21 +26,24 @@ use table::read;
 pub const FIELDS: usize = 4;
 
 // How many numbers are listed of as many points as a plan has leaves.
-pub const POINTS: usize = MAX_LEAVES * FIELDS;
+pub const POINT_NUMBERS: usize = MAX_LEAVES * FIELDS;
+
+// How many numbers are listed of the task: the total, the max-load total, D and T.
+const TASK: usize = 4;
 
 // How many bytes a listing has room for: a line for the task and one for each leaf.
 pub const LISTING: usize = 65664;
 
 // What is listed of a text beside its points: what reading it answers, the total, the max-load total, D and T, and how many points there are.
-pub struct Listed {
+pub struct Summary {
     pub answer: Answer,
-    pub task: [u64; FIELDS],
+    pub task: [u64; TASK],
     pub count: usize,
 }
 
 // Stores what is listed of a leaf behind the points before it, where the leaf is a point, and gives how many points there are then.
 fn collect_leaf(
-    points: &mut [u64; POINTS],
+    points: &mut [u64; POINT_NUMBERS],
     count: usize,
     row: &[u64; ROW],
     tails: &[u64; MAX_LEAVES],
@@ -63,23 +65,21 @@ fn collect_leaf(
     count
 }
 
-// Stores what is listed of the first so many leaves, of at most 512, and gives how many points there are among them.
+// Stores what is listed of the first so many leaves, and gives how many points there are among them.
 fn collect_leaves(
-    points: &mut [u64; POINTS],
+    points: &mut [u64; POINT_NUMBERS],
     row: &[u64; ROW],
     tails: &[u64; MAX_LEAVES],
     stretches: &[u64; MAX_LEAVES],
     n: usize,
 ) -> usize
-    ensures { λ r. ⌜ Collected (now (points .entry)) 0 (leaves-points (now (row .entry)) (now (tails .entry)) (now (stretches .entry)) (min 512 n))
+    requires { ⌜ n ≤ 512 ⌝ }
+    ensures { λ r. ⌜ Collected (now (points .entry)) 0 (leaves-points (now (row .entry)) (now (tails .entry)) (now (stretches .entry)) n)
         (now (points .exit)) r ⌝ }
 {
     let mut count = 0;
     let mut i = 0;
     while i < n {
-        if i == MAX_LEAVES {
-            return count;
-        }
         count = collect_leaf(points, count, row, tails, stretches, i);
         i += 1;
     }
@@ -88,8 +88,8 @@ fn collect_leaves(
 
 // Reads a plan text, stores the numbers that are listed of its points, four for each, one point behind the other, and gives what else is listed. Of a
 // refused text nothing is stored.
-pub fn collect(points: &mut [u64; POINTS], text: &[u8]) -> Listed
-    ensures listed { λ r. ⌜ r ≡ listed-of (verdict 512 (now (text .entry))) ⌝ }
+pub fn collect(points: &mut [u64; POINT_NUMBERS], text: &[u8]) -> Summary
+    ensures summary { λ r. ⌜ r ≡ summary-of (verdict 512 (now (text .entry))) ⌝ }
     ensures numbers { λ r. ⌜ now (points .exit) ≡ sets (now (points .entry)) 0 (flatten (outcome-points (verdict 512 (now (text .entry))))) ⌝ }
 {
     let mut row = [0; ROW];
@@ -108,7 +108,7 @@ pub fn collect(points: &mut [u64; POINTS], text: &[u8]) -> Listed
     let answer = verdict.answer;
     let head = verdict.head;
     let count = collect_leaves(points, &row, &tails, &stretches, head.leaves);
-    Listed {
+    Summary {
         answer: answer,
         task: [head.total, head.max_load_total, head.deadline, head.switch],
         count: count,
@@ -124,7 +124,7 @@ fn put_points(out: &mut [u8; LISTING], at: usize, points: &[u64], count: usize) 
     let mut i = 0;
     while i < count {
         let from = i * FIELDS;
-        end = point_line(out, end, &points[from..from + FIELDS]);
+        end = numbers_line(out, end, b"point", &points[from..from + FIELDS]);
         i += 1;
     }
     end
@@ -136,15 +136,15 @@ pub fn list_text(out: &mut [u8; LISTING], text: &[u8]) -> usize
     ensures size { λ r. ⌜ r ≡ length (outcome-listing (verdict 512 (now (text .entry)))) ⌝ }
     ensures fits { λ r. ⌜ r ≤ 65664 ⌝ }
 {
-    let mut points = [0; POINTS];
-    let listed = collect(&mut points, text);
-    let answer = listed.answer;
-    let task = listed.task;
+    let mut points = [0; POINT_NUMBERS];
+    let summary = collect(&mut points, text);
+    let answer = summary.answer;
+    let task = summary.task;
     match answer {
         Answer::Refused(k, j) => refused_plan_line(out, 0, k, j as u64),
         Answer::Accepted => {
-            let first = task_line(out, 0, &task);
-            put_points(out, first, &points, listed.count)
+            let first = numbers_line(out, 0, b"task", &task);
+            put_points(out, first, &points, summary.count)
         }
     }
 }

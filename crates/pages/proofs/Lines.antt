@@ -1,6 +1,5 @@
 -- The lines of a sheet, written one behind the other. Assumes nothing.
-use Prim.Native.Nat.{ℕ, zero, suc, _+_, _-_, _*_, _/_, _≤_, _<_}
-use mathlib.Core.Logic.{_⊎_, inl, inr}
+use Prim.Native.Nat.{ℕ, suc, _+_, _-_, _*_, _/_, _≤_, _<_}
 use mathlib.Core.Path.{_≡_, refl, sym, ap, subst, _∙_}
 use mathlib.Core.List.{List, [], _∷_, _++_, flatten, append-assoc, append-nil}
 use native.Mathlib.Numerals.{add-one}
@@ -11,10 +10,10 @@ use Rattle.text.specs.Text.{bytes}
 use Rattle.text.specs.Spelling.{decimal}
 use Rattle.text.proofs.Decimal.{decimal-digit, decimal-step}
 use Rattle.print.specs.Printed.{Printed}
-use Rattle.print.proofs.Laws.{behind}
-use Rattle.listing.specs.Listed.{points-in}
-use Rattle.listing.proofs.Numbers.{flatten-append, points-count, point-part}
-use Rattle.pages.specs.Sheet.{right-aligned, fields, sheet-line, heading-widths, point-widths, point-lines, page, pages-to, page-count}
+use Rattle.print.proofs.Laws.{flatten-append, nothing-written, behind}
+use Rattle.listing.specs.Summary.{points-in}
+use Rattle.listing.proofs.Numbers.{points-count, point-part}
+use Rattle.pages.specs.Sheet.{right-aligned, in-fields, sheet-line, heading-widths, point-widths, point-lines, page, pages-to, page-count}
 
 -- NUMBERS AND BLANKS
 
@@ -27,7 +26,7 @@ digits-more n h = ap length (decimal-step n h) ∙ length-append (decimal (n / 1
 
 -- Nothing is written of no blanks.
 pub no-blanks : (l : List ℕ) (at : ℕ) → Printed l at (replicate 0 32) l at
-no-blanks l at = record { stored = refl; after = omega arith }
+no-blanks = nothing-written
 
 -- One blank more.
 pub blank-more : (i : ℕ) {l m n : List ℕ} {at e r : ℕ} → Printed l at (replicate i 32) m e → Printed m e (bytes " ") n r
@@ -45,16 +44,16 @@ blanks-all i count h p = rw (sym h) p
 pub record Begun (widths numbers l : List ℕ) (at : ℕ) (m : List ℕ) (e left i : ℕ) : Type 0 where
   pub text : List ℕ
   pub written : Printed l at text m e
-  pub rest : fields 72 widths numbers ≡ text ++ fields left (drop i widths) (drop i numbers)
+  pub rest : in-fields 72 widths numbers ≡ text ++ in-fields left (drop i widths) (drop i numbers)
 
-pub begin : (widths numbers l : List ℕ) (at : ℕ) → Begun widths numbers l at l at 72 0
-begin widths numbers l at = record { text = []; written = record { stored = refl; after = omega arith }; rest = refl }
+pub line-begun : (widths numbers l : List ℕ) (at : ℕ) → Begun widths numbers l at l at 72 0
+line-begun widths numbers l at = record { text = []; written = nothing-written l at; rest = refl }
 
 -- A number more.
 pub begun-more : {widths numbers l m n : List ℕ} {at e r left i : ℕ} → i < length widths → i < length numbers →
     Begun widths numbers l at m e left i → Printed m e (right-aligned (getD widths i 0) (getD numbers i 0)) n r →
     Begun widths numbers l at n r (left - getD widths i 0) (i + 1)
-unfolding fields
+unfolding in-fields
 begun-more {widths} {numbers} {l} {m} {n} {at} {e} {r} {left} {i} h k b q =
     let s : i + 1 ≡ suc i = omega arith in
     record {
@@ -66,29 +65,23 @@ begun-more {widths} {numbers} {l} {m} {n} {at} {e} {r} {left} {i} h k b q =
             drop-cons widths i 0 h,
             drop-cons numbers i 0 k,
             append-assoc (b .text) (right-aligned (getD widths i 0) (getD numbers i 0))
-                (fields (left - getD widths i 0) (drop (suc i) widths) (drop (suc i) numbers)),
+                (in-fields (left - getD widths i 0) (drop (suc i) widths) (drop (suc i) numbers)),
           );
     }
 
 -- Without numbers blanks are left.
-pub blank : (left : ℕ) (widths : List ℕ) → fields left widths [] ≡ replicate left 32
-unfolding fields
+pub blank : (left : ℕ) (widths : List ℕ) → in-fields left widths [] ≡ replicate left 32
+unfolding in-fields
 blank left [] = refl
 blank left (w ∷ widths) = refl
 
--- So behind the last one, or where no field is left for the next.
-over : (left : ℕ) (widths numbers : List ℕ) (i : ℕ) → (length widths ≤ i) ⊎ (length numbers ≤ i) →
-    fields left (drop i widths) (drop i numbers) ≡ replicate left 32
-unfolding fields
-over left widths numbers i (inl h) = rw (drop-of-length-le widths h)
-over left widths numbers i (inr h) = rw (drop-of-length-le numbers h) (blank left (drop i widths))
-
--- The blanks and the line feed end the line.
-pub ended : {widths numbers l m n o : List ℕ} {at e f r left i : ℕ} → (length widths ≤ i) ⊎ (length numbers ≤ i) → Begun widths numbers l at m e left i →
+-- So behind the last one. The blanks and the line feed end the line.
+pub line-ended : {widths numbers l m n o : List ℕ} {at e f r left i : ℕ} → length numbers ≤ i → Begun widths numbers l at m e left i →
     Printed m e (replicate left 32) n f → Printed n f (bytes "\n") o r → Printed l at (sheet-line widths numbers) o r
 unfolding sheet-line
-ended {widths} {numbers} {l} {o} {at} {r} {left} {i} h b p q =
-    let e : b .text ++ replicate left 32 ≡ fields 72 widths numbers = sym (b .rest ∙ ap (λ (u : List ℕ). b .text ++ u) (over left widths numbers i h)) in
+line-ended {widths} {numbers} {l} {o} {at} {r} {left} {i} h b p q =
+    let rest : in-fields left (drop i widths) (drop i numbers) ≡ replicate left 32 = rw (drop-of-length-le numbers h) (blank left (drop i widths)) in
+    let e : b .text ++ replicate left 32 ≡ in-fields 72 widths numbers = sym (b .rest ∙ ap (λ (u : List ℕ). b .text ++ u) rest) in
     subst (λ (u : List ℕ). Printed l at (u ++ bytes "\n") o r) e (behind (behind (b .written) p) q)
 
 -- The line of a point of the list, where it is written from its part of memory,
@@ -113,18 +106,18 @@ lines-behind : (xs ys : List (List ℕ)) {l m n : List ℕ} {at e r : ℕ} → P
 lines-behind xs ys {l} {n} {at} {r} p q = subst (λ (u : List ℕ). Printed l at u n r) (sym (flatten-append xs ys)) (behind p q)
 
 -- The text of one line.
-one-line : (x : List ℕ) → flatten (x ∷ []) ≡ x
+single : (x : List ℕ) → flatten (x ∷ []) ≡ x
 unfolding flatten
-one-line x = append-nil x
+single x = append-nil x
 
 -- Before the first line of a page's points, and before the first page, nothing is written.
 pub no-points : (all : List (List ℕ)) (first : ℕ) (l : List ℕ) (at : ℕ) → Printed l at (flatten (point-lines all first 0)) l at
 unfolding point-lines flatten
-no-points all first l at = record { stored = refl; after = omega arith }
+no-points all first = nothing-written
 
 pub no-pages : (task : List ℕ) (all : List (List ℕ)) (l : List ℕ) → Printed l 0 (flatten (pages-to task all 0)) l 0
 unfolding pages-to flatten
-no-pages task all l = record { stored = refl; after = omega arith }
+no-pages task all l = nothing-written l 0
 
 -- A line more.
 pub point-more : (all : List (List ℕ)) (first j : ℕ) {l m n : List ℕ} {at e r : ℕ} → Printed l at (flatten (point-lines all first j)) m e →
@@ -132,7 +125,7 @@ pub point-more : (all : List (List ℕ)) (first j : ℕ) {l m n : List ℕ} {at 
 unfolding point-lines
 point-more all first j {m} {n} {e} {r} p q =
     let x = sheet-line point-widths (getD all (first + j) []) in
-    let one : Printed m e (flatten (x ∷ [])) n r = subst (λ (u : List ℕ). Printed m e u n r) (sym (one-line x)) q in
+    let one : Printed m e (flatten (x ∷ [])) n r = subst (λ (u : List ℕ). Printed m e u n r) (sym (single x)) q in
     rw (add-one j) (lines-behind (point-lines all first j) (x ∷ []) p one)
 
 -- A page: its three headings, and its lines of points.

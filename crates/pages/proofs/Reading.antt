@@ -1,6 +1,6 @@
 -- A sheet read back: page by page, and as a whole. Assumes nothing.
-use Prim.Native.Nat.{ℕ, zero, suc, _+_, _*_, _%_, _≤_, _<_}
-use mathlib.Core.Path.{_≡_, refl, sym, _∙_}
+use Prim.Native.Nat.{ℕ, zero, suc, _+_, _-_, _*_, _%_, _≤_, _<_}
+use mathlib.Core.Path.{_≡_, refl, sym, ap, subst, _∙_}
 use mathlib.Core.List.{List, [], _∷_, _++_, append-assoc, append-nil}
 use native.Mathlib.Omega.{arith}
 use native.Mathlib.Decide.{decLe}
@@ -11,42 +11,57 @@ use Rattle.text.specs.Text.{bytes}
 use Rattle.model.specs.Plan.{Plan}
 use Rattle.model.specs.Acceptance.{Accepted}
 use Rattle.listing.specs.PlanListing.{task-numbers, points}
-use Rattle.listing.proofs.Limits.{AllSmall, points-small}
-use Rattle.pages.specs.Sheet.{fields, sheet-line, heading-widths, point-widths, point-lines, page, pages-to, page-count, sheet-lines}
-use Rattle.pages.specs.ReadBack.{in-columns, point-on, points-on}
-use Rattle.pages.proofs.Columns.{read-line}
+use Rattle.listing.proofs.Each.{Each, each-at}
+use Rattle.listing.proofs.Limits.{PointSmall, points-small}
+use Rattle.pages.specs.Sheet.{in-fields, sheet-line, heading-widths, point-widths, point-lines, page, pages-to, page-count, sheet-lines}
+use Rattle.pages.specs.ReadBack.{NoWider, in-columns, point-on, points-on}
+use Rattle.pages.proofs.Columns.{read-line, taken, blanks-behind}
 use Rattle.pages.proofs.Sheets.{pages-needed, point-count, pages-size, points-fit, no-wider}
 
 -- BY PLACE
 
 -- A line of points, by its place.
-point-at : (all : List (List ℕ)) (first n j : ℕ) → j < n → getD (point-lines all first n) j [] ≡ sheet-line point-widths (getD all (first + j) [])
+point-line-at : (all : List (List ℕ)) (first n j : ℕ) → j < n → getD (point-lines all first n) j [] ≡ sheet-line point-widths (getD all (first + j) [])
 unfolding point-lines
-point-at all first zero j h = absurd (omega arith)
-point-at all first (suc n) j h =
+point-line-at all first zero j h = absurd (omega arith)
+point-line-at all first (suc n) j h =
     let ls = point-lines all first n in
     let size = point-count all first n in
     elim (decLe (suc j) n) [
-      | yes l ↦ List·getD-append ls (_ ∷ []) [] j (omega arith) ∙ point-at all first n j l
+      | yes l ↦ List·getD-append ls (_ ∷ []) [] j (omega arith) ∙ point-line-at all first n j l
       | no l ↦
           let e : j ≡ n = omega arith in
           rw e (getD-at ls _ [] [] n size)
     ]
 
 -- A line of pages, by its page and its place there.
-page-at : (task : List ℕ) (all : List (List ℕ)) (n k j : ℕ) → k < n → j < 60 → getD (pages-to task all n) (k * 60 + j) [] ≡ getD (page task all k) j []
+page-line-at : (task : List ℕ) (all : List (List ℕ)) (n k j : ℕ) → k < n → j < 60 → getD (pages-to task all n) (k * 60 + j) [] ≡ getD (page task all k) j []
 unfolding pages-to
-page-at task all zero k j h l = absurd (omega arith)
-page-at task all (suc n) k j h l =
+page-line-at task all zero k j h l = absurd (omega arith)
+page-line-at task all (suc n) k j h l =
     let ls = pages-to task all n in
     let size = pages-size task all n in
     elim (decLe (suc k) n) [
-      | yes m ↦ List·getD-append ls (page task all n) [] (k * 60 + j) (omega arith) ∙ page-at task all n k j m l
+      | yes m ↦ List·getD-append ls (page task all n) [] (k * 60 + j) (omega arith) ∙ page-line-at task all n k j m l
       | no m ↦
           let e : k ≡ n = omega arith in
           let place : n * 60 + j ≡ length ls + j = omega arith in
           rw (e, place) (getD-append-add ls (page task all n) j [])
     ]
+
+-- Behind the four numbers of a small point.
+point-blanks : (xs : List (List ℕ)) → Each PointSmall xs → (i : ℕ) → i < length xs → NoWider point-widths (getD xs i []) →
+    drop 38 (sheet-line point-widths (getD xs i [])) ≡ replicate 34 32 ++ bytes "\n"
+point-blanks xs f i h w =
+    let s = each-at PointSmall [] xs f i h in
+    let four : taken point-widths (getD xs i []) ≡ 38 = ap (taken point-widths) (s .is) in
+    subst (λ (n : ℕ). drop n (sheet-line point-widths (getD xs i [])) ≡ replicate (72 - n) 32 ++ bytes "\n") four
+    (blanks-behind point-widths (getD xs i []) w)
+
+-- Past the last point a line is blank.
+past : (xs : List (List ℕ)) (i : ℕ) → length xs ≤ i → sheet-line point-widths (getD xs i []) ≡ replicate 72 32 ++ bytes "\n"
+unfolding sheet-line in-fields
+past xs i h = rw (List·getD-eq-default xs [] {n = i} h)
 
 -- Read back, page by page.
 pub page-read : (p : Plan) → Accepted p → (k : ℕ) → k < page-count (length (points p)) →
@@ -54,18 +69,39 @@ pub page-read : (p : Plan) → Accepted p → (k : ℕ) → k < page-count (leng
     (in-columns heading-widths (getD (sheet-lines p) (k * 60 + 1) []) ≡ (k + 1) ∷ []) ×
     (getD (sheet-lines p) (k * 60 + 2) [] ≡ replicate 72 32 ++ bytes "\n") ×
     ((j : ℕ) → j < 57 → in-columns point-widths (getD (sheet-lines p) (k * 60 + 3 + j) []) ≡ getD (points p) (k * 57 + j) [])
-unfolding page sheet-line fields
+unfolding page sheet-line in-fields
 page-read p a k h =
     let (of-task, of-point, of-page) = no-wider p a in
-    let at = page-at (task-numbers p) (points p) (page-count (length (points p))) k in
+    let at = page-line-at (task-numbers p) (points p) (page-count (length (points p))) k in
     let z : k * 60 + 0 ≡ k * 60 = omega arith in (
       rw (rw z at (at 0 h (omega arith))) (read-line heading-widths (task-numbers p) (omega arith) of-task),
       rw (at 1 h (omega arith)) (read-line heading-widths ((k + 1) ∷ []) (omega arith) (of-page k h)),
       at 2 h (omega arith),
       λ j l.
           let e : k * 60 + 3 + j ≡ k * 60 + suc (suc (suc j)) = omega arith in
-          rw (e, at (suc (suc (suc j))) h (omega arith), point-at (points p) (k * 57) 57 j l)
+          rw (e, at (suc (suc (suc j))) h (omega arith), point-line-at (points p) (k * 57) 57 j l)
           (read-line point-widths (getD (points p) (k * 57 + j) []) (omega arith) (of-point (k * 57 + j))),
+    )
+
+-- What is behind the numbers of a page's lines: blanks to the end; past the last point the line is blank.
+pub page-blanks : (p : Plan) → Accepted p → (k : ℕ) → k < page-count (length (points p)) →
+    (drop 56 (getD (sheet-lines p) (k * 60) []) ≡ replicate 16 32 ++ bytes "\n") ×
+    (drop 14 (getD (sheet-lines p) (k * 60 + 1) []) ≡ replicate 58 32 ++ bytes "\n") ×
+    ((j : ℕ) → j < 57 → k * 57 + j < length (points p) → drop 38 (getD (sheet-lines p) (k * 60 + 3 + j) []) ≡ replicate 34 32 ++ bytes "\n") ×
+    ((j : ℕ) → j < 57 → length (points p) ≤ k * 57 + j → getD (sheet-lines p) (k * 60 + 3 + j) [] ≡ replicate 72 32 ++ bytes "\n")
+unfolding page
+page-blanks p a k h =
+    let (of-task, of-point, of-page) = no-wider p a in
+    let at = page-line-at (task-numbers p) (points p) (page-count (length (points p))) k in
+    let z : k * 60 + 0 ≡ k * 60 = omega arith in
+    let place : (j : ℕ) → j < 57 → getD (sheet-lines p) (k * 60 + 3 + j) [] ≡ sheet-line point-widths (getD (points p) (k * 57 + j) []) =
+    λ j l.
+    let e : k * 60 + 3 + j ≡ k * 60 + suc (suc (suc j)) = omega arith in
+    rw (e, at (suc (suc (suc j))) h (omega arith), point-line-at (points p) (k * 57) 57 j l) in (
+      rw (rw z at (at 0 h (omega arith))) (blanks-behind heading-widths (task-numbers p) of-task),
+      rw (at 1 h (omega arith)) (blanks-behind heading-widths ((k + 1) ∷ []) (of-page k h)),
+      λ j l m. rw (place j l) (point-blanks (points p) (points-small p a) (k * 57 + j) m (of-point (k * 57 + j))),
+      λ j l m. place j l ∙ past (points p) (k * 57 + j) m,
     )
 
 -- AS A WHOLE
@@ -86,14 +122,14 @@ unfolding points-on
 passed before l ls h = rw (lt-leb 3 (before % 60) h)
 
 -- A small point has numbers.
-point-there : (xs : List (List ℕ)) → AllSmall xs → (i : ℕ) → i < length xs → point-on (getD xs i []) ≡ getD xs i [] ∷ []
-unfolding AllSmall
+point-there : (xs : List (List ℕ)) → Each PointSmall xs → (i : ℕ) → i < length xs → point-on (getD xs i []) ≡ getD xs i [] ∷ []
+unfolding Each
 point-there [] s i h = absurd (omega arith)
 point-there (x ∷ xs) s zero h = rw (s .0 .is)
 point-there (x ∷ xs) s (suc i) h = point-there xs (s .1) i (omega arith)
 
 -- Consider small points.
-module _ (task : List ℕ) (all : List (List ℕ)) (small : AllSmall all) where
+module _ (task : List ℕ) (all : List (List ℕ)) (small : Each PointSmall all) where
   -- The first points and one more, if there is one.
   take-more : (first n : ℕ) → take (suc n) (drop first all) ≡ take n (drop first all) ++ point-on (getD all (first + n) [])
   take-more first n =

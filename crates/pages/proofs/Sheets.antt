@@ -1,7 +1,7 @@
 -- The lines of a sheet: no number is wider than its field, each is a page line, and the sheet has 60 of them a page. Assumes nothing.
 use Prim.Native.Nat.{ℕ, zero, suc, _+_, _*_, _^_, _≤_, _<_}
 use mathlib.Core.Path.{_≡_, refl, ap, _∙_}
-use mathlib.Core.List.{List, [], _∷_, _++_, flatten}
+use mathlib.Core.List.{List, [], _∷_, flatten}
 use mathlib.Core.Bool.{true}
 use native.Mathlib.Omega.{arith}
 use lib.ListN.{length, getD, length-append}
@@ -12,12 +12,12 @@ use Rattle.text.proofs.Length.{deadline-length}
 use Rattle.text.proofs.Spell.{ends, lines-one}
 use Rattle.model.specs.Plan.{Plan}
 use Rattle.model.specs.Acceptance.{Accepted}
-use Rattle.reader.specs.Outcome.{plan}
 use Rattle.listing.specs.PlanListing.{task-numbers, points}
-use Rattle.listing.proofs.Points.{few-points}
-use Rattle.listing.proofs.Limits.{Small, AllSmall, TaskSmall, points-small, task-small}
+use Rattle.listing.proofs.Each.{Each, each-append, each-at}
+use Rattle.listing.proofs.Points.{few-all}
+use Rattle.listing.proofs.Limits.{PointSmall, TaskSmall, points-small, task-small}
 use Rattle.pages.specs.Sheet.{sheet-line, heading-widths, point-widths, point-lines, page, pages-to, page-count, sheet-lines, plan-sheet}
-use Rattle.pages.specs.ReadBack.{Fit, PageLine}
+use Rattle.pages.specs.ReadBack.{NoWider, PageLine}
 use Rattle.pages.proofs.Columns.{ends-line, page-line}
 
 -- PAGES
@@ -50,42 +50,22 @@ line-count p = pages-size (task-numbers p) (points p) (page-count (length (point
 
 -- EACH LINE
 
--- What holds of each of some lines.
-unfoldable Every : (List ℕ → Type 0) → List (List ℕ) → Type 0
-Every P [] = Unit
-Every P (l ∷ ls) = P l × Every P ls
+-- Consider any P, a task and points, where P holds of the task's line, of the blank one, and of each point's.
+module _ (P : List ℕ → Type 0) (task : List ℕ) (all : List (List ℕ)) (of-task : P (sheet-line heading-widths task)) (of-none : P (sheet-line heading-widths []))
+    (of-point : (i : ℕ) → P (sheet-line point-widths (getD all i []))) where
+  -- Then it holds of each line of points.
+  each-point : (first n : ℕ) → Each P (point-lines all first n)
+  unfolding Each point-lines
+  each-point first zero = tt
+  each-point first (suc n) = each-append P (point-lines all first n) (_ ∷ []) (each-point first n) (of-point (first + n), tt)
 
--- Consider any P.
-module _ (P : List ℕ → Type 0) where
-  -- It holds of each line of two lists where it does of each of both.
-  every-append : (ls ms : List (List ℕ)) → Every P ls → Every P ms → Every P (ls ++ ms)
-  unfolding Every
-  every-append [] ms f g = g
-  every-append (l ∷ ls) ms f g = (f .0, every-append ls ms (f .1) g)
-
-  -- Then it holds of the line at a place.
-  every-at : (ls : List (List ℕ)) → Every P ls → (i : ℕ) → i < length ls → P (getD ls i [])
-  unfolding Every
-  every-at [] f i h = absurd (omega arith)
-  every-at (l ∷ ls) f zero h = f .0
-  every-at (l ∷ ls) f (suc i) h = every-at ls (f .1) i (omega arith)
-
-  -- Consider a task and points, where P holds of the task's line, of the blank one, and of each point's.
-  module _ (task : List ℕ) (all : List (List ℕ)) (of-task : P (sheet-line heading-widths task)) (of-none : P (sheet-line heading-widths []))
-      (of-point : (i : ℕ) → P (sheet-line point-widths (getD all i []))) where
-    -- Then it holds of each line of points.
-    every-point : (first n : ℕ) → Every P (point-lines all first n)
-    unfolding Every point-lines
-    every-point first zero = tt
-    every-point first (suc n) = every-append (point-lines all first n) (_ ∷ []) (every-point first n) (of-point (first + n), tt)
-
-    -- Where it holds of the page numbers' lines too, it holds of each line of the pages.
-    every-line : (k : ℕ) → ((i : ℕ) → i < k → P (sheet-line heading-widths ((i + 1) ∷ []))) → Every P (pages-to task all k)
-    unfolding Every page pages-to
-    every-line zero of-page = tt
-    every-line (suc k) of-page =
-        every-append (pages-to task all k) (page task all k) (every-line k (λ i h. of-page i (omega arith)))
-        (of-task, (of-page k (omega arith), (of-none, every-point (k * 57) 57)))
+  -- Where it holds of the page numbers' lines too, it holds of each line of the pages.
+  each-page-line : (k : ℕ) → ((i : ℕ) → i < k → P (sheet-line heading-widths ((i + 1) ∷ []))) → Each P (pages-to task all k)
+  unfolding Each page pages-to
+  each-page-line zero of-page = tt
+  each-page-line (suc k) of-page =
+      each-append P (pages-to task all k) (page task all k) (each-page-line k (λ i h. of-page i (omega arith)))
+      (of-task, (of-page k (omega arith), (of-none, each-point (k * 57) 57)))
 
 -- NO NUMBER IS TOO WIDE
 
@@ -94,7 +74,7 @@ wide-fits : (n : ℕ) → n ≤ 2 ^ 40 → length (decimal n) ≤ 14
 wide-fits n h = omega (arith, deadline-length n h)
 
 -- Small numbers of a task are no wider than their fields.
-task-fits : {x : List ℕ} → TaskSmall x → Fit heading-widths x
+task-fits : {x : List ℕ} → TaskSmall x → NoWider heading-widths x
 task-fits s =
     rw (s .is) (
       wide-fits (s .total) (s .total-low),
@@ -105,7 +85,7 @@ task-fits s =
     )
 
 -- So are those of a small point.
-point-fits : {x : List ℕ} → Small x → Fit point-widths x
+point-fits : {x : List ℕ} → PointSmall x → NoWider point-widths x
 unfolding tens
 point-fits s =
     rw (s .is) (
@@ -117,37 +97,37 @@ point-fits s =
     )
 
 -- So are those at any place of small points, past the end too.
-pub points-fit : (xs : List (List ℕ)) → AllSmall xs → (i : ℕ) → Fit point-widths (getD xs i [])
-unfolding AllSmall
+pub points-fit : (xs : List (List ℕ)) → Each PointSmall xs → (i : ℕ) → NoWider point-widths (getD xs i [])
+unfolding Each
 points-fit [] h i = tt
 points-fit (x ∷ xs) h zero = point-fits (h .0)
 points-fit (x ∷ xs) h (suc i) = points-fit xs (h .1) i
 
 -- No number of an accepted plan's sheet is wider than its field.
-pub no-wider : (p : Plan) → Accepted p → Fit heading-widths (task-numbers p) × ((i : ℕ) → Fit point-widths (getD (points p) i [])) ×
-    ((k : ℕ) → k < page-count (length (points p)) → Fit heading-widths ((k + 1) ∷ []))
+pub no-wider : (p : Plan) → Accepted p → NoWider heading-widths (task-numbers p) × ((i : ℕ) → NoWider point-widths (getD (points p) i [])) ×
+    ((k : ℕ) → k < page-count (length (points p)) → NoWider heading-widths ((k + 1) ∷ []))
 no-wider p a =
-    let few = few-points (plan p) (λ q e. let same : p ≡ q = cc in rw (← same) (a .formed)) .0 in
-    (task-fits (task-small p a), points-fit (points p) (points-small p a), λ k h. (wide-fits (k + 1) (omega (arith, few)), tt))
+    let few = few-all p (p .functions) .0 in
+    (task-fits (task-small p a), points-fit (points p) (points-small p a), λ k h. (wide-fits (k + 1) (omega (arith, few, a .formed .few-leaves)), tt))
 
 -- THE WHOLE SHEET
 
 -- The lines of an accepted plan's sheet are page lines.
-page-lines : (p : Plan) → Accepted p → Every PageLine (sheet-lines p)
+page-lines : (p : Plan) → Accepted p → Each PageLine (sheet-lines p)
 page-lines p a =
     let (of-task, of-point, of-page) = no-wider p a in
-    every-line PageLine (task-numbers p) (points p) (page-line heading-widths (task-numbers p) (omega arith) of-task)
+    each-page-line PageLine (task-numbers p) (points p) (page-line heading-widths (task-numbers p) (omega arith) of-task)
     (page-line heading-widths [] (omega arith) tt)
     (λ i. page-line point-widths (getD (points p) i []) (omega arith) (of-point i)) (page-count (length (points p)))
     (λ k h. page-line heading-widths ((k + 1) ∷ []) (omega arith) (of-page k h))
 
 -- Each line is a page line.
 pub each-line : (p : Plan) → Accepted p → (i : ℕ) → i < length (sheet-lines p) → PageLine (getD (sheet-lines p) i [])
-each-line p a = every-at PageLine (sheet-lines p) (page-lines p a)
+each-line p a = each-at PageLine [] (sheet-lines p) (page-lines p a)
 
 -- Page lines have 73 bytes each.
-bytes-of : (ls : List (List ℕ)) → Every PageLine ls → length (flatten ls) ≡ 73 * length ls
-unfolding Every flatten
+bytes-of : (ls : List (List ℕ)) → Each PageLine ls → length (flatten ls) ≡ 73 * length ls
+unfolding Each flatten
 bytes-of [] f = refl
 bytes-of (l ∷ ls) f =
     omega (
@@ -163,8 +143,8 @@ pub sheet-size : (p : Plan) → Accepted p → length (plan-sheet p) ≡ 4380 * 
 sheet-size p a = omega (arith, bytes-of (sheet-lines p) (page-lines p a), line-count p)
 
 -- Lines that each end with their only line feed are those of the text that they make.
-lines-back : (ls : List (List ℕ)) → Every (λ l. ends l ≡ true) ls → lines (flatten ls) ≡ ls
-unfolding Every flatten lines
+lines-back : (ls : List (List ℕ)) → Each (λ l. ends l ≡ true) ls → lines (flatten ls) ≡ ls
+unfolding Each flatten lines
 lines-back [] f = refl
 lines-back (l ∷ ls) f = lines-one l (flatten ls) (f .0) ∙ rw (lines-back ls (f .1))
 
@@ -172,5 +152,5 @@ lines-back (l ∷ ls) f = lines-one l (flatten ls) (f .0) ∙ rw (lines-back ls 
 pub lines-of-sheet : (p : Plan) → lines (plan-sheet p) ≡ sheet-lines p
 lines-of-sheet p =
     lines-back (sheet-lines p)
-    (every-line (λ l. ends l ≡ true) (task-numbers p) (points p) (ends-line heading-widths (task-numbers p)) (ends-line heading-widths [])
+    (each-page-line (λ l. ends l ≡ true) (task-numbers p) (points p) (ends-line heading-widths (task-numbers p)) (ends-line heading-widths [])
     (λ i. ends-line point-widths (getD (points p) i [])) (page-count (length (points p))) (λ k h. ends-line heading-widths ((k + 1) ∷ [])))

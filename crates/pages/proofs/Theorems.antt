@@ -2,10 +2,10 @@
 -- specs/ReadBack (what a line of a page is, and how its numbers are read back), and those of the plain listing.
 use Prim.Native.Nat.{ℕ, _+_, _*_, _/_, _%_, _≤_, _<_}
 use mathlib.Core.Bool.{false}
-use mathlib.Core.Path.{_≡_, refl, sym, ap, _∙_}
+use mathlib.Core.Path.{_≡_, sym, ap, _∙_}
 use mathlib.Core.List.{List, [], _∷_, _++_}
 use native.Mathlib.Omega.{arith}
-use lib.ListN.{length, getD, take, replicate}
+use lib.ListN.{length, getD, take, drop, replicate}
 use lib.Seq.{sets}
 use Rattle.text.specs.Text.{bytes, lines}
 use Rattle.text.specs.Patterns.{matched, match}
@@ -17,15 +17,15 @@ use Rattle.table.specs.Reading.{verdict}
 use Rattle.listing.specs.PlanListing.{task-numbers, points, plan-listing, outcome-listing}
 use Rattle.listing.proofs.Reading as listing
 use Rattle.pages.specs.Sheet.{heading-widths, point-widths, page-count, plan-sheet, outcome-sheet}
-use Rattle.pages.specs.ReadBack.{Fit, PageLine, in-columns, points-on}
+use Rattle.pages.specs.ReadBack.{NoWider, PageLine, in-columns, points-on}
 use Rattle.pages.proofs.Sheets as sheets
 use Rattle.pages.proofs.Reading as reading
 
 -- The bytes that a program hands over to standard output are the sheet: consider a buffer of 39,420 bytes, and m and n as `sheet_text` leaves the buffer
 -- and gives the length by its contract. The first n bytes of m are the sheet of the plan that the text is read as, or the line of the refusal.
-pub bytes-are-of-text : (text buffer m : List ℕ) (n : ℕ) → length buffer ≡ 39420 → m ≡ sets buffer 0 (outcome-sheet (verdict 512 text)) →
+pub sheet-is-of-text : (text buffer m : List ℕ) (n : ℕ) → length buffer ≡ 39420 → m ≡ sets buffer 0 (outcome-sheet (verdict 512 text)) →
     n ≡ length (outcome-sheet (verdict 512 text)) → n ≤ 39420 → take n m ≡ outcome-sheet (verdict 512 text)
-bytes-are-of-text text buffer m n long e k h = rw (e, k) (begins (outcome-sheet (verdict 512 text)) buffer (omega arith))
+sheet-is-of-text text buffer m n long e k h = rw (e, k) (begins (outcome-sheet (verdict 512 text)) buffer (omega arith))
 
 -- The answer to a refused plan is that of the plain listing.
 pub refused-alike : (text : List ℕ) (k j : ℕ) → verdict 512 text ≡ refused k j → outcome-sheet (verdict 512 text) ≡ outcome-listing (verdict 512 text)
@@ -49,8 +49,8 @@ module _ (p : Plan) (a : Accepted p) where
   pages-needed = sheets.pages-needed (length (points p))
 
   -- No number is wider than its field, neither those of the task, nor those of any point, nor a page number: none is cut, and none moves another.
-  pub no-number-wider : Fit heading-widths (task-numbers p) × ((i : ℕ) → Fit point-widths (getD (points p) i [])) ×
-      ((k : ℕ) → k < page-count (length (points p)) → Fit heading-widths ((k + 1) ∷ []))
+  pub no-number-wider : NoWider heading-widths (task-numbers p) × ((i : ℕ) → NoWider point-widths (getD (points p) i [])) ×
+      ((k : ℕ) → k < page-count (length (points p)) → NoWider heading-widths ((k + 1) ∷ []))
   no-number-wider = sheets.no-wider p a
 
   -- READ BACK FROM THE COLUMNS
@@ -64,7 +64,15 @@ module _ (p : Plan) (a : Accepted p) where
       ((j : ℕ) → j < 57 → in-columns point-widths (getD (lines (plan-sheet p)) (k * 60 + 3 + j) []) ≡ getD (points p) (k * 57 + j) [])
   page-read = rw (sheets.lines-of-sheet p) (reading.page-read p a)
 
-  -- So all numbers of points on the sheet are those of the plain listing, in the same order.
+  -- Behind the numbers of a line stand blanks to column 72, and the line feed; past the last point the whole line is blank.
+  pub blanks-to-the-end : (k : ℕ) → k < page-count (length (points p)) →
+      (drop 56 (getD (lines (plan-sheet p)) (k * 60) []) ≡ replicate 16 32 ++ bytes "\n") ×
+      (drop 14 (getD (lines (plan-sheet p)) (k * 60 + 1) []) ≡ replicate 58 32 ++ bytes "\n") ×
+      ((j : ℕ) → j < 57 → k * 57 + j < length (points p) → drop 38 (getD (lines (plan-sheet p)) (k * 60 + 3 + j) []) ≡ replicate 34 32 ++ bytes "\n") ×
+      ((j : ℕ) → j < 57 → length (points p) ≤ k * 57 + j → getD (lines (plan-sheet p)) (k * 60 + 3 + j) [] ≡ replicate 72 32 ++ bytes "\n")
+  blanks-to-the-end = rw (sheets.lines-of-sheet p) (reading.page-blanks p a)
+
+  -- All numbers of points on the sheet are those of the plain listing, in the same order.
   pub points-read : points-on 0 (lines (plan-sheet p)) ≡ points p
   points-read = rw (sheets.lines-of-sheet p) (reading.points-read p a)
 

@@ -12,10 +12,10 @@ use Rattle.text.specs.Patterns.{Number, none, some, number}
 use Rattle.pages.specs.Sheet.{point-widths}
 
 -- No number is wider than its field.
-abbrev pub Fit : List ℕ → List ℕ → Type 0
-Fit widths [] = Unit
-Fit [] (n ∷ numbers) = ⊥
-Fit (w ∷ widths) (n ∷ numbers) = (length (decimal n) ≤ w) × Fit widths numbers
+abbrev pub NoWider : List ℕ → List ℕ → Type 0
+NoWider widths [] = Unit
+NoWider [] (n ∷ numbers) = ⊥
+NoWider (w ∷ widths) (n ∷ numbers) = (length (decimal n) ≤ w) × NoWider widths numbers
 
 -- A line of a page: 72 bytes, none of them a line feed, and then a line feed.
 pub record PageLine (l : List ℕ) : Type 0 where
@@ -35,16 +35,17 @@ read-to-end none = []
 read-to-end (some n []) = n ∷ []
 read-to-end (some n (b ∷ bs)) = []
 
--- The numbers of a line, read from columns of these widths, from the left; blank columns have none.
+-- The numbers of a line, read from columns of these widths, from the left; columns that have not blanks and then a number to their end have none.
 unfoldable pub in-columns : List ℕ → List ℕ → List ℕ
 in-columns [] l = []
 in-columns (w ∷ widths) l = read-to-end (number (after-blanks (take w l))) ++ in-columns widths (drop w l)
 
--- The points on the lines of a sheet, so many lines being before these: of each page from its fourth line on, those lines that have numbers.
+-- The numbers of a line as those of a point, where it has any.
 abbrev pub point-on : List ℕ → List (List ℕ)
 point-on [] = []
 point-on (n ∷ numbers) = (n ∷ numbers) ∷ []
 
+-- The points on the lines of a sheet, so many lines being before these: of each page from its fourth line on.
 unfoldable pub points-on : ℕ → List (List ℕ) → List (List ℕ)
 points-on before [] = []
 points-on before (l ∷ ls) = pick (leb 3 (before % 60)) (point-on (in-columns point-widths l)) [] ++ points-on (suc before) ls

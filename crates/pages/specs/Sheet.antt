@@ -17,14 +17,14 @@ unfoldable pub right-aligned : ℕ → ℕ → List ℕ
 right-aligned width n = replicate (width - length (decimal n)) 32 ++ decimal n
 
 -- Where so many columns are left: each number right-aligned in a field of its width, one behind the other, and blanks to the end.
-unfoldable pub fields : ℕ → List ℕ → List ℕ → List ℕ
-fields left [] numbers = replicate left 32
-fields left (w ∷ widths) [] = replicate left 32
-fields left (w ∷ widths) (n ∷ numbers) = right-aligned w n ++ fields (left - w) widths numbers
+unfoldable pub in-fields : ℕ → List ℕ → List ℕ → List ℕ
+in-fields left [] numbers = replicate left 32
+in-fields left (w ∷ widths) [] = replicate left 32
+in-fields left (w ∷ widths) (n ∷ numbers) = right-aligned w n ++ in-fields (left - w) widths numbers
 
 -- A line has 72 columns and a line feed. One without numbers is blank.
 unfoldable pub sheet-line : List ℕ → List ℕ → List ℕ
-sheet-line widths numbers = fields 72 widths numbers ++ bytes "\n"
+sheet-line widths numbers = in-fields 72 widths numbers ++ bytes "\n"
 
 -- The widths of heading lines: total, max-load total, D and T in 14 columns each, the page number in 14.
 abbrev pub heading-widths : List ℕ
@@ -61,6 +61,7 @@ page-count n = max 1 ((n + 56) / 57)
 abbrev pub sheet-lines : Plan → List (List ℕ)
 sheet-lines p = pages-to (task-numbers p) (points p) (page-count (length (points p)))
 
+-- The sheet is the text of these lines.
 abbrev pub plan-sheet : Plan → List ℕ
 plan-sheet p = flatten (sheet-lines p)
 

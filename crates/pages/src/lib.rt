@@ -7,10 +7,10 @@ ghost use lib.Seq.{sets};
 ghost use Rattle.text.specs.Spelling.{decimal};
 ghost use Rattle.print.specs.Printed.{Printed};
 ghost use Rattle.table.specs.Reading.{verdict};
-ghost use Rattle.listing.specs.Listed.{points-in};
+ghost use Rattle.listing.specs.Summary.{points-in};
 ghost use Rattle.pages.specs.Sheet.{right-aligned, sheet-line, point-widths, point-lines, page, page-count, pages-to, outcome-sheet};
 use listing::FIELDS;
-use listing::POINTS;
+use listing::POINT_NUMBERS;
 use listing::collect;
 use print::put_bytes;
 use print::put_number;
@@ -35,7 +35,7 @@ const POINT_WIDTHS: [u64; 4] = [6, 4, 14, 14];
 pub const SHEET: usize = 39420;
 
 // Gives how many digits a number has.
-fn digits(n: u64) -> u64
+fn digit_count(n: u64) -> u64
     ensures { λ r. ⌜ r ≡ length (decimal n) ⌝ }
 {
     let mut count = 1;
@@ -64,21 +64,19 @@ fn put_blanks(out: &mut [u8], at: usize, count: u64) -> usize
 fn put_aligned(out: &mut [u8], at: usize, width: u64, n: u64) -> usize
     ensures { λ r. ⌜ Printed (now (out .entry)) at (right-aligned width n) (now (out .exit)) r ⌝ }
 {
-    let first = put_blanks(out, at, less(width, digits(n)));
+    let first = put_blanks(out, at, less(width, digit_count(n)));
     put_number(out, first, n)
 }
 
 // Writes a line, numbers in fields of these widths and blanks behind them, and gives the place after it.
 fn put_line(out: &mut [u8], at: usize, widths: &[u64], numbers: &[u64]) -> usize
+    requires { ⌜ length (now numbers) ≤ length (now widths) ⌝ }
     ensures { λ r. ⌜ Printed (now (out .entry)) at (sheet-line (now (widths .entry)) (now (numbers .entry))) (now (out .exit)) r ⌝ }
 {
     let mut end = at;
     let mut left = COLUMNS;
     let mut i = 0;
     while i < numbers.len() {
-        if i == widths.len() {
-            break;
-        }
         end = put_aligned(out, end, widths[i], numbers[i]);
         left = less(left, widths[i]);
         i += 1;
@@ -122,7 +120,7 @@ fn put_page(
     count: usize,
     k: usize,
 ) -> usize
-    requires { ⌜ (count * 4 ≤ length (now points)) × (k < 9) ⌝ }
+    requires { ⌜ (length (now task) ≤ 4) × ((count * 4 ≤ length (now points)) × (k < 9)) ⌝ }
     ensures { λ r. ⌜ Printed (now (out .entry)) at (flatten (page (now (task .entry)) (points-in count (now (points .entry))) k)) (now (out .exit)) r ⌝ }
 {
     let number = [k as u64 + 1];
@@ -145,7 +143,7 @@ fn page_count(count: usize) -> usize
 
 // Writes all pages from the start, and gives the place after them.
 fn put_pages(out: &mut [u8], task: &[u64], points: &[u64], count: usize) -> usize
-    requires { ⌜ (count * 4 ≤ length (now points)) × (count ≤ 512) ⌝ }
+    requires { ⌜ (length (now task) ≤ 4) × ((count * 4 ≤ length (now points)) × (count ≤ 512)) ⌝ }
     ensures { λ r. ⌜ Printed (now (out .entry)) 0 (flatten (pages-to (now (task .entry)) (points-in count (now (points .entry))) (page-count count)))
         (now (out .exit)) r ⌝ }
 {
@@ -165,12 +163,12 @@ pub fn sheet_text(out: &mut [u8; SHEET], text: &[u8]) -> usize
     ensures size { λ r. ⌜ r ≡ length (outcome-sheet (verdict 512 (now (text .entry)))) ⌝ }
     ensures fits { λ r. ⌜ r ≤ 39420 ⌝ }
 {
-    let mut points = [0; POINTS];
-    let listed = collect(&mut points, text);
-    let answer = listed.answer;
-    let task = listed.task;
+    let mut points = [0; POINT_NUMBERS];
+    let summary = collect(&mut points, text);
+    let answer = summary.answer;
+    let task = summary.task;
     match answer {
         Answer::Refused(k, j) => refused_plan_line(out, 0, k, j as u64),
-        Answer::Accepted => put_pages(out, &task, &points, listed.count),
+        Answer::Accepted => put_pages(out, &task, &points, summary.count),
     }
 }

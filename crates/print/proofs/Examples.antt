@@ -1,4 +1,5 @@
--- Lines worked through: plan A's listing and answers of 01, one for each case, a refused plan, and the ends of the ranges. Each is a computation. Assumes nothing.
+-- Lines worked through: plan A's listing and answers of 01, one for each case, a refused plan, and the ends of the ranges. Each is a computation.
+-- Assumes nothing.
 use Prim.Native.Nat.{_-_, _^_}
 use mathlib.Core.Path.{_≡_, refl}
 use mathlib.Core.Bool.{true, false}
@@ -9,19 +10,20 @@ use Rattle.text.specs.Spelling.{decimal, numerals}
 use Rattle.model.specs.declared.Word.the-variants.{Go, Suspend, Stay}
 use Rattle.model.specs.declared.Ending.the-variants.{Resume, Ended}
 use Rattle.model.specs.declared.Answer.the-variants.{Refused, Decided, Closed}
-use Rattle.print.specs.Lines.{number-field, signed-field, late-mark, word-text, ending-text, number-fields, task-line, point-line, refused-plan-line, answer-line}
+use Rattle.print.specs.Lines.{number-field, number-fields, signed-field, late-mark, word-text, ending-text, numbers-line, task-line, point-line}
+use Rattle.print.specs.Lines.{refused-plan-line, answer-line}
 
 -- The listing of plan A.
 task-a : task-line (49 ∷ 93 ∷ 100 ∷ 4 ∷ []) ≡ bytes "task 49 93 100 4\n"
-unfolding task-line number-fields flatMap number-field decimal numerals
+unfolding numbers-line number-fields flatMap number-field decimal numerals
 task-a = refl
 
 point-a : point-line (0 ∷ 1 ∷ 49 ∷ 9 ∷ []) ≡ bytes "point 0 1 49 9\n"
-unfolding point-line number-fields flatMap number-field decimal numerals
+unfolding numbers-line number-fields flatMap number-field decimal numerals
 point-a = refl
 
 point-b : point-line (1 ∷ 1 ∷ 44 ∷ 24 ∷ []) ≡ bytes "point 1 1 44 24\n"
-unfolding point-line number-fields flatMap number-field decimal numerals
+unfolding numbers-line number-fields flatMap number-field decimal numerals
 point-b = refl
 
 -- A bound of 0 in the fourth line.

@@ -1,7 +1,7 @@
 -- Texts written one behind the other, as far as there is room, and how long they are. Assumes nothing.
 use Prim.Native.Nat.{ℕ, zero, suc, _+_, _-_, _*_, _/_, _%_, _^_, _≤_, _<_, min}
 use mathlib.Core.Path.{_≡_, refl, sym, ap, subst, _∙_}
-use mathlib.Core.List.{List, [], _∷_, _++_, append-assoc, append-nil, flatMap}
+use mathlib.Core.List.{List, [], _∷_, _++_, flatten, flatMap, append-assoc, append-nil}
 use mathlib.Core.Bool.{Bool, true, false}
 use native.Mathlib.Numerals.{add-one}
 use native.Mathlib.Omega.{arith}
@@ -67,6 +67,10 @@ all-bytes text l at n e k p = record { stored = p ∙ cut text l at n e; after =
 
 -- TEXTS IN A ROW
 
+-- Where nothing is written all is as it was.
+pub nothing-written : (l : List ℕ) (at : ℕ) → Printed l at [] l at
+nothing-written l at = record { stored = refl; after = omega arith }
+
 -- A text written behind another makes one text of both.
 pub behind : {l m n xs ys : List ℕ} {at i e : ℕ} → Printed l at xs m i → Printed m i ys n e → Printed l at (xs ++ ys) n e
 behind {l} {m} {n} {xs} {ys} {at} {i} {e} p q = record {
@@ -93,15 +97,21 @@ wider h p = record { printed = p .printed; short = omega (arith, p .short) }
 -- THE TEXTS OF A LIST
 
 -- The texts of two lists, one behind the other, are those of both.
-pub flat-append : {A : Type 0} (f : A → List ℕ) (xs ys : List A) → flatMap f (xs ++ ys) ≡ flatMap f xs ++ flatMap f ys
+flat-append : {A : Type 0} (f : A → List ℕ) (xs ys : List A) → flatMap f (xs ++ ys) ≡ flatMap f xs ++ flatMap f ys
 unfolding flatMap
 flat-append f [] ys = refl
 flat-append f (x ∷ xs) ys = rw (flat-append f xs ys, append-assoc (f x) (flatMap f xs) (flatMap f ys))
 
+-- The lines of two lists, one behind the other.
+pub flatten-append : (xs ys : List (List ℕ)) → flatten (xs ++ ys) ≡ flatten xs ++ flatten ys
+unfolding flatten
+flatten-append [] ys = refl
+flatten-append (x ∷ xs) ys = rw (flatten-append xs ys, append-assoc x (flatten xs) (flatten ys))
+
 -- Of none nothing is written.
 pub none-written : {A : Type 0} (f : A → List ℕ) (xs : List A) (most : ℕ) (l : List ℕ) (at : ℕ) → PrintedWithin (0 * most) l at (flatMap f (take 0 xs)) l at
 unfolding flatMap
-none-written f xs most l at = record { printed = record { stored = refl; after = omega arith }; short = omega arith }
+none-written f xs most l at = record { printed = nothing-written l at; short = omega arith }
 
 -- One more, of at most so many bytes as each.
 pub one-written : {A : Type 0} (f : A → List ℕ) (d : A) (xs : List A) (most i : ℕ) {l m n : List ℕ} {at e r : ℕ} → i < length xs →
@@ -136,9 +146,12 @@ digits-most n h = decimal-length 19 n (unfold tens in omega arith)
 
 -- WHOLE TEXTS
 
--- Where the buffer has room for all of a text from its start, the bytes stand there, and the result is their number.
-pub all-of : {most size : ℕ} {l m text : List ℕ} {e : ℕ} → most ≤ size → length l ≡ size → PrintedWithin most l 0 text m e
-    → (m ≡ sets l 0 text) × ((e ≡ length text) × (e ≤ size))
+-- What a function that writes a whole text into a buffer of so many bytes promises: the bytes stand at its start, and the result is their number.
+abbrev pub Whole : ℕ → List ℕ → List ℕ → List ℕ → ℕ → Type 0
+Whole size l text m r = (m ≡ sets l 0 text) × ((r ≡ length text) × (r ≤ size))
+
+-- So it is where the buffer has room for all of the text.
+pub all-of : {most size : ℕ} {l m text : List ℕ} {e : ℕ} → most ≤ size → length l ≡ size → PrintedWithin most l 0 text m e → Whole size l text m e
 all-of h k p =
     let a = p .printed .after in
     let s = p .short in

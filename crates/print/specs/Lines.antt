@@ -42,13 +42,17 @@ ending-text Ended = bytes "ended"
 unfoldable pub number-fields : List ℕ → List ℕ
 number-fields = flatMap number-field
 
+-- A line of a word and numbers.
+unfoldable pub numbers-line : List ℕ → List ℕ → List ℕ
+numbers-line word numbers = word ++ (number-fields numbers ++ bytes "\n")
+
 -- The first line of a plan's listing: total, max-load total, deadline, switch cost.
-unfoldable pub task-line : List ℕ → List ℕ
-task-line numbers = bytes "task" ++ (number-fields numbers ++ bytes "\n")
+abbrev pub task-line : List ℕ → List ℕ
+task-line = numbers-line (bytes "task")
 
 -- The line of a point: its number, its level in its own function, its tail and its stretch.
-unfoldable pub point-line : List ℕ → List ℕ
-point-line numbers = bytes "point" ++ (number-fields numbers ++ bytes "\n")
+abbrev pub point-line : List ℕ → List ℕ
+point-line = numbers-line (bytes "point")
 
 -- The line of a refused plan: the refusal's number and the plan's line.
 unfoldable pub refused-plan-line : ℕ → ℕ → List ℕ

@@ -9,13 +9,13 @@ ghost use Rattle.text.specs.Spelling.{decimal};
 ghost use Rattle.model.specs.declared.Answer.the-variants.{Refused, Decided, Closed};
 ghost use Rattle.print.specs.Printed.{Printed, PrintedWithin};
 ghost use Rattle.print.specs.Lines.{number-field, signed-field, late-mark, word-text, ending-text, number-fields};
-ghost use Rattle.print.specs.Lines.{task-line, point-line, refused-plan-line, ticks-line, answer-line};
+ghost use Rattle.print.specs.Lines.{numbers-line, refused-plan-line, ticks-line, answer-line};
 use model::Answer;
 use model::Ending;
 use model::Word;
 use text::TEN;
 
-// How many bytes a buffer for one line has: more than any line.
+// How many bytes a buffer for one line has: more than that of a refused plan, an answer or the ticks of a release.
 pub const SIZE: usize = 128;
 
 // Writes a text at a place, as far as there is room, and gives the place after it.
@@ -139,20 +139,12 @@ fn put_fields(out: &mut [u8], at: usize, numbers: &[u64]) -> usize
     end
 }
 
-// Writes the first line of a plan's listing at a place, and gives the place after it.
-pub fn task_line(out: &mut [u8], at: usize, numbers: &[u64]) -> usize
-    ensures { λ r. ⌜ PrintedWithin (length (now (numbers .entry)) * 21 + 5) (now (out .entry)) at (task-line (now (numbers .entry))) (now (out .exit)) r ⌝ }
+// Writes a line at a place, a word and numbers behind it, and gives the place after it.
+pub fn numbers_line(out: &mut [u8], at: usize, word: &[u8], numbers: &[u64]) -> usize
+    ensures { λ r. ⌜ PrintedWithin (length (now (word .entry)) + (length (now (numbers .entry)) * 21 + 1)) (now (out .entry)) at
+        (numbers-line (now (word .entry)) (now (numbers .entry))) (now (out .exit)) r ⌝ }
 {
-    let first = put_bytes(out, at, b"task");
-    let end = put_fields(out, first, numbers);
-    put_byte(out, end, b'\n')
-}
-
-// Writes the line of a point at a place, and gives the place after it.
-pub fn point_line(out: &mut [u8], at: usize, numbers: &[u64]) -> usize
-    ensures { λ r. ⌜ PrintedWithin (length (now (numbers .entry)) * 21 + 6) (now (out .entry)) at (point-line (now (numbers .entry))) (now (out .exit)) r ⌝ }
-{
-    let first = put_bytes(out, at, b"point");
+    let first = put_bytes(out, at, word);
     let end = put_fields(out, first, numbers);
     put_byte(out, end, b'\n')
 }

@@ -1,6 +1,6 @@
 -- `listing::collect` meets its contract: what is collected from memory after reading is what is listed of the plan, or nothing. Assumes nothing.
 use borrow.Author.Needs.{needs}
-use Rattle.listing.proofs.Points.{collect-read}
+use Rattle.listing.proofs.Points.{leaves-read, collect-read}
 use Rattle.listing.proofs.collect.Statement.{statement}
 use Rattle.listing.proofs.collect.Tie as tie
 
@@ -11,7 +11,10 @@ read-requires : tie.Need-read-requires
 read-requires c κs = search needs
 
 collect-leaves-requires : tie.Need-collect-leaves-requires
-collect-leaves-requires c κs = search needs
+collect-leaves-requires c κs =
+    let r = c .before .before .before .before .before in
+    leaves-read (r .before .before .before .before .before .before .before .args .text .now) (r .read .result) (r .before .no-head .ensures)
+    (r .read .ensures .0)
 
 returns : tie.Need-returns
 returns c =

@@ -7,7 +7,7 @@ use Rattle.listing.proofs.collect_leaves.Statement.{statement}
 use Rattle.listing.proofs.collect_leaves.Tie as tie
 
 abbrev Inv-loop : tie.InvT-loop
-Inv-loop points₀ row tails stretches n count₀ i₀ points count i = ((i ≤ 512) × (i ≤ n)) × First row tails stretches points₀ i points count
+Inv-loop points₀ row tails stretches n count₀ i₀ points count i = (i ≤ n) × First row tails stretches points₀ i points count
 
 abbrev μ-loop : tie.MeasureT-loop
 μ-loop points₀ row tails stretches n count₀ i₀ points count i = n - i
@@ -17,29 +17,24 @@ loop-holds c =
     let s = c .args in
     (omega arith, first-none (s .row .now) (s .tails .now) (s .stretches .now) (s .points .now))
 
-returns : tie.Need-returns Inv-loop μ-loop
-returns c =
-    let l = c .before .before .loop in
-    first-all (l .i) (c .before .before .before .args .n) (omega arith) (l .inv .1)
-
 collect-leaf-requires : tie.Need-collect-leaf-requires Inv-loop μ-loop
-collect-leaf-requires c κs = omega (arith, c .before .before .before .loop .inv .1 .few)
+collect-leaf-requires c κs = omega (arith, c .before .before .loop .inv .1 .few)
 
 add-i : tie.Need-add-i Inv-loop μ-loop
 add-i c = omega arith
 
 loop-less : tie.Need-loop-less Inv-loop μ-loop
 loop-less c =
-    let l = c .before .before .before .before .loop in
-    fewer (l .i) (c .before .before .before .before .before .args .n) (c .before .before .before .loop-test .taken)
+    let l = c .before .before .before .loop in
+    fewer (l .i) (c .before .before .before .before .args .n) (c .before .before .loop-test .taken)
 
 loop-again : tie.Need-loop-again Inv-loop μ-loop
 loop-again c =
-    let l = c .before .before .before .before .loop in
+    let l = c .before .before .before .loop in
     (omega arith, first-more (l .inv .1) (c .collect-leaf .ensures))
 
-returns-2 : tie.Need-returns-2 Inv-loop μ-loop
-returns-2 c =
+returns : tie.Need-returns Inv-loop μ-loop
+returns c =
     let l = c .before .loop in
     first-all (l .i) (c .before .before .args .n) (omega arith) (l .inv .1)
 
@@ -50,9 +45,8 @@ collect-leaves-spec =
     Inv-loop
     μ-loop
     loop-holds
-    returns
     collect-leaf-requires
     add-i
     loop-less
     loop-again
-    returns-2)
+    returns)

@@ -20,20 +20,23 @@ refused-plan-line-requires c κs = search needs
 enum-told : tie.Need-enum-told
 enum-told c = search needs
 
-slice-aggregate-task-line : tie.Need-slice-aggregate-task-line
-slice-aggregate-task-line c = search needs
+slice-aggregate-numbers-line : tie.Need-slice-aggregate-numbers-line
+slice-aggregate-numbers-line c = search needs
 
-task-line-requires : tie.Need-task-line-requires
-task-line-requires c κs = search needs
+slice-aggregate-numbers-line-2 : tie.Need-slice-aggregate-numbers-line-2
+slice-aggregate-numbers-line-2 c = search needs
+
+numbers-line-requires : tie.Need-numbers-line-requires
+numbers-line-requires c κs = search needs
 
 slice-aggregate-put-points : tie.Need-slice-aggregate-put-points
 slice-aggregate-put-points c =
-    let g = c .before .before .before .before .before .before .before .before in
+    let g = c .before .before .before .before .before .before .before .before .before in
     sym (collected-back (g .before .before .before .args .text .now) (g .collect .ensures .0) (g .collect .ensures .1) .0)
 
 put-points-requires : tie.Need-put-points-requires
 put-points-requires c κs =
-    let g = c .before .before .before .before .before .before .before .before in
+    let g = c .before .before .before .before .before .before .before .before .before in
     collected-back (g .before .before .before .args .text .now) (g .collect .ensures .0) (g .collect .ensures .1) .1
 
 returns : tie.Need-returns
@@ -44,10 +47,10 @@ returns c =
 
 returns-2 : tie.Need-returns-2
 returns-2 c =
-    let told = c .before .before .before .before .before .before in
+    let told = c .before .before .before .before .before .before .before in
     let g = told .before .before .before in
-    list-accepted (g .before .before .before .args .text .now) (search needs) (g .collect .ensures .0) (told .enum-told .given .1) (g .collect .ensures .1)
-    (c .before .before .before .task-line .ensures) (c .put-points .ensures)
+    list-accepted (g .before .before .before .args .text .now) (c .before .before .before .before .before .before .numbers-line-arg .given .0 .1)
+    (g .collect .ensures .0) (told .enum-told .given .1) (g .collect .ensures .1) (c .before .before .before .numbers-line .ensures) (c .put-points .ensures)
 
 pub list-text-spec : {M : Type 1} → statement M
 list-text-spec =
@@ -57,8 +60,9 @@ list-text-spec =
     enum-known-answer
     refused-plan-line-requires
     enum-told
-    slice-aggregate-task-line
-    task-line-requires
+    slice-aggregate-numbers-line
+    slice-aggregate-numbers-line-2
+    numbers-line-requires
     slice-aggregate-put-points
     put-points-requires
     returns

@@ -10,8 +10,8 @@ use Rattle.pages.proofs.Lines.{blanks-all}
 use Rattle.pages.proofs.put_aligned.Statement.{statement}
 use Rattle.pages.proofs.put_aligned.Tie as tie
 
-digits-requires : tie.Need-digits-requires
-digits-requires c κs = search needs
+digit-count-requires : tie.Need-digit-count-requires
+digit-count-requires c κs = search needs
 
 less-requires : tie.Need-less-requires
 less-requires c κs = search needs
@@ -31,7 +31,7 @@ returns c =
     let n = c .before .before in
     let b = n .before .before .before .before in
     let less = b .before .less in
-    let count = b .before .before .digits in
+    let count = b .before .before .digit-count in
     let s = b .before .before .before .before .before .args in
     behind (blanks-all (less .result) (s .width - length (decimal (s .n))) (less .ensures ∙ ap (λ (k : ℕ). s .width - k) (count .ensures))
     (b .put-blanks .ensures)) (n .put-number .ensures)
@@ -40,7 +40,7 @@ pub put-aligned-spec : {M : Type 1} → statement M
 put-aligned-spec =
     tie.close
     (tie.spec
-    digits-requires
+    digit-count-requires
     less-requires
     put-blanks-requires
     put-number-requires

@@ -1,18 +1,17 @@
 -- `pages::put_line` meets its contract. The loop's invariant: the numbers passed are written in their fields, and what is left of the line is that of the
 -- other numbers. Assumes nothing.
 use Prim.Native.Nat.{_-_, _≤_}
-use mathlib.Core.Logic.{inl, inr, ⊎-elim}
 use native.Mathlib.Omega.{arith}
 use lib.ListN.{length}
 use borrow.Author.Needs.{needs}
 use Rattle.print.proofs.Laws.{same-size}
 use Rattle.pages.specs.Sheet.{sheet-line}
-use Rattle.pages.proofs.Lines.{Begun, begin, begun-more, ended}
+use Rattle.pages.proofs.Lines.{Begun, line-begun, begun-more, line-ended}
 use Rattle.pages.proofs.put_line.Statement.{statement}
 use Rattle.pages.proofs.put_line.Tie as tie
 
 abbrev Inv-loop : tie.InvT-loop
-Inv-loop out₀ at widths numbers end₀ left₀ i₀ t9 out end left i = ((i ≤ length widths) × (i ≤ length numbers)) × Begun widths numbers out₀ at out end left i
+Inv-loop out₀ at widths numbers end₀ left₀ i₀ t9 out end left i = (i ≤ length numbers) × Begun widths numbers out₀ at out end left i
 
 abbrev μ-loop : tie.MeasureT-loop
 μ-loop out₀ at widths numbers end₀ left₀ i₀ t9 out end left i = length numbers - i
@@ -20,7 +19,7 @@ abbrev μ-loop : tie.MeasureT-loop
 loop-holds : tie.Need-loop-holds Inv-loop μ-loop
 loop-holds c =
     let s = c .before .before .before .args in
-    (omega arith, begin (s .widths .now) (s .numbers .now) (s .out .now) (s .at))
+    (omega arith, line-begun (s .widths .now) (s .numbers .now) (s .out .now) (s .at))
 
 mul-put-aligned : tie.Need-mul-put-aligned Inv-loop μ-loop
 mul-put-aligned c = search needs
@@ -54,12 +53,11 @@ loop-less c = omega arith
 
 loop-again : tie.Need-loop-again Inv-loop μ-loop
 loop-again c =
-    let l = c .before .before .before .before .before .before .before .before .before .before .loop in
     let a = c .before .before .before .before in
-    let t = c .before .before .before .before .before .before .before .before in
-    let h = t .before .loop-test .taken in
-    let k = t .if1 .left in
-    (omega (arith, h, k), rw (c .less .ensures) (begun-more (omega (arith, k, l .inv .0)) h (l .inv .1) (a .put-aligned .ensures)))
+    let t = a .before .before .before .before in
+    let l = t .before .loop in
+    let h = t .loop-test .taken in
+    (omega (arith, h), rw (c .less .ensures) (begun-more (omega (arith, h)) h (l .inv .1) (a .put-aligned .ensures)))
 
 put-blanks-requires : tie.Need-put-blanks-requires Inv-loop μ-loop
 put-blanks-requires c κs = search needs
@@ -70,20 +68,17 @@ slice-aggregate-put-bytes c = search needs
 put-bytes-requires : tie.Need-put-bytes-requires Inv-loop μ-loop
 put-bytes-requires c κs = search needs
 
--- The line, by the numbers that were written before the loop ended.
-line : tie.Need-returns Inv-loop μ-loop
-line c =
+returns : tie.Need-returns Inv-loop μ-loop
+returns c =
     let feed = c .before .before in
     let blanks = feed .before .before .before .before .before in
-    let l = blanks .before .before .before .loop in
-    ended (⊎-elim (λ w. inr (omega (arith, w))) (λ w. inl (omega (arith, w))) (blanks .before .before .loop-test .came)) (l .inv .1) (blanks .put-blanks .ensures)
-    (feed .put-bytes .ensures)
+    let left = blanks .before .before in
+    line-ended (omega (arith, left .loop-test .left)) (left .before .loop .inv .1) (blanks .put-blanks .ensures) (feed .put-bytes .ensures)
 
 same-length : tie.Need-same-length Inv-loop μ-loop
-same-length c = same-size (c .before .before .before .before .before .before .before .before .before .before .before .before .before .before .args .out .now) (c .before .before .before .before .before .before .before .before .before .before .before .before .before .before .args .at) (sheet-line (c .before .before .before .before .before .before .before .before .before .before .before .before .before .before .args .widths .now) (c .before .before .before .before .before .before .before .before .before .before .before .before .before .before .args .numbers .now)) (line c .stored)
-
-returns : tie.Need-returns Inv-loop μ-loop
-returns c = line c
+same-length c =
+    let s = c .before .before .before .before .before .before .before .before .before .before .before .before .before .before .args in
+    same-size (s .out .now) (s .at) (sheet-line (s .widths .now) (s .numbers .now)) (returns c .stored)
 
 pub put-line-spec : {M : Type 1} → statement M
 put-line-spec =

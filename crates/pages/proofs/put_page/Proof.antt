@@ -1,6 +1,6 @@
 -- `pages::put_page` meets its contract: the three heading lines, and the lines of the points behind them. Assumes nothing.
 use borrow.Author.Needs.{needs}
-use Rattle.listing.specs.Listed.{points-in}
+use Rattle.listing.specs.Summary.{points-in}
 use Rattle.pages.proofs.Lines.{page-whole}
 use Rattle.pages.proofs.put_page.Statement.{statement}
 use Rattle.pages.proofs.put_page.Tie as tie

@@ -6,7 +6,7 @@ use native.Mathlib.Omega.{arith}
 use borrow.Author.Needs.{needs}
 use Rattle.print.specs.Printed.{Printed}
 use Rattle.print.proofs.Laws.{same-size}
-use Rattle.listing.specs.Listed.{points-in}
+use Rattle.listing.specs.Summary.{points-in}
 use Rattle.pages.specs.Sheet.{pages-to, page-count}
 use Rattle.pages.proofs.Lines.{no-pages, page-more, pages-all, nine}
 use Rattle.pages.proofs.put_pages.Statement.{statement}
@@ -58,7 +58,8 @@ returns c =
     let s = c .before .before .before .before .before .before .args in
     let l = c .before .loop in
     let n = c .before .before .page-count .ensures in
-    pages-all (s .task .now) (points-in (s .count) (s .points .now)) (l .k) (page-count (s .count)) (omega (arith, c .loop-test .left, l .inv .0) ∙ n) (l .inv .1)
+    pages-all (s .task .now) (points-in (s .count) (s .points .now)) (l .k) (page-count (s .count)) (omega (arith, c .loop-test .left, l .inv .0) ∙ n)
+    (l .inv .1)
 
 pub put-pages-spec : {M : Type 1} → statement M
 put-pages-spec =

@@ -35,7 +35,8 @@ same-length c = search needs
 returns : tie.Need-returns
 returns c =
     let s = c .before .before .before .before .before .before .before .before .before .args in
-    point-here (s .count) (s .i) (s .points .now) (c .before .before .before .before .before .before .if1 .taken) (search needs) (c .before .before .put-line .ensures)
+    let h = c .before .before .before .before .before .before .if1 .taken in
+    point-here (s .count) (s .i) (s .points .now) h (search needs) (c .before .before .put-line .ensures)
 
 slice-aggregate-put-line-2 : tie.Need-slice-aggregate-put-line-2
 slice-aggregate-put-line-2 c = search needs
@@ -52,7 +53,8 @@ same-length-2 c = search needs
 returns-2 : tie.Need-returns-2
 returns-2 c =
     let s = c .before .before .before .before .before .before .before .before .before .args in
-    point-past (s .count) (s .i) (s .points .now) (omega (arith, c .before .before .before .before .before .before .if1 .left)) (c .before .before .put-line2 .ensures)
+    let h = c .before .before .before .before .before .before .if1 .left in
+    point-past (s .count) (s .i) (s .points .now) (omega (arith, h)) (c .before .before .put-line2 .ensures)
 
 pub put-point-spec : {M : Type 1} → statement M
 put-point-spec =

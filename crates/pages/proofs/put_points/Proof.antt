@@ -5,7 +5,7 @@ use native.Mathlib.Omega.{arith}
 use borrow.Author.Needs.{needs}
 use Rattle.print.specs.Printed.{Printed}
 use Rattle.print.proofs.Laws.{same-size}
-use Rattle.listing.specs.Listed.{points-in}
+use Rattle.listing.specs.Summary.{points-in}
 use Rattle.pages.specs.Sheet.{point-lines}
 use Rattle.pages.proofs.Lines.{no-points, point-more, points-all}
 use Rattle.pages.proofs.put_points.Statement.{statement}
@@ -37,8 +37,11 @@ loop-less c = omega arith
 loop-again : tie.Need-loop-again Inv-loop μ-loop
 loop-again c =
     let s = c .before .before .before .before .before .before .before .before .args in
-    let l = c .before .before .before .before .before .loop in
-    (omega (arith, c .before .before .before .before .loop-test .taken), point-more (points-in (s .count) (s .points .now)) (s .first) (l .j) (l .inv .1) (c .before .before .put-point .ensures))
+    let l = c .before .before .before .before .before .loop in (
+      omega (arith, c .before .before .before .before .loop-test .taken),
+      point-more (points-in (s .count) (s .points .now)) (s .first) (l .j) (l .inv .1)
+          (c .before .before .put-point .ensures),
+    )
 
 same-length : tie.Need-same-length Inv-loop μ-loop
 same-length c =

@@ -3,7 +3,7 @@ use mathlib.Core.Path.{refl, sym}
 use native.Mathlib.Omega.{arith}
 use borrow.Author.Needs.{needs}
 use Rattle.table.specs.Reading.{verdict}
-use Rattle.listing.proofs.Lines.{collected-back, refusal-printed}
+use Rattle.listing.proofs.Lines.{task-four, collected-back, refusal-printed}
 use Rattle.pages.specs.Sheet.{outcome-sheet}
 use Rattle.pages.proofs.Texts.{sheet-accepted}
 use Rattle.pages.proofs.sheet_text.Statement.{statement}
@@ -32,8 +32,9 @@ slice-aggregate-put-pages-2 c =
 put-pages-requires : tie.Need-put-pages-requires
 put-pages-requires c κs =
     let g = c .before .before .before .before .before .before in
-    let (size, room, back) = collected-back (g .before .before .before .args .text .now) (g .collect .ensures .0) (g .collect .ensures .1) in
-    (room, omega (arith, room, size))
+    let text = g .before .before .before .args .text .now in
+    let (size, room, back) = collected-back text (g .collect .ensures .0) (g .collect .ensures .1) in
+    (omega (arith, task-four (verdict 512 text) (g .collect .ensures .0)), (room, omega (arith, room, size)))
 
 returns : tie.Need-returns
 returns c =

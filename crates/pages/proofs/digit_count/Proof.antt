@@ -1,5 +1,5 @@
--- `pages::digits` meets its contract. The loop's invariant: the digits counted, but for one, and those of what is left are the number's. Assumes nothing.
-use Prim.Native.Nat.{_+_, _≤_}
+-- `pages::digit_count` meets its contract. The loop's invariant: the digits counted, but for one, and those of what is left are the number's. Assumes nothing.
+use Prim.Native.Nat.{_+_}
 use mathlib.Core.Path.{_≡_}
 use native.Mathlib.Omega.{arith}
 use lib.ListN.{length}
@@ -7,8 +7,8 @@ use borrow.Author.Needs.{needs}
 use Rattle.text.specs.Spelling.{decimal}
 use Rattle.print.proofs.Laws.{digits-most}
 use Rattle.pages.proofs.Lines.{digits-one, digits-more}
-use Rattle.pages.proofs.digits.Statement.{statement}
-use Rattle.pages.proofs.digits.Tie as tie
+use Rattle.pages.proofs.digit_count.Statement.{statement}
+use Rattle.pages.proofs.digit_count.Tie as tie
 
 abbrev Inv-loop : tie.InvT-loop
 Inv-loop n count₀ rest₀ count rest = count + length (decimal rest) ≡ length (decimal n) + 1
@@ -35,5 +35,5 @@ returns c =
     let l = c .before .loop in
     omega (arith, l .inv, digits-one (l .rest) (omega (arith, c .loop-test .left)))
 
-pub digits-spec : {M : Type 1} → statement M
-digits-spec = tie.close (tie.spec Inv-loop μ-loop loop-holds add-count loop-less loop-again returns)
+pub digit-count-spec : {M : Type 1} → statement M
+digit-count-spec = tie.close (tie.spec Inv-loop μ-loop loop-holds add-count loop-less loop-again returns)
