@@ -117,6 +117,7 @@ const PLANTED: &[&str] = &[
     "columns/71-columns",
     "columns/73-columns",
     "columns/blanks-cut",
+    "columns/blank-lines-empty",
     "columns/tabs",
     "columns/carriage-returns",
     "columns/refusal-padded",
