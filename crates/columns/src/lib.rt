@@ -1,6 +1,8 @@
 // The derived columns of a plan's table: the sum of one round of each loop, tails and stretches. Each leaf is looked at a fixed number of times,
 // whatever the nesting: sums are noted once for each loop, and siblings are walked from the last to the first, with what follows them at hand.
 // Lent totals, turns and tails are tested where they stand, from the first leaf to the last.
+#![tactic(auto)]
+
 ghost use Rattle.std.specs.Prelude.{◌≡◌, List, [], ◌∷◌, length, get_or, set};
 ghost use Prim.Native.Nat.{ℕ, ◌+◌, ◌-◌, ◌*◌, ◌≤◌, ◌<◌};
 ghost use Rattle.std.proofs.lemmas.List.Edits.{sets};
@@ -246,7 +248,7 @@ fn tail_block(
 }
 
 // A silent stretch as a function of what follows: `hit` at a point inside; `pass` and what follows, if `free`.
-#[derive(Drop)]
+#[derive(Clone, Copy)]
 struct SilentSum {
     hit: u64,
     pass: u64,

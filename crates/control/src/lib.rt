@@ -1,4 +1,6 @@
 // The controller's state, and its calls on a table.
+#![tactic(auto)]
+
 ghost use Rattle.std.specs.Prelude.{◌≡◌, ◌+◌, ◌-◌, ◌*◌, ◌^◌, ◌≤◌, length};
 ghost use Rattle.std.proofs.Math.Option.{some};
 ghost use Rattle.std.specs.Int.Signed.{non_neg};
@@ -28,7 +30,7 @@ use table::{Head, check};
 // The running state: whether a release is open, what the others do, the last accepted reading, the level of the last point (0: none was
 // reported), for each level the leaf reported last there and its earlier visits, and the remaining time kept for each level. A fresh state is all
 // zeros.
-#[derive(Drop)]
+#[derive(Clone, Copy)]
 pub struct State {
     pub running: bool,
     pub others: Others,
@@ -40,14 +42,14 @@ pub struct State {
 }
 
 // The answer of a call, and the state afterwards.
-#[derive(Drop)]
+#[derive(Clone, Copy)]
 pub struct Step {
     pub answer: Answer,
     pub state: State,
 }
 
 // A decision: its answer, and what the others do then.
-#[derive(Drop)]
+#[derive(Clone, Copy)]
 struct Weighing {
     answer: Answer,
     others: Others,

@@ -1,5 +1,7 @@
 // Plays the marked cases m1 to m12 of document 01, m5 and m11 as document 02 (L3) has them, and prints each answer. What must be printed is worked out by
 // hand beside each list of calls, and stands in the file stdout.
+#![tactic(auto)]
+
 use control::{call, call_from, fresh};
 use libc::STDOUT_FILENO;
 use model::Answer;

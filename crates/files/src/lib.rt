@@ -1,18 +1,20 @@
 // The texts that a program's arguments name: opened, and read whole or piece by piece; and what is printed. What cannot be had is said on standard error, in
 // one line: the name of the text, and why.
+#![tactic(auto)]
+
 ghost use Rattle.io.specs.Counts.{IsPrefixLen};
 
 use libc::{EINTR, STDERR_FILENO, STDOUT_FILENO};
 
 // A text that was opened: its descriptor, and how many bytes of the buffer are its name. One that could not be opened has a negative descriptor.
-#[derive(Drop)]
+#[derive(Clone, Copy)]
 pub struct Opened {
     pub fd: i32,
     pub size: usize,
 }
 
 // What was read: whether it failed, and how many bytes are at the start of the buffer.
-#[derive(Drop)]
+#[derive(Clone, Copy)]
 pub struct Got {
     pub failed: bool,
     pub size: usize,

@@ -1,4 +1,6 @@
 // The lines of a flight log (document 02, L1): which call a line says.
+#![tactic(auto)]
+
 ghost use Rattle.std.specs.Prelude.{◌≡◌};
 ghost use Rattle.text.specs.Text.{line_of};
 ghost use Rattle.flight_log.specs.Log.{entry_of};
@@ -7,7 +9,7 @@ use model::Call;
 use text::{Fitted, matches};
 
 // A line of a log: a call; or a line of another form.
-#[derive(Drop)]
+#[derive(Clone, Copy)]
 pub enum Entry {
     Said(Call),
     Other,

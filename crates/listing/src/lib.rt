@@ -1,5 +1,7 @@
 // The listing of a plan, or its refusal, as text (document 01, 'Plans worked through'): the numbers that are listed, for this listing and for the review
 // sheet, and their lines.
+#![tactic(auto)]
+
 ghost use Rattle.std.specs.Prelude.{◌≡◌, ◌*◌, ◌≤◌, ◌<◌, length};
 ghost use mathlib.Core.List.{flat_map, flatten};
 ghost use Rattle.std.proofs.lemmas.List.Edits.{sets};
@@ -28,7 +30,7 @@ const TASK: usize = 4;
 pub const LISTING: usize = 65664;
 
 // What is listed of a text beside its points: what reading it answers, the total, the max-load total, D and T, and how many points there are.
-#[derive(Drop)]
+#[derive(Clone, Copy)]
 pub struct Summary {
     pub answer: Answer,
     pub task: [u64; TASK],

@@ -1,4 +1,6 @@
 // The review sheet of a plan, or its refusal, as text (document 02, L5): the numbers of the plain listing on pages of 72 columns and 60 lines.
+#![tactic(auto)]
+
 ghost use Rattle.std.specs.Prelude.{◌≡◌, ◌+◌, ◌*◌, ◌≤◌, ◌<◌, length, get_or, replicate};
 ghost use mathlib.Core.List.{[], flatten};
 ghost use Rattle.std.proofs.lemmas.List.Edits.{sets};

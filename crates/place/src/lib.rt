@@ -1,4 +1,6 @@
 // The next report on a row of leaf records: whether a point can come next, and the place then; whether the run can end; whether any point can come.
+#![tactic(auto)]
+
 ghost use Rattle.std.specs.Prelude.{◌≡◌, true, false, ◌&&◌, List, [], ℕ, ◌+◌, ◌-◌, ◌*◌, ◌≤◌, ◌<◌, length, get_or};
 ghost use Rattle.std.proofs.Math.Option.{none};
 ghost use Rattle.model.specs.Forms.{Forms, done, forms};
@@ -138,7 +140,7 @@ fn behind(row: &[u64], from: usize, to: usize, p: usize, x: usize, left: usize) 
 }
 
 // The records from `from` up to `to`.
-#[derive(Drop)]
+#[derive(Clone, Copy)]
 pub struct Records {
     pub from: usize,
     pub to: usize,
@@ -226,7 +228,7 @@ fn fall(row: &[u64], starts: &[u64], n: usize, leaves: &ByLevel, l: usize, x: us
 }
 
 // The level where a point comes next, or 0, and its earlier visits there.
-#[derive(Drop)]
+#[derive(Clone, Copy)]
 pub struct Found {
     pub at: usize,
     pub count: u64,
@@ -397,7 +399,7 @@ pub fn zero_above(a: ByLevel, l: usize) -> bool
 }
 
 // The place of a run: its level (0: none), the leaf reported last at each level up to it, and that leaf's earlier visits there.
-#[derive(Drop)]
+#[derive(Clone, Copy)]
 pub struct Place {
     pub level: usize,
     pub leaves: ByLevel,
@@ -470,7 +472,7 @@ pub fn first_place(
 }
 
 // How quiet forms are: `free`, some way through them meets no point; `mute`, none meets one.
-#[derive(Drop)]
+#[derive(Clone, Copy)]
 struct Quiet {
     free: bool,
     mute: bool,

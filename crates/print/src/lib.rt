@@ -1,5 +1,7 @@
 // The lines that the programs print (document 01, 'Calls' and 'Plans worked through'; document 02, L1), each at a place of a lent buffer, as far as it has
 // room.
+#![tactic(auto)]
+
 ghost use Rattle.std.specs.Prelude.{◌≡◌, [], ◌∷◌, ◌+◌, ◌*◌, ◌<◌, length, nat_abs};
 ghost use Rattle.text.specs.Spelling.{decimal};
 ghost use Rattle.model.specs.declared.Answer.TheVariants.{Refused, Decided, Closed};

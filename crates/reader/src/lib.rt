@@ -1,5 +1,7 @@
 // The plan reader: makes of a text a plan's records in a lent row, or refuses it by one of 1 to 7 or by 19 (document 01, 'A plan, one form a line';
 // document 02, L2).
+#![tactic(auto)]
+
 ghost use Rattle.std.specs.Prelude.{◌≡◌, [], ◌∷◌, ◌+◌, ◌*◌, ◌<◌, ◌≤◌, min, length, take, leb};
 ghost use Rattle.std.proofs.lemmas.List.Edits.{sets};
 ghost use Rattle.text.specs.Grammar.{read_at, Found};
@@ -17,7 +19,7 @@ use rows::{
 use text::{Form, Read, line};
 
 // What the reader says of a text: accepted; or refused, with the refusal's number and line.
-#[derive(Drop)]
+#[derive(Clone, Copy)]
 pub enum Answer {
     Accepted,
     Refused(u64, usize),
@@ -25,7 +27,7 @@ pub enum Answer {
 
 // What the reader makes of a text beside the row: the answer, and of an accepted plan its deadline, its switch cost, how many leaves and functions
 // it has, the functions' bounds and their heights, filled up with 0. Of a refused text all numbers but the refusal's are 0.
-#[derive(Drop)]
+#[derive(Clone, Copy)]
 pub struct Raw {
     pub answer: Answer,
     pub deadline: u64,
@@ -37,7 +39,7 @@ pub struct Raw {
 }
 
 // What a line in a body does: it is refused by a number; it closes the body; or it is a leaf. With the place after it.
-#[derive(Drop)]
+#[derive(Clone, Copy)]
 enum Step {
     Stop(u64),
     Leave(usize),
@@ -45,14 +47,14 @@ enum Step {
 }
 
 // Whether the line that must come stands there, with the place after it.
-#[derive(Drop)]
+#[derive(Clone, Copy)]
 enum Sign {
     Missing,
     On(usize),
 }
 
 // What a line in the task is: a function's, or the closing bracket, with the place after it; or another.
-#[derive(Drop)]
+#[derive(Clone, Copy)]
 enum Member {
     Neither,
     Function(usize),
@@ -60,14 +62,14 @@ enum Member {
 }
 
 // What the first line is: a task's, with its D and T and the place after it; or refused by a number.
-#[derive(Drop)]
+#[derive(Clone, Copy)]
 enum Head {
     Not(u64),
     Opens(u64, u64, usize),
 }
 
 // How reading forms ends: refused by a number at a line; or read, with the place and the line after them, the leaves so far, and their height.
-#[derive(Drop)]
+#[derive(Clone, Copy)]
 enum Inside {
     Stopped(u64, usize),
     Closed(usize, usize, usize, u64),

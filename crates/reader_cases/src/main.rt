@@ -1,5 +1,7 @@
 // Reads the plans of document 01 and a text for each refusal, and prints for each text `accepted` with the number of leaves and functions, or `refused`
 // with the refusal's number and line. What must be printed is worked out by hand beside each text, and stands in the file stdout.
+#![tactic(auto)]
+
 ghost use Rattle.std.specs.Prelude.{◌≡◌, ◌≤◌, length, take};
 
 use libc::STDOUT_FILENO;

@@ -1,5 +1,7 @@
 // Replays a flight log on a plan and prints each answer (document 02, L1). The arguments name the plan's file and the log's, in that order. What cannot be
 // opened, read or written is said on standard error.
+#![tactic(auto)]
+
 ghost use Rattle.std.specs.Prelude.{◌≤◌, length};
 
 use print::{SIZE, refused_plan_line};
@@ -9,7 +11,7 @@ use table::{Head, no_head, read};
 use transcript::{ANSWERS, PIECE, Replay, close, feed, start};
 
 // What a piece of the log came to: whether there may be more of it, and what is carried on.
-#[derive(Drop)]
+#[derive(Clone, Copy)]
 struct Taken {
     more: bool,
     replay: Replay,

@@ -1,4 +1,6 @@
 // The delivered calls: the caller lends a row of leaf records, a head and a state.
+#![tactic(auto)]
+
 ghost use Rattle.std.specs.Prelude.{◌≡◌, ◌+◌, ◌*◌, ◌≤◌, ◌<◌, min, length, take};
 ghost use Rattle.std.proofs.lemmas.List.Edits.{sets};
 ghost use Rattle.table.specs.Reading.{verdict, verdict_of};
@@ -20,7 +22,7 @@ use table::{Head, Verdict, judge};
 // A leaf's record. Read from the plan: kind (0 leaf, 1 call, 2 loop, 3 if), point (1 or 0), costs alone and under load, bound of a loop or target of a
 // call, first leaf of an if's else part, first leaf after the form, level in its own function. Derived: turn, tail, stretch.
 #[repr(C)]
-#[derive(Drop)]
+#[derive(Clone, Copy)]
 pub struct Leaf {
     pub kind: u64,
     pub point: u64,
@@ -36,7 +38,7 @@ pub struct Leaf {
 }
 
 // What reading a plan answers, the head afterwards, and how many leaves go into the row.
-#[derive(Drop)]
+#[derive(Clone, Copy)]
 pub struct Filled {
     pub answer: Answer,
     pub head: Head,
@@ -47,7 +49,7 @@ pub struct Filled {
 // accepted reading, the level of the last point (0: none was reported), for each level the leaf reported last there and its earlier visits, and the
 // remaining time kept for each level. A fresh state is all zeros.
 #[repr(C)]
-#[derive(Drop)]
+#[derive(Clone, Copy)]
 pub struct State {
     pub running: u64,
     pub suspended: u64,
@@ -59,7 +61,7 @@ pub struct State {
 }
 
 // The answer of a call, and the state afterwards.
-#[derive(Drop)]
+#[derive(Clone, Copy)]
 pub struct Moved {
     pub answer: model::Answer,
     pub state: State,
@@ -67,7 +69,7 @@ pub struct Moved {
 
 // What reading a plan answers, as numbers: 0 where it is accepted, else the refusal's number and line.
 #[repr(C)]
-#[derive(Drop)]
+#[derive(Clone, Copy)]
 pub struct Ruling {
     pub number: u64,
     pub line: u64,
@@ -75,7 +77,7 @@ pub struct Ruling {
 
 // What a call answers, as numbers: the word (0 refused, 1 go, 2 suspend, 3 stay, 4 resume, 5 ended), a refusal's number, remaining, margin and late mark.
 #[repr(C)]
-#[derive(Drop)]
+#[derive(Clone, Copy)]
 pub struct Reply {
     pub word: u64,
     pub number: u64,

@@ -1,4 +1,6 @@
 // A plan's forms as a row of numbers, a record of eight for each leaf in text order: its fields, its kinds and its limits, for every crate.
+#![tactic(auto)]
+
 ghost use Rattle.std.specs.Prelude.{◌≡◌, length};
 ghost use Prim.Native.Nat.{◌+◌, ◌-◌, ◌*◌, ◌≤◌, ◌<◌};
 ghost use Rattle.rows.specs.Rows.{field, kind_at, after_at};

@@ -1,4 +1,6 @@
 // Reads a plan from standard input and prints its review sheet, or its refusal, to standard output (document 02, L5).
+#![tactic(auto)]
+
 use libc::{STDIN_FILENO, STDOUT_FILENO};
 use pages::{SHEET, sheet_text};
 use reader::TEXT;

@@ -1,4 +1,6 @@
 // Whether a row of numbers is the raw row of a plan that keeps rules 3 to 9 and 19.
+#![tactic(auto)]
+
 ghost use Rattle.std.specs.Prelude.{◌≡◌, true, false, List, [], length, get_or, take};
 ghost use Prim.Native.Nat.{ℕ, ◌+◌, ◌*◌, ◌≤◌, ◌<◌};
 ghost use Rattle.model.specs.Acceptance.{Called, Seen, SeenAll};

@@ -1,4 +1,6 @@
 // The table of a plan: made from a text, and checked.
+#![tactic(auto)]
+
 ghost use Rattle.std.specs.Prelude.{◌≡◌, ◌*◌, ◌≤◌, ◌<◌, length, take};
 ghost use Rattle.std.proofs.lemmas.List.Edits.{sets};
 ghost use Rattle.model.specs.Plan.{Plan};
@@ -18,7 +20,7 @@ use structure::{called, seen_all, structured};
 // What stands beside the row of leaf records: deadline and switch cost, the total and the max-load total, the stretch of the release, how many leaves
 // and functions there are, the functions' bounds, and their isolated totals.
 #[repr(C)]
-#[derive(Drop)]
+#[derive(Clone, Copy)]
 pub struct Head {
     pub deadline: u64,
     pub switch: u64,
@@ -32,7 +34,7 @@ pub struct Head {
 }
 
 // What reading a plan answers, and the head afterwards.
-#[derive(Drop)]
+#[derive(Clone, Copy)]
 pub struct Verdict {
     pub answer: Answer,
     pub head: Head,
@@ -56,7 +58,7 @@ pub fn no_head() -> Head
 }
 
 // The derived numbers beside the columns: whether rule 10 is kept and, if it is, both totals, the stretch of the release, and the functions' isolated totals.
-#[derive(Drop)]
+#[derive(Clone, Copy)]
 struct Derived {
     fits: bool,
     total: u64,

@@ -1,4 +1,6 @@
 // Reads a plan from standard input and prints its listing, or its refusal, to standard output (document 01, 'Plans worked through').
+#![tactic(auto)]
+
 use libc::{STDIN_FILENO, STDOUT_FILENO};
 use listing::{LISTING, list_text};
 use reader::TEXT;

@@ -1,12 +1,14 @@
 // Lines and patterns: whether the line at a place of a text fits a pattern, with its kind and its numbers; and the lines of a plan text, by a table of
 // patterns (document 01, 'A plan, one form a line').
+#![tactic(auto)]
+
 ghost use Rattle.std.specs.Prelude.{◌≡◌, true, false, ◌+◌, ◌*◌, ◌<◌, ◌≤◌, length, set, ltb};
 ghost use Rattle.text.specs.Patterns.{class_of, is_upper, MatchAt};
 ghost use Rattle.text.specs.Grammar.{read_at};
 ghost use Rattle.text.specs.Private.{DigitsTo, NumberAt, StandsAt, CapitalAt, LiteralStart, plain_line_at, block_line_at};
 
 // The lines of the grammar. The kind K is true for p, a point, and false for s, silent. Numbers over 2^41 are held at 2^41.
-#[derive(Drop)]
+#[derive(Clone, Copy)]
 pub enum Form {
     Task(u64, u64),
     Fun,
@@ -20,14 +22,14 @@ pub enum Form {
 }
 
 // A line of the text and where the next one begins; or no line of the grammar.
-#[derive(Drop)]
+#[derive(Clone, Copy)]
 pub enum Read {
     Unread,
     Line(Form, usize),
 }
 
 // What a line shows beside the numbers themselves: its kind; whether one of the numbers is over the limit; and how many there are.
-#[derive(Drop)]
+#[derive(Clone, Copy)]
 pub struct Shown {
     pub kind: bool,
     pub over: bool,
@@ -35,14 +37,14 @@ pub struct Shown {
 }
 
 // What a line has shown after a sign or a pattern that fits, and the place after it; or no fit.
-#[derive(Drop)]
+#[derive(Clone, Copy)]
 pub enum Fitted {
     Misfit,
     Fit(Shown, usize),
 }
 
 // A number that was read, or one over the limit, and the place after it; or no number.
-#[derive(Drop)]
+#[derive(Clone, Copy)]
 enum Num {
     No,
     Over(usize),

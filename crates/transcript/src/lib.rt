@@ -1,4 +1,6 @@
 // The replay of a flight log on a plan's table (document 02, L1): the log comes in pieces, and each line is answered.
+#![tactic(auto)]
+
 ghost use Rattle.std.specs.Prelude.{◌≡◌, ◌++◌};
 ghost use Rattle.table.specs.Table.{table_at, good};
 ghost use Rattle.print.specs.Printed.{PrintedWithin};
@@ -17,7 +19,7 @@ use table::{Head, check};
 
 // What is carried from piece to piece: the first bytes of the line being read and how many they are, the controller's state, and the ticks shared since the
 // release.
-#[derive(Drop)]
+#[derive(Clone, Copy)]
 pub struct Replay {
     pub line: [u8; HELD],
     pub held: usize,
@@ -26,14 +28,14 @@ pub struct Replay {
 }
 
 // How many bytes of the buffer are answers, and what is carried on.
-#[derive(Drop)]
+#[derive(Clone, Copy)]
 pub struct Fed {
     pub size: usize,
     pub replay: Replay,
 }
 
 // What the lines so far came to: the place after their answers in the buffer, the state and the ticks shared since the release.
-#[derive(Drop)]
+#[derive(Clone, Copy)]
 struct Told {
     next: usize,
     state: State,
