@@ -6,8 +6,7 @@ use Prim.Native.Nat.{ℕ, ◌+◌, ◌-◌, ◌*◌, ◌≤◌}
 use lib.Dec.{ltb}
 use borrow.Author.Tests.{le-ltb, lt-ltb}
 use borrow.Author.Rules.{rules}
-use Rattle.text.proofs.exceeds.Statement.{statement}
-use Rattle.text.proofs.exceeds.Tie as tie
+use Rattle.text.proofs.exceeds.Goals as goal
 
 -- The difference to the limit has no room for the digit exactly where the sum is over the limit.
 room : (v d limit : ℕ) → v * 10 ≤ limit → ltb (limit - v * 10) d ≡ ltb limit (v * 10 + d)
@@ -17,17 +16,8 @@ room v d limit h =
       | no g ↦ lt-ltb (limit - v * 10) d (omega arith) ∙ sym (lt-ltb limit (v * 10 + d) (omega arith))
     ]
 
-returns : tie.Need-returns
-returns c = sym (lt-ltb c.before.args.limit (c.before.args.v * 10 + c.before.args.d) (omega arith))
+pub returns-then-limit-v : goal.returns-then-limit-v
+returns-then-limit-v c = sym (lt-ltb c.args.limit (c.args.v * 10 + c.args.d) (omega arith))
 
-mul-result : tie.Need-overflow-mul-result
-mul-result c = search rules
-
-sub-result : tie.Need-overflow-sub-result
-sub-result c = search rules
-
-returns-2 : tie.Need-returns-2
-returns-2 c = room c.before.args.v c.before.args.d c.before.args.limit (omega arith)
-
-pub exceeds-spec : {M : Type 1} → statement M
-exceeds-spec = tie.close (tie.spec returns mul-result sub-result returns-2)
+pub returns : goal.returns
+returns c = room c.args.v c.args.d c.args.limit (omega arith)
