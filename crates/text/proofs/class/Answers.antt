@@ -27,17 +27,3 @@ returns-in-48-to-57 c = let byte : ℕ = c.args.b in  sym (digit_class byte (ome
 pub returns-in-97-to-122 : goal.returns-in-97-to-122
 returns-in-97-to-122 c = let byte : ℕ = c.args.b in  sym (small_class byte (omega arith) (omega arith))
 
-pub returns-in_default : goal.returns-in_default
-returns-in_default c =
-    let byte : ℕ = c.args.b in
-    let other : (byte < 48) ⊎ (57 < byte) → (byte < 97) ⊎ (122 < byte) → 6 ≡ class_of byte = λ no_digit no_small. let n = c.in_default-1.rest in sym (other_class byte no_digit no_small n.0.0.0.1 n.0.0.1 n.0.1 n.1) in  other (inl (omega arith)) (inl (omega arith))
-
-pub returns-in_default-2 : goal.returns-in_default-2
-returns-in_default-2 c =
-    let byte : ℕ = c.args.b in
-    let other : (byte < 48) ⊎ (57 < byte) → (byte < 97) ⊎ (122 < byte) → 6 ≡ class_of byte = λ no_digit no_small. let n = c.in_default-1.rest in sym (other_class byte no_digit no_small n.0.0.0.1 n.0.0.1 n.0.1 n.1) in  other (inr (omega arith)) (inl (omega arith))
-
-pub returns-in_default-3 : goal.returns-in_default-3
-returns-in_default-3 c =
-    let byte : ℕ = c.args.b in
-    let other : (byte < 48) ⊎ (57 < byte) → (byte < 97) ⊎ (122 < byte) → 6 ≡ class_of byte = λ no_digit no_small. let n = c.in_default-1.rest in sym (other_class byte no_digit no_small n.0.0.0.1 n.0.0.1 n.0.1 n.1) in  other (inr (omega arith)) (inr (omega arith))

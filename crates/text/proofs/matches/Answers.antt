@@ -10,6 +10,7 @@ use Rattle.text.specs.Private.{StandsAt, CapitalAt}
 use Rattle.text.proofs.Classes.{class_feed, class_no_feed}
 use Rattle.text.proofs.Laws.{Matching, match_begins, sign_step, capital_step, match_miss, match_short, match_long, match_whole, row_long}
 use Rattle.text.proofs.matches.Goals as goal
+use Rattle.text.proofs.matches.Goals.{then-is_upper+in-Fit, else-is_upper+then-stands}
 
 pub loop-j-init : goal.loop-j-init
 loop-j-init c = match_begins _ _ _ _ _
@@ -48,10 +49,10 @@ returns-else-stands c =
 pub loop-j-preserved : goal.loop-j-preserved
 loop-j-preserved c =
     let m = c.loop-j.invariant in
-    ⊎_elim
-    (λ w. rw (w.8, w.9, w.10) (capital_step m (omega arith) (subst (CapitalAt _ _ _ _ _ _ _) w.6.given.1 w.2.ensures)))
-    (λ w. rw (w.3, w.4, w.5) (sign_step m (omega arith) (subst (StandsAt _ _ _) w.2.taken w.1.ensures)))
-    c.if-is_upper.branch
+    elim c.if-is_upper.branch [
+      then-is_upper+in-Fit w ↦ rw (w.row-is, w.f-is, w.i-is) (capital_step m (omega arith) (subst (CapitalAt _ _ _ _ _ _ _) w.in-Fit.is w.capital.ensures))
+      | else-is_upper+then-stands w ↦ rw (w.row-is, w.f-is, w.i-is) (sign_step m (omega arith) (subst (StandsAt _ _ _) w.if-stands.true w.stands.ensures))
+    ]
 
 pub shape_of-row-then-text-i : goal.shape_of-row-then-text-i
 shape_of-row-then-text-i c = row_long c.loop-j.invariant

@@ -26,14 +26,12 @@ pub returns-then-b-t : goal.returns-then-b-t
 returns-then-b-t c = item_other _ _ (omega arith) _ (no_kind _ c.requires) c.requires c.if-b-t.true
 
 pub returns : goal.returns
-returns c =
-    let sign : ℕ = c.args.t in
-    let byte : ℕ = get_or c.args.text.now c.args.at 0 in  go (eqb sign 10) refl
+returns c = go (eqb c.args.t 10) refl
   where
-    go : (b : Bool) → eqb sign 10 ≡ b → StandsAt c.args.text.now c.args.at sign (not b)
-    go true e = item_feed _ _ (omega arith) _ (c.if-b-t.false ∙ eqb-true sign 10 e)
+    go : (b : Bool) → eqb c.args.t 10 ≡ b → StandsAt c.args.text.now c.args.at c.args.t (not b)
+    go true e = item_feed _ _ (omega arith) _ (c.if-b-t.false ∙ eqb-true c.args.t 10 e)
     go false e =
-        let plain : (byte ≡ 10 → ⊥) = λ z. eqb-false sign 10 e (sym c.if-b-t.false ∙ z) in (
+        let plain : (get_or c.args.text.now c.args.at 0 ≡ 10 → ⊥) = λ z. eqb-false c.args.t 10 e (sym c.if-b-t.false ∙ z) in (
           item_same _ _ (omega arith) _ plain (no_kind _ c.requires) c.requires c.if-b-t.false,
           one_on _ _ (omega arith) plain,
         )

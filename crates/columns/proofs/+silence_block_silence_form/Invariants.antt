@@ -1,0 +1,28 @@
+-- `columns::silence_block` and `columns::silence_form`, which call each other, meet their contracts. Assumes nothing.
+use Rattle.columns.proofs.Silences.{not-true, through_point, through_plain, through_if, SilenceSoFar, walk_start, walk_low, walk_next, walk_shut, walk_end}
+use Rattle.columns.proofs.Readiness.{then_sized, else_sized, first_ready}
+use Rattle.columns.proofs.Sizes.{kind_low, if_three}
+use Rattle.columns.specs.Private.{Sized}
+use Rattle.rows.proofs.Shape.{ends, parts}
+use Rattle.model.specs.Static.{line_silence}
+use Rattle.model.specs.Total.{tally}
+use Rattle.columns.specs.Sums.{cost_in}
+use Rattle.columns.proofs.Capped.{cost_le}
+use Rattle.rows.specs.Rows.{block_at}
+use Prim.Native.Nat.{ℕ, ◌+◌, ◌-◌, ◌<◌}
+use borrow.Author.Rules.{rules}
+use native.Mathlib.Omega.{arith}
+use Prim.Native.Nat.{ℕ, ◌<◌}
+use Rattle.columns.proofs.+silence_block_silence_form.Given as goal
+
+abbrev pub decreases-silence_block : goal.decreases-silence_block
+decreases-silence_block l = l.left + l.left + 1
+
+abbrev pub decreases-silence_form : goal.decreases-silence_form
+decreases-silence_form l = l.left + l.left
+
+abbrev pub invariant-silence_block-loop-i : goal.invariant-silence_block-loop-i
+invariant-silence_block-loop-i l = (p : Sized (cost_in l.column) l.row l.sums l.turn l.left l.from l.to 0) → SilenceSoFar (cost_in l.column) l.row l.sums l.turn l.left l.i l.to l.acc (λ s. line_silence (cost_in l.column) l.sums p.forms.part.lines s) (tally (cost_in l.column) l.sums p.forms.part.lines)
+
+abbrev pub decreases-silence_block-loop-i : goal.decreases-silence_block-loop-i
+decreases-silence_block-loop-i l = l.to - l.i

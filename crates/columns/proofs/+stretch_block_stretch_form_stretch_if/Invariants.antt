@@ -1,0 +1,34 @@
+-- `columns::stretch_block`, `columns::stretch_form` and `columns::stretch_if`, which call one another, meet their contracts. Assumes nothing.
+use Rattle.columns.proofs.Widening as wide
+use Rattle.columns.proofs.Backing.{kept_all, kept_both, no_later, Back, back_start, back_on, back_end, listed_at}
+use Rattle.columns.proofs.Readiness.{body_sized, body_low, then_sized, else_sized, ready_zero, later_ready}
+use Rattle.columns.proofs.Sizes.{kind_low, if_three, if_lead}
+use Rattle.columns.specs.Stretches.{stretch_rule, follow_calls}
+use Rattle.columns.specs.Private.{silence_of, head_at, sibling, later, Kept, Sized}
+use Rattle.columns.specs.Sums.{lead, cost_in}
+use Rattle.columns.proofs.Capped.{cost_le}
+use Rattle.rows.proofs.Shape.{loop_at, ends, parts}
+use Rattle.rows.specs.Rows.{block_at}
+use Rattle.model.specs.Static.{line_silence}
+use Rattle.model.specs.Total.{tally}
+use lib.ListN.{get_or}
+use Prim.Native.Nat.{ℕ, suc, ◌+◌, ◌-◌, ◌≤◌, ◌<◌}
+use mathlib.Core.Path.{◌≡◌, refl, ◌∙◌}
+use borrow.Author.Rules.{rules}
+use native.Mathlib.Omega.{arith}
+use Rattle.columns.proofs.+stretch_block_stretch_form_stretch_if.Given as goal
+
+abbrev pub decreases-stretch_block : goal.decreases-stretch_block
+decreases-stretch_block l = l.left + l.left + l.left + 2
+
+abbrev pub decreases-stretch_form : goal.decreases-stretch_form
+decreases-stretch_form l = l.left + l.left + l.left + 1
+
+abbrev pub decreases-stretch_if : goal.decreases-stretch_if
+decreases-stretch_if l = l.left + l.left + l.left
+
+abbrev pub invariant-stretch_block-loop-n : goal.invariant-stretch_block-loop-n
+invariant-stretch_block-loop-n l = (l.n ≤ l.initial.n) × Kept (l.from + l.n) l.initial.seq l.seq × ((p : Sized (cost_in l.column) l.row l.sums l.turn l.left l.from l.to l.s) → Back (stretch_rule (cost_in l.column) l.sums (λ f y. silence_of (head_at l.heads f) y)) l.row l.from p.forms.part.lines l.s l.n l.t l.out l.initial.out) × ((p : Sized (cost_in l.column) l.row l.sums l.turn l.left l.from l.to l.s) → l.follows ≡ follow_calls (cost_in l.column) l.sums (later l.n p.forms.part.lines) l.s l.initial.follows)
+
+abbrev pub decreases-stretch_block-loop-n : goal.decreases-stretch_block-loop-n
+decreases-stretch_block-loop-n l = l.n

@@ -1,0 +1,12 @@
+-- `columns::list` meets its contract. Assumes nothing.
+use Rattle.columns.proofs.Listing.{Listing, list_start, list_next, listed, later_part}
+use Rattle.rows.proofs.Shape.{rep_le, flat_end}
+use Prim.Native.Nat.{◌-◌}
+use native.Mathlib.Omega.{arith}
+use Rattle.columns.proofs.list.Given as goal
+
+abbrev pub invariant-loop-i : goal.invariant-loop-i
+invariant-loop-i l = Listing l.row l.from l.to l.n l.i l.seq l.initial.seq
+
+abbrev pub decreases-loop-i : goal.decreases-loop-i
+decreases-loop-i l = l.to - l.i
