@@ -10,38 +10,31 @@ use borrow.Author.Rules.{rules}
 use mir.Val.{Fits, SFits}
 use mir.Syntax.{w64}
 use Rattle.print.proofs.Signed.{Below, below, above_cast}
-use Rattle.print.proofs.size.Statement.{statement}
-use Rattle.print.proofs.size.Tie as tie
+use Rattle.print.proofs.size.Goals as goal
 
--- What the test tells where it is taken.
-negative : (c : tie.Then1) → Below c.before.args.z
-negative c = below c.before.args.z c.before.ranges.z c.if1.true
-
-sub-result : tie.Need-overflow-sub-result
-sub-result c =
-    let b = negative c in
+pub overflow_sub-result : goal.overflow_sub-result
+overflow_sub-result c =
+    let negative : Below c.args.z = below c.args.z c.ranges.z c.if-z-lt0.true in 
+    let b = negative in
     subst (λ (y : ℤ). SFits w64 y) (sym b.distance) (record { sfits = b.small })
 
-cast-result : tie.Need-overflow-cast-result
-cast-result c =
-    let b = negative c in
+pub overflow_cast-result : goal.overflow_cast-result
+overflow_cast-result c =
+    let negative : Below c.args.z = below c.args.z c.ranges.z c.if-z-lt0.true in 
+    let b = negative in
     subst (λ (y : ℤ). T (non_neg y) × Fits w64 (nat_abs y)) (sym b.distance_read) (tt, record { fits = omega (arith, b.small) })
 
-add-result : tie.Need-overflow-add-result
-add-result c =
-    let b = negative c in
+pub overflow_add-result : goal.overflow_add-result
+overflow_add-result c =
+    let negative : Below c.args.z = below c.args.z c.ranges.z c.if-z-lt0.true in 
+    let b = negative in
     subst (λ (y : ℤ). Fits w64 (nat_abs y + 1)) (sym b.distance_read) (record { fits = omega (arith, b.small) })
 
-returns : tie.Need-returns
-returns c =
-    let b = negative c in
+pub returns-then-z-lt0 : goal.returns-then-z-lt0
+returns-then-z-lt0 c =
+    let negative : Below c.args.z = below c.args.z c.ranges.z c.if-z-lt0.true in 
+    let b = negative in
     ap (λ (y : ℤ). nat_abs y + 1) b.distance_read ∙ add-one b.far ∙ sym (ap nat_abs b.is)
 
-cast-result-2 : tie.Need-overflow-cast-result-2
-cast-result-2 c = above_cast c.before.args.z c.before.ranges.z c.if1.false
-
-returns-2 : tie.Need-returns-2
-returns-2 c = search rules
-
-pub size-spec : {M : Type 1} → statement M
-size-spec = tie.close (tie.spec sub-result cast-result add-result returns cast-result-2 returns-2)
+pub overflow_cast-result-2 : goal.overflow_cast-result-2
+overflow_cast-result-2 c = above_cast c.args.z c.ranges.z c.if-z-lt0.false
