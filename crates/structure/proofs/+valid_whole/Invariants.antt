@@ -1,0 +1,22 @@
+use Rattle.structure.proofs.Deciding.{head_of, head_sound, head_flat, head_loop, head_if, head_body, head_then, head_else, join, nothing}
+use Rattle.rows.proofs.Shape.{rep_le, after, flat_end}
+use Rattle.rows.specs.Rows.{Part}
+use Prim.Native.Nat.{◌+◌, ◌-◌, ℕ, ◌<◌}
+use mathlib.Core.Path.{◌∙◌, sym}
+use native.Mathlib.Omega.{arith}
+use borrow.Author.Tests.{not-true, not-false}
+use borrow.Author.Rules.{rules}
+use Rattle.rows.proofs.Answers.{said_true, said_false, same_answer}
+use Rattle.structure.proofs.+valid_whole.Given as goal
+
+abbrev pub decreases-valid : goal.decreases-valid
+decreases-valid l = l.left + l.left + 1
+
+abbrev pub decreases-whole : goal.decreases-whole
+decreases-whole l = l.left + l.left
+
+abbrev pub invariant-valid-loop-i : goal.invariant-valid-loop-i
+invariant-valid-loop-i l = (Part l.row l.hs l.left l.l l.i l.to → Part l.row l.hs l.left l.l l.from l.to) × (Part l.row l.hs l.left l.l l.from l.to → Part l.row l.hs l.left l.l l.i l.to)
+
+abbrev pub decreases-valid-loop-i : goal.decreases-valid-loop-i
+decreases-valid-loop-i l = l.to - l.i

@@ -1,0 +1,13 @@
+use Rattle.structure.proofs.Levels.{Highest, highest_none, highest_more, height_reached, readable}
+use Rattle.rows.proofs.Shape.{rep_le}
+use Prim.Native.Nat.{◌-◌, ◌≤◌}
+use mathlib.Core.Path.{◌≡◌}
+use borrow.Author.Rules.{rules}
+use native.Mathlib.Omega.{arith}
+use Rattle.structure.proofs.tall.Given as goal
+
+abbrev pub invariant-loop-i : goal.invariant-loop-i
+invariant-loop-i l = Highest l.row l.hs l.from l.i l.h × (l.from ≤ l.i) × (l.i ≤ l.to)
+
+abbrev pub decreases-loop-i : goal.decreases-loop-i
+decreases-loop-i l = l.to - l.i

@@ -1,0 +1,13 @@
+use lib.ListN.{get_or}
+use Prim.Native.Nat.{ℕ, ◌-◌, ◌≤◌, ◌<◌}
+use mathlib.Core.Path.{◌≡◌, ◌∙◌, sym}
+use borrow.Author.Rules.{rules}
+use native.Mathlib.Decide.{dec_lt}
+use native.Mathlib.Omega.{arith}
+use Rattle.structure.proofs.unused.Given as goal
+
+abbrev pub invariant-loop-f : goal.invariant-loop-f
+invariant-loop-f l = (l.n < l.f) × (l.f ≤ 17) × ((k : ℕ) → l.n < k → k < l.f → get_or l.starts k 0 ≡ 0)
+
+abbrev pub decreases-loop-f : goal.decreases-loop-f
+decreases-loop-f l = 17 - l.f
