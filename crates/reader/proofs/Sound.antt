@@ -86,7 +86,7 @@ module _ (room : ℕ) where
   Asked S n f = Allowed room (brackets S) (level S) n (heights [] (functions_of S)) f
 
   -- A step keeps it.
-  kept : {S S' : ParserState} {n : ℕ} {f : Form} → Step S n f S' → Inv S n → Asked S n f → Inv S' (counted n f)
+  kept : {S : ParserState} {n : ℕ} {f : Form} {S' : ParserState} → Step S n f S' → Inv S n → Asked S n f → Inv S' (counted n f)
   unfolding Inv Open base brackets level functions_of Good GoodAll size sizes brackets_in level_in
   kept opens_task e (a, b, c, d) = (record { low = a; high = b; cost = c; few = omega arith; all = tt }, e)
   kept (opens_fun {p = p}) (h, e) (a, b) = ((h, omega (arith, heights_length [] p.functions)), tt, omega arith)

@@ -137,7 +137,7 @@ pub stepped : {S S' : ParserState} {n : ℕ} {f : Form} → next S n f ≡ to S'
 stepped {S} {S'} {n} {f} e = subst (λ x. Moved S n f x) e (moved S n f)
 
 -- A step adds its form to those that were read.
-pub before_step : {S S' : ParserState} {n : ℕ} {f : Form} → Step S n f S' → before S' ≡ before S ++ (f ∷ [])
+pub before_step : {S : ParserState} {n : ℕ} {f : Form} {S' : ParserState} → Step S n f S' → before S' ≡ before S ++ (f ∷ [])
 unfolding before opening forms_in forms_all forms_of
 before_step opens_task = refl
 before_step (opens_fun {p = p}) = append-nil (Task p.deadline p.switch ∷ (forms_all p.functions ++ (Fun ∷ [])))
