@@ -47,7 +47,7 @@ innermost_in (in_then b hs K) = refl
 innermost_in (in_else b ts hs K) = refl
 
 -- A step opens and closes what its line does.
-brackets_step : {S S' : ParserState} {n : ℕ} {f : Form} → Step S n f S' → brackets_behind f (levels_at S) ≡ levels_at S'
+brackets_step : {S : ParserState} {n : ℕ} {f : Form} {S' : ParserState} → Step S n f S' → brackets_behind f (levels_at S) ≡ levels_at S'
 unfolding levels_at levels_in level_in
 brackets_step opens_task = refl
 brackets_step opens_fun = refl
@@ -111,7 +111,7 @@ functions_in (await_else p K b ts fs) = length p.functions + 1
 functions_in (await_close p K b ts es fs) = length p.functions + 1
 functions_in (done p) = length p.functions
 
-functions_step : {S S' : ParserState} {n : ℕ} {f : Form} → Step S n f S' → (es : List Form) → functions_among es ≡ functions_in S →
+functions_step : {S : ParserState} {n : ℕ} {f : Form} {S' : ParserState} → Step S n f S' → (es : List Form) → functions_among es ≡ functions_in S →
     functions_among (f ∷ es) ≡ functions_in S'
 unfolding functions_in functions_among
 functions_step opens_task es e = e
@@ -306,7 +306,7 @@ get_d_front [] x F h = absurd (omega arith)
 get_d_front (k ∷ hs) x zero h = refl
 get_d_front (k ∷ hs) x (suc F) h = get_d_front hs x F (omega arith)
 
-talls_step : {S S' : ParserState} {n : ℕ} {f : Form} → Step S n f S' → NamesClosed S f → (F : ℕ) →
+talls_step : {S : ParserState} {n : ℕ} {f : Form} {S' : ParserState} → Step S n f S' → NamesClosed S f → (F : ℕ) →
     get_or (talls S') F 0 ≡ max (get_or (talls S) F 0) (pick (eqb F (functions_in S - 1)) (highest (innermost (levels_at S)) (λ G. get_or (talls S) G 0) f) 0)
 unfolding talls peak under height heights functions_in levels_at functions_of
 talls_step opens_task h F = same 0 (eqb F 0)

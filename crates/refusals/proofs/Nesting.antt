@@ -23,7 +23,7 @@ Held (await_else p K b ts fs) = Unit
 Held (await_close p K b ts es fs) = Unit
 Held (done p) = 1 ≤ length p.functions
 
-pub held_step : {S S' : ParserState} {n : ℕ} {f : Form} → Step S n f S' → Held S'
+pub held_step : {S : ParserState} {n : ℕ} {f : Form} {S' : ParserState} → Step S n f S' → Held S'
 held_step opens_task = tt
 held_step opens_fun = tt
 held_step (closes_task h) = h

@@ -33,7 +33,7 @@ at_body p K fs a = record {
   heights_are = λ F h. a.tall F ∙ get_d_front (heights [] p.functions) (peak (heights [] p.functions) K fs) F h;
 }
 
-at_leaf : {S S' : ParserState} {n c m : ℕ} {k : Bool} {f : Form} {es : List Form} → LeafLine f k c m → Step S n f S' → Agrees S n es →
+at_leaf : {S : ParserState} {n c m : ℕ} {k : Bool} {f : Form} {S' : ParserState} {es : List Form} → LeafLine f k c m → Step S n f S' → Agrees S n es →
     AtLeaf es (level S) (heights [] (functions_of S))
 at_leaf of_leaf (leaf {p = p} {K = K} {fs = fs}) a = at_body p K fs a
 at_leaf of_call (call {p = p} {K = K} {fs = fs}) a = at_body p K fs a
@@ -44,9 +44,9 @@ at_fun : {S S' : ParserState} {n : ℕ} → Step S n Fun S' → length (heights 
 unfolding functions_of functions_in
 at_fun (opens_fun {p = p}) = omega (arith, heights_length [] p.functions)
 
-values : {S S' : ParserState} {n : ℕ} {f : Form} {es : List Form} → Agrees S n es → Step S n f S' →
+values : {S : ParserState} {n : ℕ} {f : Form} {S' : ParserState} {es : List Form} → Agrees S n es → Step S n f S' →
     Values es f (brackets S) (level S) n (heights [] (functions_of S))
-values {S} {S'} {n} a s = record {
+values {S} {n = n} {S' = S'} a s = record {
   brackets_are = brackets_at S ∙ ap length (sym a.brackets_are);
   leaves_are = a.leaves;
   functions_are = λ q. at_fun (subst (λ g. Step S n g S') q s) ∙ sym a.functions;
