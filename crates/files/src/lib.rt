@@ -28,7 +28,7 @@ pub struct Got {
 // The longest name of a text, in bytes, and one more.
 pub const NAME: usize = 4096;
 
-// The argument behind those that a program with two texts has, its own name among them.
+// How many arguments a program with two texts has, its own name among them.
 const ARGUMENTS: usize = 3;
 
 // How often a read that a signal interrupts is made again, at most.
@@ -81,7 +81,7 @@ pub fn two_names(rt: &HostRuntime, usage: &[u8]) -> bool {
     false
 }
 
-// Says whether the program was started with an argument of this number, however long; of the buffer nothing is kept.
+// Says whether the program was started with an argument of this number, however long. The name goes into the buffer, as far as it fits.
 fn has_argument(rt: &HostRuntime, argument: usize, name: &mut [u8]) -> bool {
     !matches!(rt.arg(argument, name), Err(FillError::NotPresent))
 }
