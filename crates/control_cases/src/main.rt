@@ -3,31 +3,32 @@
 #![tactic(auto)]
 
 use control::{call, call_from, fresh};
-use libc::STDOUT_FILENO;
 use model::Answer;
 use print::{SIZE, answer_line};
 use rows::{MAX_LEAVES, ROW};
+use std::io;
 use table::{Head, no_head, read};
 
 // The most calls of a list. A call in a list is three numbers: its kind (0 release, 1 report, 2 end), the point, and the reading.
 const CALLS: usize = 7;
 
 // Prints an answer.
-fn show(answer: Answer) {
+fn show(rt: &impl Print, answer: Answer) -> io::Result<()> {
     let mut out = [0; SIZE];
     let size = answer_line(&mut out, 0, answer);
-    io::write_all(STDOUT_FILENO, &out[..size]);
+    rt.write_all(&out[..size])
 }
 
 // Plays a list of at most seven calls on a table from a fresh state, and prints the answers.
 fn play_on(
+    rt: &impl Print,
     row: &[u64; ROW],
     turns: &[u64; MAX_LEAVES],
     tails: &[u64; MAX_LEAVES],
     stretches: &[u64; MAX_LEAVES],
     head: Head,
     calls: &[u64],
-) {
+) -> io::Result<()> {
     let mut state = fresh();
     for k in 0..CALLS {
         let i = k * 3;
@@ -35,14 +36,15 @@ fn play_on(
             let next = call_from(calls[i], calls[i + 1], calls[i + 2]);
             let step = call(row, turns, tails, stretches, head, state, next);
             let answer = step.answer;
-            show(answer);
+            show(rt, answer)?;
             state = step.state;
         }
     }
+    Ok(())
 }
 
 // Reads a plan, and plays a list of calls on its table.
-fn play(text: &[u8], calls: &[u64]) {
+fn play(rt: &impl Print, text: &[u8], calls: &[u64]) -> io::Result<()> {
     let mut row = [0; ROW];
     let mut turns = [0; MAX_LEAVES];
     let mut tails = [0; MAX_LEAVES];
@@ -57,85 +59,96 @@ fn play(text: &[u8], calls: &[u64]) {
         no_head(),
     );
     let head = verdict.head;
-    play_on(&row, &turns, &tails, &stretches, head, calls);
+    play_on(rt, &row, &turns, &tails, &stretches, head, calls)
 }
 
 // Plays the release of a plan.
-fn release(text: &[u8]) {
-    play(text, &[0, 0, 0]);
+fn release(rt: &impl Print, text: &[u8]) -> io::Result<()> {
+    play(rt, text, &[0, 0, 0])
 }
 
 // Plan A: D 100, T 4; stretches 0 (release), 9 and 24. The margin is 100 less reading, remaining, stretch and 4; at the fourth visit of the loop, behind
 // which no point can come, 100 less reading and 24.
-fn plan_a(calls: &[u64]) {
+fn plan_a(rt: &impl Print, calls: &[u64]) -> io::Result<()> {
     play(
+        rt,
         b"(task 100 4\n(fun\n(leaf p 5 9)\n(loop p 3 2 4\n(leaf s 10 20)\n)\n(leaf s 6 8)\n)\n)\n",
         calls,
-    );
+    )
 }
 
 // Plan B: D 200, T 5; stretches 0 (release), 4, 13, 2 and 2 of the points 0, 1, 2 and 4. No point can come behind 1, 4, 0.
-fn plan_b(calls: &[u64]) {
+fn plan_b(rt: &impl Print, calls: &[u64]) -> io::Result<()> {
     play(
+        rt,
         b"(task 200 5\n(fun\n(leaf p 3 4)\n)\n(fun\n(if p 2 3\n(then\n(call p 0 1 2)\n)\n(else\n(leaf s 9 10)\n)\n)\n(call p 0 1 2)\n)\n)\n",
         calls,
-    );
+    )
 }
 
 // Plays a run in which the others are never suspended, and a visit of the loop's condition too many.
-fn rounds_of_a() {
+fn rounds_of_a(rt: &impl Print) -> io::Result<()> {
     // m1, m4 and the first half of m5: go 49 47, go 49 38, go 44 19, go 32 7, go 20 2, go 8 0; a fifth visit is 17.
-    plan_a(&[
-        0, 0, 0, 1, 0, 0, 1, 1, 9, 1, 1, 33, 1, 1, 50, 1, 1, 76, 1, 1, 76,
-    ]);
+    plan_a(
+        rt,
+        &[
+            0, 0, 0, 1, 0, 0, 1, 1, 9, 1, 1, 33, 1, 1, 50, 1, 1, 76, 1, 1, 76,
+        ],
+    )
 }
 
 // Plays the loop's first visit at the last reading that goes on, and one tick later.
-fn edge_of_a() {
+fn edge_of_a(rt: &impl Print) -> io::Result<()> {
     // m2: at 28 go 44 0.
-    plan_a(&[0, 0, 0, 1, 0, 0, 1, 1, 28]);
+    plan_a(rt, &[0, 0, 0, 1, 0, 0, 1, 1, 28])?;
     // And at 29 suspend 44 -1.
-    plan_a(&[0, 0, 0, 1, 0, 0, 1, 1, 29]);
+    plan_a(rt, &[0, 0, 0, 1, 0, 0, 1, 1, 29])
 }
 
 // Plays runs that suspend the others.
-fn suspensions_of_a() {
+fn suspensions_of_a(rt: &impl Print) -> io::Result<()> {
     // m3: visit 3 at 57 gives suspend 20 -5, visit 4 at 73 stay 8 3, and the end at 81 resumes.
-    plan_a(&[
-        0, 0, 0, 1, 0, 0, 1, 1, 9, 1, 1, 33, 1, 1, 57, 1, 1, 73, 2, 0, 81,
-    ]);
+    plan_a(
+        rt,
+        &[
+            0, 0, 0, 1, 0, 0, 1, 1, 9, 1, 1, 33, 1, 1, 57, 1, 1, 73, 2, 0, 81,
+        ],
+    )?;
     // m5: visit 4 at 77 gives suspend 8 -1.
-    plan_a(&[0, 0, 0, 1, 0, 0, 1, 1, 9, 1, 1, 33, 1, 1, 50, 1, 1, 77]);
+    plan_a(
+        rt,
+        &[0, 0, 0, 1, 0, 0, 1, 1, 9, 1, 1, 33, 1, 1, 50, 1, 1, 77],
+    )
 }
 
 // m1 to m5.
-fn cases_of_a() {
-    rounds_of_a();
-    edge_of_a();
-    suspensions_of_a();
+fn cases_of_a(rt: &impl Print) -> io::Result<()> {
+    rounds_of_a(rt)?;
+    edge_of_a(rt)?;
+    suspensions_of_a(rt)
 }
 
 // m6 to m9.
-fn cases_of_b() {
+fn cases_of_b(rt: &impl Print) -> io::Result<()> {
     // m6 to m9: go 15 180, go 15 167, go 4 189, go 3 196, ended.
-    plan_b(&[0, 0, 0, 1, 1, 0, 1, 4, 0, 1, 0, 0, 2, 0, 9]);
+    plan_b(rt, &[0, 0, 0, 1, 1, 0, 1, 4, 0, 1, 0, 0, 2, 0, 9])?;
     // m8 and m9: go 15 180, go 15 167, then point 0 is 17, then go 8 185 and go 7 184.
-    plan_b(&[0, 0, 0, 1, 1, 0, 1, 0, 0, 1, 2, 0, 1, 0, 0]);
+    plan_b(rt, &[0, 0, 0, 1, 1, 0, 1, 0, 0, 1, 2, 0, 1, 0, 0])
 }
 
 // m10 to m12.
-fn smallest_cases() {
+fn smallest_cases(rt: &impl Print) -> io::Result<()> {
     // m10: D 9 is 13.
-    release(b"(task 9 3\n(fun\n(leaf s 7 9)\n)\n)\n");
+    release(rt, b"(task 9 3\n(fun\n(leaf s 7 9)\n)\n)\n")?;
     // m11: D 10 gives go 7 1, and D 18 go 7 9.
-    release(b"(task 10 3\n(fun\n(leaf s 7 9)\n)\n)\n");
-    release(b"(task 18 3\n(fun\n(leaf s 7 9)\n)\n)\n");
+    release(rt, b"(task 10 3\n(fun\n(leaf s 7 9)\n)\n)\n")?;
+    release(rt, b"(task 18 3\n(fun\n(leaf s 7 9)\n)\n)\n")?;
     // m12: D 19 gives go 7 10.
-    release(b"(task 19 3\n(fun\n(leaf s 7 9)\n)\n)\n");
+    release(rt, b"(task 19 3\n(fun\n(leaf s 7 9)\n)\n)\n")
 }
 
-fn main() {
-    cases_of_a();
-    cases_of_b();
-    smallest_cases();
+fn main(rt: HostRuntime) -> io::Result<()> {
+    cases_of_a(&rt)?;
+    cases_of_b(&rt)?;
+    smallest_cases(&rt)
 }

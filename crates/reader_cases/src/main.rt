@@ -4,34 +4,31 @@
 
 ghost use Rattle.std.specs.Prelude.{◌≡◌, ◌≤◌, length, take};
 
-use libc::STDOUT_FILENO;
 use print::put_bytes;
 use reader::{Answer, read_raw};
 use rows::ROW;
+use std::io;
 
 // Reads a text into a row of which so many records may be used, and prints the answer.
-fn show(text: &[u8], capacity: usize) {
+fn show(rt: &impl Print, text: &[u8], capacity: usize) -> io::Result<()> {
     let mut row = [0; ROW];
     let raw = read_raw(text, capacity, &mut row);
     let answer = raw.answer;
     match answer {
         Answer::Accepted => {
-            io::write_all(STDOUT_FILENO, b"accepted ");
-            print_two(raw.leaves as u64, raw.functions as u64);
+            print!(rt; "accepted ")?;
+            print_two(rt, raw.leaves as u64, raw.functions as u64)
         }
         Answer::Refused(k, j) => {
-            io::write_all(STDOUT_FILENO, b"refused ");
-            print_two(k, j as u64);
+            print!(rt; "refused ")?;
+            print_two(rt, k, j as u64)
         }
     }
 }
 
 // Prints two numbers and a line feed.
-fn print_two(a: u64, b: u64) {
-    io::print_decimal(STDOUT_FILENO, a);
-    io::write_all(STDOUT_FILENO, b" ");
-    io::print_decimal(STDOUT_FILENO, b);
-    io::write_all(STDOUT_FILENO, b"\n");
+fn print_two(rt: &impl Print, a: u64, b: u64) -> io::Result<()> {
+    println!(rt; "{a} {b}")
 }
 
 // Gives room for a text.
@@ -56,138 +53,147 @@ fn add(text: &mut [u8; 65537], at: usize, piece: &[u8], times: usize) -> usize
 }
 
 // The plans of document 01, and the edges of a plan that is accepted.
-fn accepted_texts() {
+fn accepted_texts(rt: &impl Print) -> io::Result<()> {
     // Plan A: the leaves are leaf, loop, leaf, leaf; one function.
     show(
+        rt,
         b"(task 100 4\n(fun\n(leaf p 5 9)\n(loop p 3 2 4\n(leaf s 10 20)\n)\n(leaf s 6 8)\n)\n)\n",
         512,
-    );
+    )?;
     // Plan B: leaf 0 in function 0; if, call, leaf, call in function 1.
     show(
+        rt,
         b"(task 200 5\n(fun\n(leaf p 3 4)\n)\n(fun\n(if p 2 3\n(then\n(call p 0 1 2)\n)\n(else\n(leaf s 9 10)\n)\n)\n(call p 0 1 2)\n)\n)\n",
         512,
-    );
+    )?;
     // The smallest plan: one leaf, one function.
-    show(b"(task 19 3\n(fun\n(leaf s 7 9)\n)\n)\n", 512);
+    show(rt, b"(task 19 3\n(fun\n(leaf s 7 9)\n)\n)\n", 512)?;
     // A row of one record is enough for it.
-    show(b"(task 19 3\n(fun\n(leaf s 7 9)\n)\n)\n", 1);
+    show(rt, b"(task 19 3\n(fun\n(leaf s 7 9)\n)\n)\n", 1)?;
     // A function may be empty.
-    show(b"(task 1 0\n(fun\n)\n)\n", 0);
+    show(rt, b"(task 1 0\n(fun\n)\n)\n", 0)
 }
 
 // Refusal 2, form.
-fn form_texts() {
+fn form_texts(rt: &impl Print) -> io::Result<()> {
     // The empty text ends early: the line after the last is line 1.
-    show(b"", 512);
+    show(rt, b"", 512)?;
     // The last line, number 5, has no line feed.
-    show(b"(task 19 3\n(fun\n(leaf s 7 9)\n)\n)", 512);
+    show(rt, b"(task 19 3\n(fun\n(leaf s 7 9)\n)\n)", 512)?;
     // The text ends after line 2: the line after the last is line 3.
-    show(b"(task 19 3\n(fun\n", 512);
+    show(rt, b"(task 19 3\n(fun\n", 512)?;
     // The text goes on behind the closed task, with line 6.
-    show(b"(task 19 3\n(fun\n(leaf s 7 9)\n)\n)\n)\n", 512);
+    show(rt, b"(task 19 3\n(fun\n(leaf s 7 9)\n)\n)\n)\n", 512)?;
     // Line 2 is blank.
-    show(b"(task 19 3\n\n(fun\n(leaf s 7 9)\n)\n)\n", 512);
+    show(rt, b"(task 19 3\n\n(fun\n(leaf s 7 9)\n)\n)\n", 512)?;
     // Line 1 ends in a carriage return and a line feed.
-    show(b"(task 19 3\r\n(fun\r\n)\r\n)\r\n", 512);
+    show(rt, b"(task 19 3\r\n(fun\r\n)\r\n)\r\n", 512)?;
     // C has a leading zero in line 3.
-    show(b"(task 19 3\n(fun\n(leaf s 07 9)\n)\n)\n", 512);
+    show(rt, b"(task 19 3\n(fun\n(leaf s 07 9)\n)\n)\n", 512)?;
     // An else part, in line 4, where the then part must come.
     show(
+        rt,
         b"(task 1 0\n(fun\n(if s 0 0\n(else\n)\n(then\n)\n)\n)\n)\n",
         512,
-    );
+    )?;
     // The task closes in line 2 and holds no function.
-    show(b"(task 1 0\n)\n", 512);
+    show(rt, b"(task 1 0\n)\n", 512)?;
     // A leaf in line 2 stands in no function: form comes before range.
-    show(b"(task 1 0\n(leaf s 1048577 0)\n)\n", 512);
+    show(rt, b"(task 1 0\n(leaf s 1048577 0)\n)\n", 512)
 }
 
 // Refusal 3, range.
-fn range_texts() {
+fn range_texts(rt: &impl Print) -> io::Result<()> {
     // D is 0 in line 1.
-    show(b"(task 0 0\n(fun\n)\n)\n", 512);
+    show(rt, b"(task 0 0\n(fun\n)\n)\n", 512)?;
     // D is 2^40 + 1 in line 1.
-    show(b"(task 1099511627777 0\n(fun\n)\n)\n", 512);
+    show(rt, b"(task 1099511627777 0\n(fun\n)\n)\n", 512)?;
     // D has 30 digits in line 1.
-    show(b"(task 999999999999999999999999999999 0\n(fun\n)\n)\n", 512);
+    show(
+        rt,
+        b"(task 999999999999999999999999999999 0\n(fun\n)\n)\n",
+        512,
+    )?;
     // B is 0 in line 3.
-    show(b"(task 1 0\n(fun\n(loop s 0 1 1\n)\n)\n)\n", 512);
+    show(rt, b"(task 1 0\n(fun\n(loop s 0 1 1\n)\n)\n)\n", 512)?;
     // F is 16 in line 3: range comes before target.
-    show(b"(task 1 0\n(fun\n(call s 16 1 1)\n)\n)\n", 512);
+    show(rt, b"(task 1 0\n(fun\n(call s 16 1 1)\n)\n)\n", 512)?;
     // C is 2^20 + 1 in line 3: range comes before count, and the row has no record.
-    show(b"(task 1 0\n(fun\n(leaf s 1048577 1048577)\n)\n)\n", 0);
+    show(rt, b"(task 1 0\n(fun\n(leaf s 1048577 1048577)\n)\n)\n", 0)
 }
 
 // Refusals 4 to 6, count, load and target.
-fn later_texts() {
+fn later_texts(rt: &impl Print) -> io::Result<()> {
     // A row of no record: the leaf in line 3 is one more than it holds.
-    show(b"(task 19 3\n(fun\n(leaf s 7 9)\n)\n)\n", 0);
+    show(rt, b"(task 19 3\n(fun\n(leaf s 7 9)\n)\n)\n", 0)?;
     // The same with M below C: count comes before load.
-    show(b"(task 19 3\n(fun\n(leaf s 9 7)\n)\n)\n", 0);
+    show(rt, b"(task 19 3\n(fun\n(leaf s 9 7)\n)\n)\n", 0)?;
     // M is below C in line 3.
-    show(b"(task 19 3\n(fun\n(leaf s 9 7)\n)\n)\n", 512);
+    show(rt, b"(task 19 3\n(fun\n(leaf s 9 7)\n)\n)\n", 512)?;
     // Function 0 calls itself in line 3.
-    show(b"(task 1 0\n(fun\n(call s 0 1 1)\n)\n)\n", 512);
+    show(rt, b"(task 1 0\n(fun\n(call s 0 1 1)\n)\n)\n", 512)?;
     // Function 0 calls itself in line 3, with M below C: load comes before target.
-    show(b"(task 1 0\n(fun\n(call s 0 2 1)\n)\n)\n", 512);
+    show(rt, b"(task 1 0\n(fun\n(call s 0 2 1)\n)\n)\n", 512)
 }
 
 // Refusal 19, costless.
-fn costless_texts() {
+fn costless_texts(rt: &impl Print) -> io::Result<()> {
     // A leaf, a loop and an if in line 3, and a call in line 5, each a point with C = 0, whatever its M.
-    show(b"(task 1 0\n(fun\n(leaf p 0 1)\n)\n)\n", 512);
-    show(b"(task 1 0\n(fun\n(loop p 1 0 0\n)\n)\n)\n", 512);
+    show(rt, b"(task 1 0\n(fun\n(leaf p 0 1)\n)\n)\n", 512)?;
+    show(rt, b"(task 1 0\n(fun\n(loop p 1 0 0\n)\n)\n)\n", 512)?;
     show(
+        rt,
         b"(task 1 0\n(fun\n(if p 0 9\n(then\n)\n(else\n)\n)\n)\n)\n",
         512,
-    );
-    show(b"(task 1 0\n(fun\n)\n(fun\n(call p 0 0 0)\n)\n)\n", 512);
+    )?;
+    show(rt, b"(task 1 0\n(fun\n)\n(fun\n(call p 0 0 0)\n)\n)\n", 512)?;
     // The same leaf is one more than a row of no record holds: count comes before costless.
-    show(b"(task 1 0\n(fun\n(leaf p 0 1)\n)\n)\n", 0);
+    show(rt, b"(task 1 0\n(fun\n(leaf p 0 1)\n)\n)\n", 0)?;
     // Function 0 calls itself in line 3: costless comes before target.
-    show(b"(task 1 0\n(fun\n(call p 0 0 1)\n)\n)\n", 512);
+    show(rt, b"(task 1 0\n(fun\n(call p 0 0 1)\n)\n)\n", 512)?;
     // Silent leaves of cost 0 pass: a leaf in function 0; a call, a loop and an if in function 1.
     show(
+        rt,
         b"(task 1 0\n(fun\n(leaf s 0 1)\n)\n(fun\n(call s 0 0 0)\n(loop s 1 0 0\n)\n(if s 0 0\n(then\n)\n(else\n)\n)\n)\n)\n",
         512,
-    );
+    )
 }
 
 // Shows the smallest plan with so many blanks and line feeds behind it.
-fn show_tail(blanks: usize, feeds: usize) {
+fn show_tail(rt: &impl Print, blanks: usize, feeds: usize) -> io::Result<()> {
     let mut text = blank();
     let a = add(&mut text, 0, b"(task 19 3\n(fun\n(leaf s 7 9)\n)\n)\n", 1);
     let b = add(&mut text, a, b" ", blanks);
     let c = add(&mut text, b, b"\n", feeds);
-    show(&text[..c], 512);
+    show(rt, &text[..c], 512)
 }
 
 // Shows a text whose first function has so many leaves, with so many empty functions behind it.
-fn show_flat(leaves: usize, empty: usize, capacity: usize) {
+fn show_flat(rt: &impl Print, leaves: usize, empty: usize, capacity: usize) -> io::Result<()> {
     let mut text = blank();
     let a = add(&mut text, 0, b"(task 1 0\n(fun\n", 1);
     let b = add(&mut text, a, b"(leaf s 0 0)\n", leaves);
     let c = add(&mut text, b, b")\n(fun\n", empty);
     let d = add(&mut text, c, b")\n", 2);
-    show(&text[..d], capacity);
+    show(rt, &text[..d], capacity)
 }
 
 // Texts of many bytes, leaves or functions, for refusals 1 and 4.
-fn long_texts() {
+fn long_texts(rt: &impl Print) -> io::Result<()> {
     // The smallest plan, of 33 bytes, and blanks up to 65,537 bytes: oversize, with line 0.
-    show_tail(65504, 0);
+    show_tail(rt, 65504, 0)?;
     // With blanks up to 65,536 bytes it is not oversize: the text goes on with line 6.
-    show_tail(65503, 0);
+    show_tail(rt, 65503, 0)?;
     // The last of them is a line feed, and still the text goes on.
-    show_tail(65502, 1);
+    show_tail(rt, 65502, 1)?;
     // 512 leaves in lines 3 to 514.
-    show_flat(512, 0, 512);
+    show_flat(rt, 512, 0, 512)?;
     // 513 leaves: the last stands in line 515; of a longer row only 512 records are used.
-    show_flat(513, 0, 600);
+    show_flat(rt, 513, 0, 600)?;
     // 16 functions in lines 2 to 33.
-    show_flat(0, 15, 512);
+    show_flat(rt, 0, 15, 512)?;
     // 17 functions: the last stands in line 34.
-    show_flat(0, 16, 512);
+    show_flat(rt, 0, 16, 512)
 }
 
 // Writes so many loops, each in the body of the one before, and in the last of them so many ifs, each in the then part of the one before; gives the place
@@ -203,39 +209,39 @@ fn add_nested(text: &mut [u8; 65537], at: usize, loops: usize, ifs: usize) -> us
 }
 
 // Shows a text whose first function has so many loops and in them so many ifs, each in the one before; so many functions that call it follow.
-fn show_nested(loops: usize, ifs: usize, calls: usize) {
+fn show_nested(rt: &impl Print, loops: usize, ifs: usize, calls: usize) -> io::Result<()> {
     let mut text = blank();
     let a = add(&mut text, 0, b"(task 1 0\n(fun\n", 1);
     let b = add_nested(&mut text, a, loops, ifs);
     let c = add(&mut text, b, b")\n(fun\n(call s 0 0 0)\n", calls);
     let d = add(&mut text, c, b")\n", 2);
-    show(&text[..d], 512);
+    show(rt, &text[..d], 512)
 }
 
 // Refusal 7, depth.
-fn deep_texts() {
+fn deep_texts(rt: &impl Print) -> io::Result<()> {
     // 64 open brackets: task, fun and 31 times if and then. The level stays 1. 31 ifs.
-    show_nested(0, 31, 0);
+    show_nested(rt, 0, 31, 0)?;
     // The same with a 32nd if in line 2 + 62 + 1: the 65th open bracket.
-    show_nested(0, 32, 0);
+    show_nested(rt, 0, 32, 0)?;
     // A loop in line 3, 30 times if and then in lines 4 to 63, the 64th bracket in line 64: its then in line 65 is the 65th.
-    show_nested(1, 31, 0);
+    show_nested(rt, 1, 31, 0)?;
     // 32 loops, each in the body of the one before: the innermost has level 32.
-    show_nested(32, 0, 0);
+    show_nested(rt, 32, 0, 0)?;
     // 33 loops: the innermost, in line 35, has level 33.
-    show_nested(33, 0, 0);
+    show_nested(rt, 33, 0, 0)?;
     // Function 0 has 31 loops, each in the one before; the call at level 1 reaches level 32. 31 loops and a call.
-    show_nested(31, 0, 1);
+    show_nested(rt, 31, 0, 1)?;
     // Function 0 has 32 loops in lines 3 to 34 and closes in line 67; the call in line 69 reaches level 33.
-    show_nested(32, 0, 1);
+    show_nested(rt, 32, 0, 1)
 }
 
-fn main() {
-    accepted_texts();
-    form_texts();
-    range_texts();
-    later_texts();
-    costless_texts();
-    long_texts();
-    deep_texts();
+fn main(rt: HostRuntime) -> io::Result<()> {
+    accepted_texts(&rt)?;
+    form_texts(&rt)?;
+    range_texts(&rt)?;
+    later_texts(&rt)?;
+    costless_texts(&rt)?;
+    long_texts(&rt)?;
+    deep_texts(&rt)
 }

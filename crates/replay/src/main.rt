@@ -4,9 +4,11 @@
 
 ghost use Rattle.std.specs.Prelude.{◌≤◌, length};
 
+use files::{NAME, Opened};
 use print::{SIZE, refused_plan_line};
 use reader::{Answer, TEXT};
 use rows::{MAX_LEAVES, ROW};
+use std::io::Read;
 use table::{Head, no_head, read};
 use transcript::{ANSWERS, PIECE, Replay, close, feed, start};
 
@@ -24,22 +26,23 @@ const PLAN: usize = 1;
 const LOG: usize = 2;
 
 // Prints the first so many bytes of a buffer, and says whether they were written.
-fn show(out: &[u8], size: usize) -> bool
+fn show(rt: &HostRuntime, out: &[u8], size: usize) -> bool
     requires { size ≤ length out.now }
 {
-    files::print(&out[..size])
+    files::print(rt, &out[..size])
 }
 
 // Prints the refusal of a plan, as the table program does.
-fn refuse(number: u64, line: u64) {
+fn refuse(rt: &HostRuntime, number: u64, line: u64) {
     let mut out = [0; SIZE];
     let n = refused_plan_line(&mut out, 0, number, line);
-    show(&out, n);
+    show(rt, &out, n);
 }
 
 // Reads a piece of the log and prints the answers to the lines that end in it; at the end of the log, what is answered there.
-fn take_piece(
-    fd: i32,
+fn take_piece<R: Read>(
+    rt: &HostRuntime,
+    file: &mut R,
     name: &[u8],
     out: &mut [u8; ANSWERS],
     row: &[u64; ROW],
@@ -50,12 +53,12 @@ fn take_piece(
     replay: Replay,
 ) -> Taken {
     let mut piece = [0u8; PIECE];
-    let got = files::piece(fd, name, &mut piece);
+    let got = files::piece(rt, file, name, &mut piece);
     let n = got.size;
     if n == 0 {
         if !got.failed {
             let size = close(out, replay);
-            show(out, size);
+            show(rt, out, size);
         }
         return Taken {
             more: false,
@@ -66,15 +69,16 @@ fn take_piece(
     let size = fed.size;
     let carried = fed.replay;
     Taken {
-        more: show(out, size),
+        more: show(rt, out, size),
         replay: carried,
     }
 }
 
 // Replays a log, piece by piece. A proved loop has to end, and nothing says that a file does; so the pieces are counted down from a number that no log uses
 // up, since each has a byte at least.
-fn play(
-    fd: i32,
+fn play<R: Read>(
+    rt: &HostRuntime,
+    file: &mut R,
     name: &[u8],
     row: &[u64; ROW],
     turns: &[u64; MAX_LEAVES],
@@ -87,7 +91,7 @@ fn play(
     let mut left = u64::MAX;
     while left > 0 {
         let taken = take_piece(
-            fd, name, &mut out, row, turns, tails, stretches, head, replay,
+            rt, file, name, &mut out, row, turns, tails, stretches, head, replay,
         );
         if !taken.more {
             return;
@@ -99,22 +103,31 @@ fn play(
 
 // Replays the log that the second argument names.
 fn replay_log(
+    rt: &HostRuntime,
     row: &[u64; ROW],
     turns: &[u64; MAX_LEAVES],
     tails: &[u64; MAX_LEAVES],
     stretches: &[u64; MAX_LEAVES],
     head: Head,
 ) {
-    let mut name = io::buffer();
-    let log = files::open(LOG, &mut name);
-    let n = log.size;
-    if log.fd >= 0 {
-        play(log.fd, &name[..n], row, turns, tails, stretches, head);
+    let mut name = [0u8; NAME];
+    let Opened { file, size } = files::open(rt, LOG, &mut name);
+    if let Some(mut log) = file {
+        play(
+            rt,
+            &mut log,
+            &name[..size],
+            row,
+            turns,
+            tails,
+            stretches,
+            head,
+        );
     }
 }
 
 // Reads a plan and replays the log on its table; or prints the plan's refusal, and does not look at the log.
-fn replay_plan(text: &[u8]) {
+fn replay_plan(rt: &HostRuntime, text: &[u8]) {
     let mut row = [0; ROW];
     let mut turns = [0; MAX_LEAVES];
     let mut tails = [0; MAX_LEAVES];
@@ -131,19 +144,19 @@ fn replay_plan(text: &[u8]) {
     let answer = verdict.answer;
     let head = verdict.head;
     match answer {
-        Answer::Refused(k, j) => refuse(k, j as u64),
-        Answer::Accepted => replay_log(&row, &turns, &tails, &stretches, head),
+        Answer::Refused(k, j) => refuse(rt, k, j as u64),
+        Answer::Accepted => replay_log(rt, &row, &turns, &tails, &stretches, head),
     }
 }
 
-fn main() {
-    if !files::two_names(b"usage: replay PLAN LOG\n") {
+fn main(rt: HostRuntime) {
+    if !files::two_names(&rt, b"usage: replay PLAN LOG\n") {
         return;
     }
     let mut text = [0u8; TEXT];
-    let plan = files::text(PLAN, &mut text);
+    let plan = files::text(&rt, PLAN, &mut text);
     let n = plan.size;
     if !plan.failed {
-        replay_plan(&text[..n]);
+        replay_plan(&rt, &text[..n]);
     }
 }
