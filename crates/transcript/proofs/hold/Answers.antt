@@ -1,0 +1,11 @@
+-- `transcript::hold` meets its contract. Assumes nothing.
+use borrow.Author.Rules.{rules}
+use native.Mathlib.Omega.{arith}
+use Rattle.transcript.proofs.Holding.{held_more, held_full}
+use Rattle.transcript.proofs.hold.Goals as goal
+
+pub returns-then-held-line : goal.returns-then-held-line
+returns-then-held-line c = let a = c.args in held_more a.line.now a.held a.b (omega arith)
+
+pub returns : goal.returns
+returns c = let a = c.args in held_full a.line.now a.held a.b (omega arith)

@@ -1,0 +1,14 @@
+-- `transcript::tell` meets its contract, for a call and for a line of another form. Assumes nothing.
+use borrow.Author.Rules.{rules}
+use Rattle.table.specs.Table.{table_at}
+use Rattle.transcript.proofs.Telling.{told_other}
+use Rattle.transcript.proofs.tell.Goals as goal
+
+pub returns-in-Said : goal.returns-in-Said
+returns-in-Said c = rw c.in-Said.is c.tell_call.ensures
+
+pub returns-in-Other : goal.returns-in-Other
+returns-in-Other c =
+    let a = c.args in
+    rw c.in-Other.is
+    (told_other (table_at a.row.now a.turns.now a.tails.now a.stretches.now a.head) a.told c.answer_line.ensures)
