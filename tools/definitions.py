@@ -5,13 +5,14 @@ import re
 import sys
 from dataclasses import dataclass, field
 
-LIBRARY, LANGUAGE = ("mathlib.", "lib.", "Prim.", "native."), {"Type", "Unit", "⊥", "¬", "×"}
-KEYWORDS = set("abbrev unfoldable pub data record module where → : = ; _ bool u8 u64 usize i64".split())
+LIBRARY, LANGUAGE = ("mathlib.", "lib.", "Prim.", "native."), {"Type", "Unit", "⊤", "⊥", "¬", "×"}
+KEYWORDS = set("abbrev unfoldable pub data record module where → : = ; _ bool u8 u16 u32 u64 usize i64".split())
 RUST_KINDS = {"struct": "record", "enum": "data", "type": "function", "const": "function"}
 HEAD = re.compile(r"((?:abbrev |unfoldable |pub )*)(data |record |module )?(\S+)")
-USE = re.compile(r"(?:ghost |pub )?use (\S+?)(?:\.\{(.*)\}| as (\S+));?")
-MODULE = re.compile(r"Rattle·(\w+)(?:·\w+)?\.(specs|proofs)\.(declared\.)?(.+?)(?:\.the-variants)?")
-TYPE = re.compile(r"((?:^(?://|#\[)[^\n]*\n)*)^(?:pub )?(struct|enum|type|const) (\w+)(?:: \w+)? (?:\{\n|= )(.*?)(?:^\}|;$)", re.M | re.S)
+USE = re.compile(r"(?:ghost |pub )*use (\S+?)(?:\.\{(.*)\}| as ([^\s;]+));?")
+MODULE = re.compile(r"Rattle\.(\w+)\.(specs|proofs)\.(declared\.)?(.+?)(?:\.TheVariants)?")
+TYPE = re.compile(r"((?:^(?://|#\[)[^\n]*\n)*)^(?:pub )?(struct|enum|type|const) (\w+)(?:<[^>\n]*>)?(?:: [^=\n]+)? (?:\{\n|= )(.*?)(?:^\}|;$)", re.M | re.S)
+GROUP = re.compile(r"(.*?)\{(.*)\}", re.S)
 
 
 def fail(why):
@@ -39,8 +40,29 @@ def mark(words):
 
 
 def spellings(name):
-    """The name, and the parts of a mixfix one."""
-    return {name, *filter(None, name.split("_"))}
+    """The name, and the parts of one with places for arguments."""
+    return {name, *filter(None, name.split("◌"))}
+
+
+def whole_lines(lines):
+    """The lines, with an import on several lines put together on its last one, and none in place of the others."""
+    held = ""
+    for line in lines:
+        line, held = (held + " " + line.strip() if held else line), ""
+        if re.match(r"\s*(?:ghost |pub )*use ", line) and line.count("{") > line.count("}"):
+            held = line
+        else:
+            yield re.sub(r"\{\s+|,?\s+\}", lambda brace: brace.group().strip(" ,"), line) if "use " in line else line
+
+
+def imported(tree, above=""):
+    """The paths of a Rust import, each with the name that it gets."""
+    group = GROUP.fullmatch(tree.strip())
+    if not group:
+        path, _, other = (above + tree.strip()).partition(" as ")
+        return [(path, other or path.rpartition("::")[2])]
+    inside = re.findall(r"(?:[^,{}]|\{(?:[^{}]|\{[^{}]*\})*\})+", group[2])
+    return [pair for part in inside if part.strip() for pair in imported(part, above + group[1].strip())]
 
 
 @dataclass(eq=False)
@@ -87,7 +109,7 @@ class Source:
     def use(self, line):
         path, names, alias = (USE.fullmatch(line) or fail(f"{self.path}: not understood: {line}")).groups()
         self.aliases.update({alias: path} if alias else {})
-        pairs = [name.partition(" as ")[::2] for name in (names or "").split(", ")]
+        pairs = [name.partition(" as ")[::2] for name in re.split(r",\s*", names or "") if name]
         found = {spelling: (path, name) for name, other in pairs for spelling in spellings(other or name)}
         self.imports.update(found)
         self.handed.update(found if line.startswith("pub ") else {})
@@ -105,7 +127,7 @@ class Source:
 def load(path):
     """The definitions of a file of specs or proofs. A comment in capitals is the heading of a section."""
     source, modules, current, above, section = Source(path), [], None, 0, "OTHERS"
-    for line in text_of(path).splitlines():
+    for line in whole_lines(text_of(path).splitlines()):
         indent, line = len(line) - len(line.lstrip()), line.strip()
         if current and current.takes(line, indent):
             continue
@@ -132,10 +154,14 @@ def load(path):
 def load_rust(path):
     """The structs, enums, type names and constants of a source file, each member as its name, a colon and its types."""
     source, text = Source(path), text_of(path)
-    for line in re.findall(r"^ghost use .*$", text, re.M):
-        source.use(line)
-    for used, crate, name in re.findall(r"(use )?\b(\w+)::([A-Z]\w*)", text):
-        source.imports[name if used else f"{crate}::{name}"] = (f"Rattle·{crate}.specs.declared.{name}", name)
+    for line in whole_lines(text.splitlines()):
+        if re.match(r"(?:pub )?ghost use ", line):
+            source.use(line)
+    used = [pair for tree in re.findall(r"^(?:pub )?use ([^;]+);", text, re.M) for pair in imported(tree)]
+    for path, name in used + [(path, path) for path in re.findall(r"\b\w+::[A-Z]\w*", text)]:
+        *modules, last = path.split("::")
+        if modules and last[:1].isupper() and pathlib.Path(f"crates/{modules[0]}").is_dir():
+            source.imports.setdefault(name, (f"Rattle.{modules[0]}.specs.declared.{'.'.join([*modules[1:], last])}", last))
     for above, kind, name, body in TYPE.findall(text):
         lines = [line.strip() for line in body.splitlines()]
         members = [re.findall(r"[A-Za-z_](?:\w|::)*", line.removeprefix("pub ")) for line in lines if not line.startswith("//")]
@@ -146,24 +172,34 @@ def load_rust(path):
 
 
 def look(path, name):
-    """What a name of a module is: definitions, or the library's name. A module `declared` is generated from a struct or enum."""
-    if path.startswith(LIBRARY):
+    """What a name of a module is: definitions, or the library's name. A module `declared` is generated from the types of a source."""
+    found = MODULE.fullmatch(path)
+    if path.startswith(LIBRARY) or path.startswith("Rattle.") and not pathlib.Path("crates", path.split(".")[1]).is_dir():
         return [f"{path} {name}"]
-    crate, folder, declared, rest = (MODULE.fullmatch(path) or fail(f"not a module: {path}")).groups()
-    source = load_rust(f"crates/{crate}/src/lib.rt") if declared else load(f"crates/{crate}/{folder}/{rest.replace('.', '/')}.antt")
+    crate, folder, declared, rest = (found or fail(f"not a module: {path}")).groups()
+    *modules, last = rest.split(".")
+    file = f"src/{'/'.join(modules) or 'lib'}.rt" if declared else f"{folder}/{rest.replace('.', '/')}.antt"
+    source = (load_rust if declared else load)(f"crates/{crate}/{file}")
     if not declared and name in source.handed:
         return look(*source.handed[name])
-    return source.names.get(rest if declared else name) or fail(f"{source.path}: no definition of {name}")
+    return source.names.get(name if last == "TheConstants" or not declared else last) or fail(f"{source.path}: no definition of {name}")
 
 
 def resolve(source, word):
-    """What a word is that no binder binds, or nothing."""
-    alias, _, name = word.partition(".")
-    if alias in source.aliases and name:
-        return look(source.aliases[alias], name)
-    if word in source.imports and word not in source.names:
-        return look(*source.imports[word])
-    return source.names.get(word) or [f"the language {word}" for _ in LANGUAGE & {word}]
+    """What a word is that no binder binds, or nothing, with the fields that are read of it."""
+    name, *fields = word.split(".")
+    if name in source.aliases and fields:
+        found, fields = look(source.aliases[name], fields[0]), fields[1:]
+    elif name in source.imports and name not in source.names:
+        found = look(*source.imports[name])
+    else:
+        found = source.names.get(name) or [f"the language {name}" for _ in LANGUAGE & {name}]
+    return found and [*found, *projections(fields)]
+
+
+def projections(fields):
+    """The fields with their dots, without the places of a pair."""
+    return [f".{name}" for name in fields if not name.isdigit()]
 
 
 def binders(words, signature):
@@ -177,7 +213,7 @@ def walk(words, scope, source, pattern=False, signature=False):
     found, stack, lets, binding, skip = [], [], [], False, 0
     for i, word in enumerate(words):
         label = words[i + 1:i + 2] == ["="] and words[i - 1] in "{;"
-        if i < skip or label or word in scope or word in KEYWORDS or word.lstrip(".").isdigit():
+        if i < skip or label or word in scope or word in KEYWORDS or word.isdigit():
             continue
         if word in "({":
             names = binders(words[i + 1:], signature)
@@ -194,11 +230,11 @@ def walk(words, scope, source, pattern=False, signature=False):
             scope.add(lets.pop())
         elif binding:
             scope.add(word)
-        elif word[0] == ".":
-            found.append(word)
+        elif word.partition(".")[0] in {"", *scope}:
+            found += projections(word.split(".")[1:])
         else:
             targets = resolve(source, word)
-            if pattern and not any(isinstance(target, str) or target.kind == "data" for target in targets):
+            if pattern and "." not in word and not any(isinstance(target, str) or target.kind == "data" for target in targets):
                 scope.add(word)
             else:
                 found += targets or fail(f"{source.path}: cannot resolve {word} in: {' '.join(words)}")
