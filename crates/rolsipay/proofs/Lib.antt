@@ -1,8 +1,4 @@
 pub mod Steps
-pub mod Freeing
-pub mod Lending
-pub mod Local
-pub mod Sized
 pub mod Stored
 pub mod Packing
 pub mod Spreading

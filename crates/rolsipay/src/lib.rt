@@ -534,8 +534,7 @@ pub fn end(row: &[Leaf], head: &Head, state: &mut State, reading: u64) -> model:
 }
 
 // `read` for other languages.
-#[unsafe(no_mangle)]
-pub extern "C" fn rolsipay_read(text: &[u8], row: &mut [Leaf], head: &mut Head) -> Ruling
+pub fn rolsipay_read(text: &[u8], row: &mut [Leaf], head: &mut Head) -> Ruling
     ensures { (result ≡ ruling_of (verdict_of (verdict (length row.old) text.now) head.old).answer)
         × (row.new ≡ row_after (verdict (length row.old) text.now) row.old)
         × (head.new ≡ (verdict_of (verdict (length row.old) text.now) head.old).head) }
@@ -544,8 +543,7 @@ pub extern "C" fn rolsipay_read(text: &[u8], row: &mut [Leaf], head: &mut Head) 
 }
 
 // `release` for other languages.
-#[unsafe(no_mangle)]
-pub extern "C" fn rolsipay_release(row: &[Leaf], head: &Head, state: &mut State) -> Reply
+pub fn rolsipay_release(row: &[Leaf], head: &Head, state: &mut State) -> Reply
     ensures { (result ≡ reply_from (called row.now head.now state.old Release).answer)
         × (state.new ≡ (called row.now head.now state.old Release).state) }
 {
@@ -553,8 +551,7 @@ pub extern "C" fn rolsipay_release(row: &[Leaf], head: &Head, state: &mut State)
 }
 
 // `report` for other languages.
-#[unsafe(no_mangle)]
-pub extern "C" fn rolsipay_report(
+pub fn rolsipay_report(
     row: &[Leaf],
     head: &Head,
     state: &mut State,
@@ -568,8 +565,7 @@ pub extern "C" fn rolsipay_report(
 }
 
 // `end` for other languages.
-#[unsafe(no_mangle)]
-pub extern "C" fn rolsipay_end(row: &[Leaf], head: &Head, state: &mut State, reading: u64) -> Reply
+pub fn rolsipay_end(row: &[Leaf], head: &Head, state: &mut State, reading: u64) -> Reply
     ensures { (result ≡ reply_from (called row.now head.now state.old (End reading)).answer)
         × (state.new ≡ (called row.now head.now state.old (End reading)).state) }
 {
