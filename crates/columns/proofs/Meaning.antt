@@ -11,7 +11,7 @@ use Rattle.model.specs.Forms.{done, linked, main}
 use Rattle.model.specs.Runs.{Among}
 use Rattle.model.specs.Total.{tallies}
 use Rattle.model.specs.Tail.{Tail, tail}
-use Rattle.model.specs.Stretch.{Stretch, ReleaseStretch, silence, stretch}
+use Rattle.model.specs.Stretch.{Stretch, ReleaseStretch, silence}
 use Rattle.model.specs.Acceptance.{Accepted}
 use Rattle.model.specs.Static.{line_silence, static_stretch}
 use Rattle.model.proofs.Targets.{Below}

@@ -12,7 +12,7 @@ use lib.ListN.{length, get_or, length-replicate}
 use Rattle.model.specs.Plan.{C, Plan}
 use Rattle.model.specs.Forms.{Forms, main}
 use Rattle.model.specs.Runs.{reports}
-use Rattle.model.specs.Total.{Total, total}
+use Rattle.model.specs.Total.{Total}
 use Rattle.model.specs.Remaining.{Remaining}
 use Rattle.model.specs.Levels.{Leveled, blocks, Standing, so_far, Latest, Times, Frame, stack}
 use Rattle.model.specs.Acceptance.{Accepted}

@@ -24,7 +24,7 @@ use Rattle.control.specs.declared.State.{State}
 use Rattle.control.specs.State.{stack_of, levels_of, standing}
 use Rattle.control.specs.Calls.{place_of}
 use Rattle.control.specs.Meaning.{HistoryState}
-use Rattle.control.proofs.Alike.{Stands, Tied, timed_some, levels_inner}
+use Rattle.control.proofs.Alike.{Tied, timed_some, levels_inner}
 use Rattle.control.proofs.Good.{stands_times}
 
 -- The place of a state of the controller over places.

@@ -6,7 +6,7 @@ use mathlib.Core.Option.{Option, none, some}
 use Prim.Native.Nat.{ℕ, zero, suc, ◌+◌, ◌≤◌}
 use native.Mathlib.Omega.{arith}
 use lib.ListN.{length, get_or}
-use Rattle.model.specs.Forms.{Forms, ◌⊕◌}
+use Rattle.model.specs.Forms.{Forms}
 use Rattle.model.specs.Places.{bind, Traceable}
 use Rattle.model.specs.Stack.{Levels, below, whole, suffix, turned, inside_of, then_at, decode}
 use Rattle.model.proofs.Places.{known, never}

@@ -7,7 +7,7 @@ use lib.ListN.{length, get_or, length-append}
 use Rattle.model.specs.Plan.{Block, Lines, close, leaf_line, call_line, loop_line, if_line, Plan}
 use Rattle.model.specs.Levels.{Leveled, own_levels, height}
 use Rattle.model.specs.Acceptance.{size, sizes, Numbered, Functions, Formed}
-use Rattle.reader.specs.Machine.{◌⧺◌, block}
+use Rattle.reader.specs.Machine.{◌⧺◌}
 use Rattle.rows.specs.Records.{entry, records, records_all, row_of}
 use Rattle.reader.specs.Records.{leveled_leaves, Shows, no_leaf}
 

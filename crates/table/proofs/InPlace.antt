@@ -24,7 +24,7 @@ use Rattle.rows.proofs.Measures.{rep_size}
 use Rattle.rows.proofs.Plans.{plan_leaves, plan_rep, plan_own}
 use Rattle.rows.specs.Plans.{PlanOf, lines_of}
 use Rattle.columns.specs.Sums.{limit}
-use Rattle.columns.specs.Columns.{column_of, turns, tail_rule, Contains}
+use Rattle.columns.specs.Columns.{column_of, tail_rule, Contains}
 use Rattle.columns.specs.Whole.{known, Measured, Summed, stretches_written}
 use Rattle.columns.specs.Local.{AllDerived}
 use Rattle.columns.proofs.Stores.{contains_sets}

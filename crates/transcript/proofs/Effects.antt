@@ -13,7 +13,7 @@ use Rattle.model.specs.Total.{total}
 use Rattle.model.specs.Places.{pick}
 use Rattle.model.specs.Stack.{Levels}
 use Rattle.model.specs.Decisions.{at_release, at_report, outlook, holds, margin, late, word}
-use Rattle.model.specs.Controller.{idle, running, is_point, next_levels, can_close, decided, reached, ending, respond}
+use Rattle.model.specs.Controller.{idle, is_point, next_levels, can_close, decided, reached, ending, respond}
 use Rattle.model.specs.declared.Call.{Call}
 use Rattle.model.specs.declared.Call.TheVariants.{Release, Report, End}
 use Rattle.model.specs.declared.Answer.{Answer}

@@ -1,19 +1,15 @@
 -- `columns::block_fits` and `columns::form_fits`, which call each other, meet their contracts. Assumes nothing.
-use borrow.Author.Rules.{rules}
-use borrow.Author.Tests.{not-true, not-false}
 use native.Mathlib.Omega.{arith}
 use Prim.Native.Nat.{◌+◌, ◌-◌, ◌≤◌}
 use Rattle.rows.proofs.Answers.{said_true, said_false, same_answer}
 use Rattle.rows.proofs.Shape.{ends, parts, loop_at, flat_end}
-use Rattle.rows.specs.Rows.{Piece}
 use lib.ListN.{get_or}
 use mathlib.Core.Path.{◌≡◌}
 use Rattle.model.specs.Plan.{C}
 use Rattle.columns.specs.Sums.{limit, lead}
 use Rattle.columns.specs.Private.{AsDerived, AsDerivedFirst, LoopFits, IfFits}
 use Rattle.columns.proofs.Sizes.{body_part, then_part, else_part, kind_low, if_three}
-use Rattle.columns.proofs.Fitting.{Walking, walk_start, walk_refuse, walk_next, walk_end, first_within, first_round, flat_first, first_flat, loop_first, first_loop, first_body, if_first, first_if, first_then, first_else}
-use Prim.Native.Nat.{ℕ, ◌<◌}
+use Rattle.columns.proofs.Fitting.{walk_start, walk_refuse, walk_next, walk_end, first_within, first_round, flat_first, first_flat, loop_first, first_loop, first_body, if_first, first_if, first_then, first_else}
 use Rattle.columns.proofs.+block_fits_form_fits.Goals as goal
 
 pub block_fits-loop-i-init : goal.block_fits-loop-i-init
@@ -77,13 +73,13 @@ form_fits-returns-then-not-within t c =
 
 pub form_fits-loop_fits-requires : goal.form_fits-loop_fits-requires
 form_fits-loop_fits-requires t c =
-    let r = c.requires.i_lt_to in 
-    let z = c.requires.piece in 
-    let i = c.args.i in 
-    let x = c.args.x in 
-    let u = c.args.tail.now in 
-    let b = said_true {A = (x ≤ get_or u i 0) × (get_or u i 0 ≤ limit)} c.within.result c.if-not-within.false c.within.ensures in 
-    let h = loop_at r.0 z.part c.get-kind.ensures c.if-kind-eq-LOOP.true in 
+    let r = c.requires.i_lt_to in
+    let z = c.requires.piece in
+    let i = c.args.i in
+    let x = c.args.x in
+    let u = c.args.tail.now in
+    let b = said_true {A = (x ≤ get_or u i 0) × (get_or u i 0 ≤ limit)} c.within.result c.if-not-within.false c.within.ensures in
+    let h = loop_at r.0 z.part c.get-kind.ensures c.if-kind-eq-LOOP.true in
     let e = ends r.0 z.part in record {
       i_in_bounds = (omega (arith, r.1, r.0), omega (arith, h.costs.isolated_range), h.bound, omega (arith, e, c.index-after.ensures, r.3));
       x_le_t = b;
@@ -240,7 +236,7 @@ form_fits-overflow_sub-t-2 t c =
 
 pub form_fits-flat_fits-requires : goal.form_fits-flat_fits-requires
 form_fits-flat_fits-requires t c =
-    let r = c.requires.i_lt_to in 
+    let r = c.requires.i_lt_to in
     let z = c.requires.piece in record {
       i_lt_to = (r.0, r.1, omega (arith, kind_low r.0 z c.get-kind.ensures c.if-kind-eq-IF.false, c.get-kind.ensures, c.if-kind-eq-LOOP.false));
       piece = z;

@@ -1,18 +1,12 @@
 -- `columns::silence_block` and `columns::silence_form`, which call each other, meet their contracts. Assumes nothing.
-use Rattle.columns.proofs.Silences.{not-true, through_point, through_plain, through_if, SilenceSoFar, walk_start, walk_low, walk_next, walk_shut, walk_end}
+use Rattle.columns.proofs.Silences.{through_point, through_plain, through_if, walk_start, walk_low, walk_next, walk_shut, walk_end}
 use Rattle.columns.proofs.Readiness.{then_sized, else_sized, first_ready}
 use Rattle.columns.proofs.Sizes.{kind_low, if_three}
-use Rattle.columns.specs.Private.{Sized}
 use Rattle.rows.proofs.Shape.{ends, parts}
-use Rattle.model.specs.Static.{line_silence}
-use Rattle.model.specs.Total.{tally}
 use Rattle.columns.specs.Sums.{cost_in}
 use Rattle.columns.proofs.Capped.{cost_le}
 use Rattle.rows.specs.Rows.{block_at}
-use Prim.Native.Nat.{ℕ, ◌+◌, ◌-◌, ◌<◌}
-use borrow.Author.Rules.{rules}
 use native.Mathlib.Omega.{arith}
-use Prim.Native.Nat.{ℕ, ◌<◌}
 use Rattle.columns.proofs.+silence_block_silence_form.Goals as goal
 
 pub silence_block-loop-i-init : goal.silence_block-loop-i-init
@@ -121,7 +115,7 @@ silence_form-returns-then-kind-eq-IF t c =
 
 pub silence_form-weight-pass-requires : goal.silence_form-weight-pass-requires
 silence_form-weight-pass-requires t c =
-    let lt = c.requires.i_lt_to in 
+    let lt = c.requires.i_lt_to in
     let z = c.requires.ready in record {
       i_lt_to = (lt, c.requires.to_in_bounds.0, c.requires.to_in_bounds.1, kind_low lt z.forms c.get-kind.ensures c.if-kind-eq-IF.false, c.requires.to_in_bounds.2);
       ready = z;

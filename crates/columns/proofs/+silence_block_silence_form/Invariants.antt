@@ -1,18 +1,10 @@
 -- `columns::silence_block` and `columns::silence_form`, which call each other, meet their contracts. Assumes nothing.
-use Rattle.columns.proofs.Silences.{not-true, through_point, through_plain, through_if, SilenceSoFar, walk_start, walk_low, walk_next, walk_shut, walk_end}
-use Rattle.columns.proofs.Readiness.{then_sized, else_sized, first_ready}
-use Rattle.columns.proofs.Sizes.{kind_low, if_three}
+use Rattle.columns.proofs.Silences.{SilenceSoFar}
 use Rattle.columns.specs.Private.{Sized}
-use Rattle.rows.proofs.Shape.{ends, parts}
 use Rattle.model.specs.Static.{line_silence}
 use Rattle.model.specs.Total.{tally}
 use Rattle.columns.specs.Sums.{cost_in}
-use Rattle.columns.proofs.Capped.{cost_le}
-use Rattle.rows.specs.Rows.{block_at}
-use Prim.Native.Nat.{ℕ, ◌+◌, ◌-◌, ◌<◌}
-use borrow.Author.Rules.{rules}
-use native.Mathlib.Omega.{arith}
-use Prim.Native.Nat.{ℕ, ◌<◌}
+use Prim.Native.Nat.{◌+◌, ◌-◌}
 use Rattle.columns.proofs.+silence_block_silence_form.Given as goal
 
 abbrev pub decreases-silence_block : goal.decreases-silence_block

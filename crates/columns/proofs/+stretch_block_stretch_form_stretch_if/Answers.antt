@@ -1,10 +1,10 @@
 -- `columns::stretch_block`, `columns::stretch_form` and `columns::stretch_if`, which call one another, meet their contracts. Assumes nothing.
 use Rattle.columns.proofs.Widening as wide
-use Rattle.columns.proofs.Backing.{kept_all, kept_both, no_later, Back, back_start, back_on, back_end, listed_at}
+use Rattle.columns.proofs.Backing.{kept_all, kept_both, no_later, back_start, back_on, back_end, listed_at}
 use Rattle.columns.proofs.Readiness.{body_sized, body_low, then_sized, else_sized, ready_zero, later_ready}
 use Rattle.columns.proofs.Sizes.{kind_low, if_three, if_lead}
-use Rattle.columns.specs.Stretches.{stretch_rule, follow_calls}
-use Rattle.columns.specs.Private.{silence_of, head_at, sibling, later, Kept, Sized}
+use Rattle.columns.specs.Stretches.{stretch_rule}
+use Rattle.columns.specs.Private.{silence_of, head_at, sibling, later}
 use Rattle.columns.specs.Sums.{lead, cost_in}
 use Rattle.columns.proofs.Capped.{cost_le}
 use Rattle.rows.proofs.Shape.{loop_at, ends, parts}
@@ -12,9 +12,8 @@ use Rattle.rows.specs.Rows.{block_at}
 use Rattle.model.specs.Static.{line_silence}
 use Rattle.model.specs.Total.{tally}
 use lib.ListN.{get_or}
-use Prim.Native.Nat.{ℕ, suc, ◌+◌, ◌-◌, ◌≤◌, ◌<◌}
+use Prim.Native.Nat.{ℕ, suc, ◌+◌, ◌-◌, ◌<◌}
 use mathlib.Core.Path.{◌≡◌, refl, ◌∙◌}
-use borrow.Author.Rules.{rules}
 use native.Mathlib.Omega.{arith}
 use Rattle.columns.proofs.+stretch_block_stretch_form_stretch_if.Goals as goal
 
@@ -103,9 +102,9 @@ stretch_block-loop-n-preserved t c =
 
 pub stretch_block-returns : goal.stretch_block-returns
 stretch_block-returns t c =
-    let k = cost_in c.args.column in 
-    let ms = c.args.sums.now in 
-    let a = c.loop-n in 
+    let k = cost_in c.args.column in
+    let ms = c.args.sums.now in
+    let a = c.loop-n in
     let h = c.loop-n-test.false in record {
       value = (λ p. (back_end (omega (arith, h)) (a.invariant.2 p)).0);
       out_after = (λ p. (back_end (omega (arith, h)) (a.invariant.2 p)).1);
@@ -124,7 +123,7 @@ stretch_form-returns-then-kind-eq-IF t c = c.stretch_if.ensures
 
 pub stretch_form-weight-requires : goal.stretch_form-weight-requires
 stretch_form-weight-requires t c =
-    let lt = c.requires.i_lt_to in 
+    let lt = c.requires.i_lt_to in
     let z = c.requires.ready in record {
       i_lt_to = (lt, c.requires.to_in_bounds.0, c.requires.to_in_bounds.1, kind_low lt z.forms c.get-kind.ensures c.if-kind-eq-IF.false, c.requires.to_in_bounds.4);
       ready = ready_zero lt z;
@@ -167,27 +166,27 @@ stretch_form-put_stretch-requires t c =
 
 pub stretch_form-returns-then-kind-eq-LOOP : goal.stretch_form-returns-then-kind-eq-LOOP
 stretch_form-returns-then-kind-eq-LOOP t c =
-    let lt = c.requires.i_lt_to in 
-    let k = cost_in c.args.column in 
-    let ms = c.args.sums.now in 
-    let x = c.args.s in 
-    let o = c.args.out.now in 
-    let a = c.args.follows.now in 
-    let q : ℕ → ℕ → ℕ = λ f y. silence_of (head_at c.args.heads.now f) y in 
+    let lt = c.requires.i_lt_to in
+    let k = cost_in c.args.column in
+    let ms = c.args.sums.now in
+    let x = c.args.s in
+    let o = c.args.out.now in
+    let a = c.args.follows.now in
+    let q : ℕ → ℕ → ℕ = λ f y. silence_of (head_at c.args.heads.now f) y in
     let v = c.get-kind.ensures in record {
       value = (λ p. wide.plain_silence k ms x lt p.forms v c.if-kind-eq-IF.false (c.weight.ensures (ready_zero lt p)) c.silent_before-t.ensures);
       out_after = (λ p. let h = loop_at lt p.forms.part v c.if-kind-eq-LOOP.true in
-            let b = body_sized lt p c.index-after.ensures h (body_low lt p h) in
-            wide.put_loop k ms q x o h (c.stretch_block-b.ensures.value b) c.larger.ensures (c.stretch_block-b.ensures.out_after b) c.put_stretch.ensures);
+          let b = body_sized lt p c.index-after.ensures h (body_low lt p h) in
+          wide.put_loop k ms q x o h (c.stretch_block-b.ensures.value b) c.larger.ensures (c.stretch_block-b.ensures.out_after b) c.put_stretch.ensures);
       follows_after = (λ p. let h = loop_at lt p.forms.part v c.if-kind-eq-LOOP.true in
-              wide.loop_follows k ms x a h (c.stretch_block-b.ensures.follows_after (body_sized lt p c.index-after.ensures h (body_low lt p h))));
+          wide.loop_follows k ms x a h (c.stretch_block-b.ensures.follows_after (body_sized lt p c.index-after.ensures h (body_low lt p h))));
       kept = c.stretch_block-b.ensures.kept;
     }
 
 pub stretch_form-stretch_flat-requires : goal.stretch_form-stretch_flat-requires
 stretch_form-stretch_flat-requires t c =
-    let lt = c.requires.i_lt_to in 
-    let z = c.requires.ready in 
+    let lt = c.requires.i_lt_to in
+    let z = c.requires.ready in
     let d = kind_low lt z.forms c.get-kind.ensures c.if-kind-eq-IF.false in record {
       i_lt_to = (lt, c.requires.to_in_bounds.0, c.requires.to_in_bounds.1, omega (arith, d, c.get-kind.ensures, c.if-kind-eq-LOOP.false), c.requires.to_in_bounds.4);
       under = (c.requires.to_in_bounds.3, omega (arith, z.small));
@@ -196,9 +195,9 @@ stretch_form-stretch_flat-requires t c =
 
 pub stretch_form-returns : goal.stretch_form-returns
 stretch_form-returns t c =
-    let lt = c.requires.i_lt_to in 
-    let k = cost_in c.args.column in 
-    let ms = c.args.sums.now in 
+    let lt = c.requires.i_lt_to in
+    let k = cost_in c.args.column in
+    let ms = c.args.sums.now in
     let x = c.args.s in record {
       value = (λ p. wide.plain_silence k ms x lt p.forms c.get-kind.ensures c.if-kind-eq-IF.false (c.weight.ensures (ready_zero lt p)) c.silent_before-t.ensures);
       out_after = (λ p. c.stretch_flat.ensures.by_index ms p.forms);
@@ -268,24 +267,24 @@ stretch_if-silent_before-requires t c = omega (arith, c.requires.i_lt_to.0, c.re
 
 pub stretch_if-returns : goal.stretch_if-returns
 stretch_if-returns t c =
-    let lt = c.requires.i_lt_to.0 in 
-    let z = c.requires.ready in 
-    let k = cost_in c.args.column in 
-    let ms = c.args.sums.now in 
-    let x = c.args.s in 
-    let o = c.args.out.now in 
-    let a = c.args.follows.now in 
-    let q : ℕ → ℕ → ℕ = λ f y. silence_of (head_at c.args.heads.now f) y in 
-    let hm = c.index-other.ensures in 
+    let lt = c.requires.i_lt_to.0 in
+    let z = c.requires.ready in
+    let k = cost_in c.args.column in
+    let ms = c.args.sums.now in
+    let x = c.args.s in
+    let o = c.args.out.now in
+    let a = c.args.follows.now in
+    let q : ℕ → ℕ → ℕ = λ f y. silence_of (head_at c.args.heads.now f) y in
+    let hm = c.index-other.ensures in
     let he = c.index-after.ensures in record {
       value = (λ p. let h = if_three lt p.forms refl c.requires.i_lt_to.1 in
           wide.if_silence k ms x h c.cost.ensures (c.stretch_block-a.ensures.value (then_sized lt p hm h)) (c.stretch_block-b.ensures.value (else_sized lt p hm he h)) c.larger-x.ensures c.silent_before.ensures);
       out_after = (λ p. let h = if_three lt p.forms refl c.requires.i_lt_to.1 in
-            let f = then_sized lt p hm h in
-            let g = else_sized lt p hm he h in
-            wide.put_if k ms q x o h hm (c.stretch_block-a.ensures.value f) (c.stretch_block-b.ensures.value g) c.larger-x.ensures (c.stretch_block-a.ensures.out_after f) (c.stretch_block-b.ensures.out_after g) c.put_stretch.ensures);
+          let f = then_sized lt p hm h in
+          let g = else_sized lt p hm he h in
+          wide.put_if k ms q x o h hm (c.stretch_block-a.ensures.value f) (c.stretch_block-b.ensures.value g) c.larger-x.ensures (c.stretch_block-a.ensures.out_after f) (c.stretch_block-b.ensures.out_after g) c.put_stretch.ensures);
       follows_after = (λ p. let h = if_three lt p.forms refl c.requires.i_lt_to.1 in
-              wide.if_follows k ms x a h (c.stretch_block-a.ensures.follows_after (then_sized lt p hm h)) (c.stretch_block-b.ensures.follows_after (else_sized lt p hm he h)));
+          wide.if_follows k ms x a h (c.stretch_block-a.ensures.follows_after (then_sized lt p hm h)) (c.stretch_block-b.ensures.follows_after (else_sized lt p hm he h)));
       kept = let h = if_three lt z.forms refl c.requires.i_lt_to.1 in
-              kept_both c.stretch_block-a.ensures.kept c.stretch_block-b.ensures.kept (omega arith) (omega (arith, parts hm he h));
+          kept_both c.stretch_block-a.ensures.kept c.stretch_block-b.ensures.kept (omega arith) (omega (arith, parts hm he h));
     }

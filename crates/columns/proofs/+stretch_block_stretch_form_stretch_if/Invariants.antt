@@ -1,21 +1,10 @@
 -- `columns::stretch_block`, `columns::stretch_form` and `columns::stretch_if`, which call one another, meet their contracts. Assumes nothing.
-use Rattle.columns.proofs.Widening as wide
-use Rattle.columns.proofs.Backing.{kept_all, kept_both, no_later, Back, back_start, back_on, back_end, listed_at}
-use Rattle.columns.proofs.Readiness.{body_sized, body_low, then_sized, else_sized, ready_zero, later_ready}
-use Rattle.columns.proofs.Sizes.{kind_low, if_three, if_lead}
+use Rattle.columns.proofs.Backing.{Back}
 use Rattle.columns.specs.Stretches.{stretch_rule, follow_calls}
-use Rattle.columns.specs.Private.{silence_of, head_at, sibling, later, Kept, Sized}
-use Rattle.columns.specs.Sums.{lead, cost_in}
-use Rattle.columns.proofs.Capped.{cost_le}
-use Rattle.rows.proofs.Shape.{loop_at, ends, parts}
-use Rattle.rows.specs.Rows.{block_at}
-use Rattle.model.specs.Static.{line_silence}
-use Rattle.model.specs.Total.{tally}
-use lib.ListN.{get_or}
-use Prim.Native.Nat.{ℕ, suc, ◌+◌, ◌-◌, ◌≤◌, ◌<◌}
-use mathlib.Core.Path.{◌≡◌, refl, ◌∙◌}
-use borrow.Author.Rules.{rules}
-use native.Mathlib.Omega.{arith}
+use Rattle.columns.specs.Private.{silence_of, head_at, later, Kept, Sized}
+use Rattle.columns.specs.Sums.{cost_in}
+use Prim.Native.Nat.{◌+◌, ◌≤◌}
+use mathlib.Core.Path.{◌≡◌}
 use Rattle.columns.proofs.+stretch_block_stretch_form_stretch_if.Given as goal
 
 abbrev pub decreases-stretch_block : goal.decreases-stretch_block

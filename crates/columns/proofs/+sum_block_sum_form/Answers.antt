@@ -1,20 +1,16 @@
 -- `columns::sum_block` and `columns::sum_form`, which call each other, meet their contracts. Assumes nothing.
-use Rattle.columns.proofs.Summing.{leaf_turn, call_turn, if_turn, leaf_sum, call_sum, loop_sum, if_sum, loop_note, Passed, pass, passed_all}
+use Rattle.columns.proofs.Summing.{leaf_turn, call_turn, if_turn, leaf_sum, call_sum, loop_sum, if_sum, loop_note, pass, passed_all}
 use Rattle.columns.proofs.Fronts.{leaf_front, call_front, loop_front, front_if}
 use Rattle.columns.proofs.Sizes.{body_part, then_part, else_part, kind_low, if_three}
 use Rattle.columns.proofs.Capped.{cost_le}
-use Rattle.columns.specs.Columns.{turn_rule, turns}
-use Rattle.columns.specs.Sums.{ceiling, cost_in}
+use Rattle.columns.specs.Columns.{turn_rule}
+use Rattle.columns.specs.Sums.{cost_in}
 use Rattle.rows.proofs.Shape.{leaf_at, call_at, loop_at, ends, parts, flat_end}
-use Rattle.rows.specs.Rows.{block_at, Piece}
-use Rattle.model.specs.Total.{tally}
-use lib.Seq.{sets}
+use Rattle.rows.specs.Rows.{block_at}
 use lib.ListN.{get_or}
-use Prim.Native.Nat.{◌+◌, ◌-◌, ◌≤◌}
 use mathlib.Core.Path.{◌≡◌, refl, ap}
-use borrow.Author.Rules.{rules}
 use native.Mathlib.Omega.{arith}
-use Prim.Native.Nat.{ℕ, ◌<◌}
+use Prim.Native.Nat.{ℕ}
 use Rattle.columns.proofs.+sum_block_sum_form.Goals as goal
 
 pub sum_block-loop-i-init : goal.sum_block-loop-i-init
@@ -56,7 +52,7 @@ sum_block-loop-i-preserved t c =
 
 pub sum_block-returns : goal.sum_block-returns
 sum_block-returns t c =
-    let a = c.loop-i in 
+    let a = c.loop-i in
     let h = c.loop-i-test.false in record {
       upper_bound = a.invariant.0;
       value = (λ p. (passed_all h (a.invariant.1 p) a.invariant.0).0);
@@ -95,16 +91,16 @@ sum_form-looped-requires t c =
 
 pub sum_form-returns-then-kind-eq-LOOP : goal.sum_form-returns-then-kind-eq-LOOP
 sum_form-returns-then-kind-eq-LOOP t c =
-    let lt = c.requires.i_lt_to in 
-    let k = cost_in c.args.column in 
-    let ts = c.args.sums.now in 
-    let o = c.args.turn.now in 
-    let v = c.get-kind.ensures in 
+    let lt = c.requires.i_lt_to in
+    let k = cost_in c.args.column in
+    let ts = c.args.sums.now in
+    let o = c.args.turn.now in
+    let v = c.get-kind.ensures in
     let he = c.index-after.ensures in record {
       upper_bound = omega (arith, c.looped.ensures);
       value = (λ p. loop_sum k ts (loop_at lt p.part v c.if-kind-eq-LOOP.true) c.cost-c.ensures c.get.ensures he c.sum_block-body.ensures.value c.looped.ensures);
       turn_after = λ p. let h = loop_at lt p.part v c.if-kind-eq-LOOP.true in
-            loop_front (turn_rule k ts) o 0 h (loop_note k ts h c.cost-c.ensures he c.sum_block-body.ensures.value) refl (c.sum_block-body.ensures.turn_after (body_part he h));
+          loop_front (turn_rule k ts) o 0 h (loop_note k ts h c.cost-c.ensures he c.sum_block-body.ensures.value) refl (c.sum_block-body.ensures.turn_after (body_part he h));
     }
 
 pub sum_form-overflow_sub-rest : goal.sum_form-overflow_sub-rest
@@ -142,17 +138,17 @@ sum_form-overflow_add-c t c =
 
 pub sum_form-returns-then-kind-eq-IF : goal.sum_form-returns-then-kind-eq-IF
 sum_form-returns-then-kind-eq-IF t c =
-    let lt = c.requires.i_lt_to in 
-    let k = cost_in c.args.column in 
-    let ts = c.args.sums.now in 
-    let o = c.args.turn.now in 
-    let v = c.get-kind.ensures in 
-    let he = c.index-after-then-kind-eq-IF.ensures in 
+    let lt = c.requires.i_lt_to in
+    let k = cost_in c.args.column in
+    let ts = c.args.sums.now in
+    let o = c.args.turn.now in
+    let v = c.get-kind.ensures in
+    let he = c.index-after-then-kind-eq-IF.ensures in
     let hm = c.index-other.ensures in record {
       upper_bound = omega (arith, c.clip.ensures);
       value = (λ p. if_sum k ts (if_three lt p v c.if-kind-eq-IF.true) c.cost-c.ensures hm he c.sum_block-a.ensures.value c.sum_block-b.ensures.value c.larger.ensures c.clip.ensures);
       turn_after = λ p. let h = if_three lt p v c.if-kind-eq-IF.true in
-            front_if (turn_rule k ts) o 0 h hm (if_turn k ts h) (c.sum_block-a.ensures.turn_after (then_part hm h)) (c.sum_block-b.ensures.turn_after (else_part hm he h));
+          front_if (turn_rule k ts) o 0 h hm (if_turn k ts h) (c.sum_block-a.ensures.turn_after (then_part hm h)) (c.sum_block-b.ensures.turn_after (else_part hm he h));
     }
 
 pub sum_form-offset_bounds-sums-f : goal.sum_form-offset_bounds-sums-f
@@ -178,10 +174,10 @@ sum_form-overflow_add-c-then-kind-eq-CALL t c =
 
 pub sum_form-returns-then-kind-eq-CALL : goal.sum_form-returns-then-kind-eq-CALL
 sum_form-returns-then-kind-eq-CALL t c =
-    let lt = c.requires.i_lt_to in 
-    let k = cost_in c.args.column in 
-    let ts = c.args.sums.now in 
-    let o = c.args.turn.now in 
+    let lt = c.requires.i_lt_to in
+    let k = cost_in c.args.column in
+    let ts = c.args.sums.now in
+    let o = c.args.turn.now in
     let v = c.get-kind.ensures in record {
       upper_bound = omega (arith, c.clip-then-kind-eq-CALL.ensures);
       value = (λ p. call_sum k ts (call_at lt p.part v c.if-kind-eq-CALL.true) c.cost-c.ensures (ap (λ (y : ℕ). get_or ts y 0) c.index-f.ensures) c.clip-then-kind-eq-CALL.ensures);
@@ -190,11 +186,11 @@ sum_form-returns-then-kind-eq-CALL t c =
 
 pub sum_form-returns : goal.sum_form-returns
 sum_form-returns t c =
-    let lt = c.requires.i_lt_to in 
-    let k = cost_in c.args.column in 
-    let ts = c.args.sums.now in 
-    let o = c.args.turn.now in 
-    let v = c.get-kind.ensures in 
+    let lt = c.requires.i_lt_to in
+    let k = cost_in c.args.column in
+    let ts = c.args.sums.now in
+    let o = c.args.turn.now in
+    let v = c.get-kind.ensures in
     let v0 : c.get-kind.result ≡ 0 = omega (arith, kind_low lt c.requires.piece v c.if-kind-eq-IF.false, v, c.if-kind-eq-LOOP.false, c.if-kind-eq-CALL.false) in record {
       upper_bound = let h = leaf_at lt c.requires.piece.part v v0 in (leaf_sum k ts h (cost_le c.args.column (block_at c.args.row.now c.args.i) h.costs) c.cost-c.ensures).0;
       value = (λ p. let h = leaf_at lt p.part v v0 in (leaf_sum k ts h (cost_le c.args.column (block_at c.args.row.now c.args.i) h.costs) c.cost-c.ensures).1);

@@ -1,25 +1,24 @@
 -- `columns::tail_block` and `columns::tail_form`, which call each other, meet their contracts. Assumes nothing.
 use Rattle.columns.proofs.Tailing.{loop_behind, if_tail, tail_on, tail_le, tail_close}
-use Rattle.columns.proofs.Backing.{kept_all, kept_both, Back, back_start, back_on, back_end, listed_at}
+use Rattle.columns.proofs.Backing.{kept_all, kept_both, back_start, back_on, back_end, listed_at}
 use Rattle.columns.proofs.Readiness.{body_sized, then_sized, else_sized, ready_zero, later_ready}
 use Rattle.columns.proofs.Fronts.{plain_front, front_loop, if_front}
 use Rattle.columns.proofs.Sizes.{kind_low, if_three}
-use Rattle.columns.specs.Private.{sibling, Kept, Sized}
+use Rattle.columns.specs.Private.{sibling}
 use Rattle.columns.specs.Columns.{tail_rule}
 use Rattle.columns.specs.Sums.{lead}
 use Rattle.rows.proofs.Shape.{loop_at, ends, parts}
 use Rattle.model.specs.Plan.{C}
 use lib.ListN.{get_or}
-use Prim.Native.Nat.{ℕ, suc, ◌+◌, ◌-◌, ◌≤◌, ◌<◌}
+use Prim.Native.Nat.{ℕ, suc, ◌+◌, ◌-◌, ◌<◌}
 use mathlib.Core.Path.{◌≡◌, refl, ap, ◌∙◌}
-use borrow.Author.Rules.{rules}
 use native.Mathlib.Omega.{arith}
 use Prim.Native.Nat.{ℕ, ◌<◌}
 use Rattle.columns.proofs.+tail_block_tail_form.Goals as goal
 
 pub tail_block-list-n-requires : goal.tail_block-list-n-requires
 tail_block-list-n-requires t c =
- let z = c.requires.sized in record {
+    let z = c.requires.sized in record {
       to_in_bounds = c.requires.to_in_bounds;
       by_index = (c.args.left, z.forms);
     }
@@ -95,7 +94,7 @@ tail_block-loop-n-preserved t c =
 
 pub tail_block-returns : goal.tail_block-returns
 tail_block-returns t c =
-    let a = c.loop-n in 
+    let a = c.loop-n in
     let h = c.loop-n-test.false in record {
       value = (λ p. (back_end (omega (arith, h)) (a.invariant.2 p)).0);
       out_after = (λ p. (back_end (omega (arith, h)) (a.invariant.2 p)).1);
@@ -146,27 +145,27 @@ tail_form-bounds-out-i t c = omega (arith, c.requires.i_lt_to, c.requires.to_in_
 
 pub tail_form-returns-then-kind-eq-IF : goal.tail_form-returns-then-kind-eq-IF
 tail_form-returns-then-kind-eq-IF t c =
-    let lt = c.requires.i_lt_to in 
-    let z = c.requires.ready in 
-    let ts = c.args.sums.now in 
-    let x = c.args.e in 
-    let o = c.args.out.now in 
-    let v = c.get-kind.ensures in 
-    let hm = c.index-other.ensures in 
+    let lt = c.requires.i_lt_to in
+    let z = c.requires.ready in
+    let ts = c.args.sums.now in
+    let x = c.args.e in
+    let o = c.args.out.now in
+    let v = c.get-kind.ensures in
+    let hm = c.index-other.ensures in
     let he = c.index-after.ensures in record {
       value = (λ p. let h = if_three lt p.forms v c.if-kind-eq-IF.true in
           if_tail ts x h c.get.ensures (c.tail_block-a.ensures.value (then_sized lt p hm h)) (c.tail_block-b.ensures.value (else_sized lt p hm he h)) c.larger.ensures);
       out_after = (λ p. let h = if_three lt p.forms v c.if-kind-eq-IF.true in
-            let f = then_sized lt p hm h in
-            let g = else_sized lt p hm he h in
-            if_front (tail_rule ts) o x h hm (if_tail ts x h c.get.ensures (c.tail_block-a.ensures.value f) (c.tail_block-b.ensures.value g) c.larger.ensures) (c.tail_block-a.ensures.out_after f) (c.tail_block-b.ensures.out_after g));
+          let f = then_sized lt p hm h in
+          let g = else_sized lt p hm he h in
+          if_front (tail_rule ts) o x h hm (if_tail ts x h c.get.ensures (c.tail_block-a.ensures.value f) (c.tail_block-b.ensures.value g) c.larger.ensures) (c.tail_block-a.ensures.out_after f) (c.tail_block-b.ensures.out_after g));
       kept = let h = if_three lt z.forms v c.if-kind-eq-IF.true in
-            kept_both c.tail_block-a.ensures.kept c.tail_block-b.ensures.kept (omega arith) (omega (arith, parts hm he h));
+          kept_both c.tail_block-a.ensures.kept c.tail_block-b.ensures.kept (omega arith) (omega (arith, parts hm he h));
     }
 
 pub tail_form-weight-requires : goal.tail_form-weight-requires
 tail_form-weight-requires t c =
-    let lt = c.requires.i_lt_to in 
+    let lt = c.requires.i_lt_to in
     let z = c.requires.ready in record {
       i_lt_to = (lt, c.requires.to_in_bounds.0, c.requires.to_in_bounds.1, kind_low lt z.forms c.get-kind.ensures c.if-kind-eq-IF.false, (omega arith, omega arith));
       ready = ready_zero lt z;
@@ -215,25 +214,25 @@ tail_form-tail_block-requires t c =
 
 pub tail_form-returns-then-kind-eq-LOOP : goal.tail_form-returns-then-kind-eq-LOOP
 tail_form-returns-then-kind-eq-LOOP t c =
-    let lt = c.requires.i_lt_to in 
-    let ts = c.args.sums.now in 
-    let x = c.args.e in 
+    let lt = c.requires.i_lt_to in
+    let ts = c.args.sums.now in
+    let x = c.args.e in
     let o = c.args.out.now in record {
       value = (λ p. ap (λ (y : ℕ). y + x) (c.weight.ensures (ready_zero lt p)));
       out_after = (λ p. let h = loop_at lt p.forms.part c.get-kind.ensures c.if-kind-eq-LOOP.true in
-            let ht : c.weight.result + x ≡ lead C ts p.forms.part.lines + x = ap (λ (y : ℕ). y + x) (c.weight.ensures (ready_zero lt p)) in
-            front_loop (tail_rule ts) o x h ht (loop_behind lt p h ht).0 (c.tail_block.ensures.out_after (body_sized lt p c.index-after-then-kind-eq-LOOP.ensures h (loop_behind lt p h ht).1)));
+          let ht : c.weight.result + x ≡ lead C ts p.forms.part.lines + x = ap (λ (y : ℕ). y + x) (c.weight.ensures (ready_zero lt p)) in
+          front_loop (tail_rule ts) o x h ht (loop_behind lt p h ht).0 (c.tail_block.ensures.out_after (body_sized lt p c.index-after-then-kind-eq-LOOP.ensures h (loop_behind lt p h ht).1)));
       kept = c.tail_block.ensures.kept;
     }
 
 pub tail_form-returns-else-kind-eq-LOOP : goal.tail_form-returns-else-kind-eq-LOOP
 tail_form-returns-else-kind-eq-LOOP t c =
-    let lt = c.requires.i_lt_to in 
-    let ts = c.args.sums.now in 
-    let x = c.args.e in 
+    let lt = c.requires.i_lt_to in
+    let ts = c.args.sums.now in
+    let x = c.args.e in
     let o = c.args.out.now in record {
       value = (λ p. ap (λ (y : ℕ). y + x) (c.weight.ensures (ready_zero lt p)));
       out_after = (λ p. let ht : c.weight.result + x ≡ lead C ts p.forms.part.lines + x = ap (λ (y : ℕ). y + x) (c.weight.ensures (ready_zero lt p)) in
-            plain_front (tail_rule ts) o x lt p.forms c.get-kind.ensures c.if-kind-eq-LOOP.false c.if-kind-eq-IF.false ht);
+          plain_front (tail_rule ts) o x lt p.forms c.get-kind.ensures c.if-kind-eq-LOOP.false c.if-kind-eq-IF.false ht);
       kept = kept_all c.args.seq.now;
     }

@@ -1,9 +1,6 @@
 -- `columns::apply` meets its contract. Assumes nothing.
 use Rattle.columns.proofs.Silences.{open_silence}
-use Rattle.model.specs.Plan.{M}
-use Prim.Native.Nat.{◌-◌}
 use mathlib.Core.Path.{sym, ◌∙◌}
-use borrow.Author.Rules.{rules}
 use Rattle.columns.proofs.apply.Goals as goal
 
 pub returns-then-q : goal.returns-then-q

@@ -1,7 +1,6 @@
 -- `columns::cost` meets its contract. Assumes nothing.
 use mathlib.Core.Path.{◌∙◌}
 use Rattle.columns.proofs.Capped.{cost_held}
-use borrow.Author.Rules.{rules}
 use Rattle.columns.proofs.cost.Goals as goal
 
 pub returns : goal.returns

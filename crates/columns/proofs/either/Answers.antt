@@ -1,8 +1,5 @@
 -- `columns::either` meets its contract. Assumes nothing.
 use Rattle.columns.proofs.Silences.{either_both, either_left, either_right}
-use Rattle.model.specs.Plan.{M}
-use Prim.Native.Nat.{◌-◌}
-use borrow.Author.Rules.{rules}
 use Rattle.columns.proofs.either.Goals as goal
 
 pub returns-then-y : goal.returns-then-y

@@ -7,7 +7,6 @@ use Rattle.model.specs.Plan.{C}
 use Rattle.rows.proofs.Answers.{same_answer}
 use Rattle.rows.proofs.Shape.{leaf_at, call_at}
 use Rattle.columns.proofs.Sizes.{leaf_lead, call_lead}
-use borrow.Author.Rules.{rules}
 use Rattle.columns.proofs.flat_fits.Goals as goal
 
 pub returns-then-get-eq-LEAF : goal.returns-then-get-eq-LEAF

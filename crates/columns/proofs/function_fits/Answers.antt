@@ -1,6 +1,4 @@
 -- `columns::function_fits` meets its contract. Assumes nothing.
-use borrow.Author.Rules.{rules}
-use borrow.Author.Tests.{not-true, not-false}
 use native.Mathlib.Omega.{arith}
 use mathlib.Core.Path.{◌≡◌}
 use lib.ListN.{get_or}
@@ -14,9 +12,9 @@ use Rattle.columns.proofs.function_fits.Goals as goal
 
 pub block_fits-requires : goal.block_fits-requires
 block_fits-requires c =
-    let f = c.args.f in 
-    let lt = c.requires.f_lt_n.0 in 
-    let v = c.requires.plan_of in 
+    let f = c.args.f in
+    let lt = c.requires.f_lt_n.0 in
+    let v = c.requires.plan_of in
     let e = fun_order v f c.args.n lt (omega arith) in record {
       to_in_bounds = ((plan_inside v f lt).0, omega (arith, e, c.requires.n_in_bounds.0), omega (arith, e, c.requires.n_in_bounds.1), omega arith);
       piece = fun_part v f lt;

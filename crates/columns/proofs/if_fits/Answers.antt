@@ -3,7 +3,6 @@ use Prim.Native.Nat.{◌+◌}
 use native.Mathlib.Omega.{arith}
 use Rattle.rows.proofs.Answers.{same_answer}
 use Rattle.columns.proofs.Fitting.{begins_same, begins_some}
-use borrow.Author.Rules.{rules}
 use Rattle.columns.proofs.if_fits.Goals as goal
 
 pub returns-then-t-c : goal.returns-then-t-c

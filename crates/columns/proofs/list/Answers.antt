@@ -1,7 +1,6 @@
 -- `columns::list` meets its contract. Assumes nothing.
-use Rattle.columns.proofs.Listing.{Listing, list_start, list_next, listed, later_part}
+use Rattle.columns.proofs.Listing.{list_start, list_next, listed, later_part}
 use Rattle.rows.proofs.Shape.{rep_le, flat_end}
-use Prim.Native.Nat.{◌-◌}
 use native.Mathlib.Omega.{arith}
 use Rattle.columns.proofs.list.Goals as goal
 
@@ -49,7 +48,7 @@ loop-i-preserved c =
 
 pub returns : goal.returns
 returns c =
- let a = c.loop-i in record {
+    let a = c.loop-i in record {
       listed = listed c.loop-i-test.false a.invariant;
       kept = a.invariant.kept;
     }

@@ -1,8 +1,6 @@
 -- `columns::list` meets its contract. Assumes nothing.
-use Rattle.columns.proofs.Listing.{Listing, list_start, list_next, listed, later_part}
-use Rattle.rows.proofs.Shape.{rep_le, flat_end}
+use Rattle.columns.proofs.Listing.{Listing}
 use Prim.Native.Nat.{◌-◌}
-use native.Mathlib.Omega.{arith}
 use Rattle.columns.proofs.list.Given as goal
 
 abbrev pub invariant-loop-i : goal.invariant-loop-i

@@ -5,7 +5,6 @@ use native.Mathlib.Omega.{arith}
 use Rattle.rows.proofs.Answers.{same_answer}
 use Rattle.columns.proofs.Capped.{rounds_low}
 use Rattle.columns.proofs.Fitting.{begins_same}
-use borrow.Author.Rules.{rules}
 use Rattle.columns.proofs.loop_fits.Goals as goal
 
 pub overflow_mul-get : goal.overflow_mul-get

@@ -1,7 +1,6 @@
 -- `columns::looped` meets its contract. Assumes nothing.
 use Rattle.columns.proofs.Capped.{product}
 use native.Mathlib.Omega.{arith}
-use borrow.Author.Rules.{rules}
 use Rattle.columns.proofs.looped.Goals as goal
 
 pub overflow_mul-b : goal.overflow_mul-b

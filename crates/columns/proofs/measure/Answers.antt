@@ -1,9 +1,6 @@
 -- `columns::measure` meets its contract. Assumes nothing.
 use Rattle.rows.proofs.Plans.{plan_inside}
-use Rattle.columns.proofs.Functions.{fun_part, Measuring, measure_start, measure_next, measured}
-use Rattle.columns.specs.Sums.{cost_in}
-use Prim.Native.Nat.{◌-◌, ◌≤◌}
-use borrow.Author.Rules.{rules}
+use Rattle.columns.proofs.Functions.{fun_part, measure_start, measure_next, measured}
 use native.Mathlib.Omega.{arith}
 use Rattle.columns.proofs.measure.Goals as goal
 
@@ -12,9 +9,9 @@ loop-f-init c = (omega arith, measure_start c.args.turn.now c.requires.n_in_boun
 
 pub sum_block-t-requires : goal.sum_block-t-requires
 sum_block-t-requires c =
-    let a = c.loop-f in 
-    let lt = c.loop-f-test.true in 
-    let v = c.requires.plan_of in 
+    let a = c.loop-f in
+    let lt = c.loop-f-test.true in
+    let v = c.requires.plan_of in
     let f = a.f in record {
       to_in_bounds = ((plan_inside v f lt).0, (plan_inside v f lt).1, a.invariant.1.under, c.requires.n_in_bounds.3);
       piece = fun_part v f lt;

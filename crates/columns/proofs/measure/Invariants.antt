@@ -1,10 +1,7 @@
 -- `columns::measure` meets its contract. Assumes nothing.
-use Rattle.rows.proofs.Plans.{plan_inside}
-use Rattle.columns.proofs.Functions.{fun_part, Measuring, measure_start, measure_next, measured}
+use Rattle.columns.proofs.Functions.{Measuring}
 use Rattle.columns.specs.Sums.{cost_in}
 use Prim.Native.Nat.{◌-◌, ◌≤◌}
-use borrow.Author.Rules.{rules}
-use native.Mathlib.Omega.{arith}
 use Rattle.columns.proofs.measure.Given as goal
 
 abbrev pub invariant-loop-f : goal.invariant-loop-f

@@ -1,8 +1,5 @@
 -- `columns::onto` meets its contract. Assumes nothing.
 use Rattle.columns.proofs.Silences.{onto_free, onto_shut}
-use Rattle.model.specs.Plan.{M}
-use Prim.Native.Nat.{◌-◌}
-use borrow.Author.Rules.{rules}
 use Rattle.columns.proofs.onto.Goals as goal
 
 pub returns-then-x : goal.returns-then-x

@@ -7,7 +7,6 @@ use lib.ListN.{set}
 use Prim.Native.Nat.{ℕ, ◌+◌}
 use mathlib.Core.Path.{sym, ap, ◌∙◌}
 use borrow.Author.Tests.{eq-eqb, ne_eqb}
-use borrow.Author.Rules.{rules}
 use Rattle.columns.proofs.put_stretch.Goals as goal
 
 pub returns-then-get-eq1 : goal.returns-then-get-eq1

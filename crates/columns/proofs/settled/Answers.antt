@@ -1,10 +1,7 @@
 -- `columns::settled` meets its contract. Assumes nothing.
-use mathlib.Core.Path.{◌≡◌, refl}
+use mathlib.Core.Path.{refl}
 use Rattle.columns.proofs.Fitting.{settled_on}
-use borrow.Author.Rules.{rules}
 use native.Mathlib.Omega.{arith}
-use lib.ListN.{get_or}
-use Prim.Native.Nat.{ℕ, ◌-◌, ◌≤◌, ◌<◌}
 use Rattle.columns.proofs.settled.Goals as goal
 
 pub loop-f-init : goal.loop-f-init

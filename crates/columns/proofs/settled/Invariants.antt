@@ -1,8 +1,5 @@
 -- `columns::settled` meets its contract. Assumes nothing.
-use mathlib.Core.Path.{◌≡◌, refl}
-use Rattle.columns.proofs.Fitting.{settled_on}
-use borrow.Author.Rules.{rules}
-use native.Mathlib.Omega.{arith}
+use mathlib.Core.Path.{◌≡◌}
 use lib.ListN.{get_or}
 use Prim.Native.Nat.{ℕ, ◌-◌, ◌≤◌, ◌<◌}
 use Rattle.columns.proofs.settled.Given as goal

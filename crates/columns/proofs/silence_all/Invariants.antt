@@ -1,12 +1,7 @@
 -- `columns::silence_all` meets its contract. Assumes nothing.
-use Rattle.rows.proofs.Plans.{plan_inside}
-use Rattle.columns.proofs.Driving.{fun_sized, Keeping, keep_start, keep_on}
-use Rattle.columns.proofs.Functions.{zeros_under}
-use Rattle.columns.specs.Sums.{limit, cost_in}
-use lib.ListN.{length-replicate}
-use Prim.Native.Nat.{ℕ, ◌-◌, ◌≤◌}
-use borrow.Author.Rules.{rules}
-use native.Mathlib.Omega.{arith}
+use Rattle.columns.proofs.Driving.{Keeping}
+use Rattle.columns.specs.Sums.{cost_in}
+use Prim.Native.Nat.{◌-◌, ◌≤◌}
 use Rattle.columns.proofs.silence_all.Given as goal
 
 abbrev pub invariant-loop-f : goal.invariant-loop-f

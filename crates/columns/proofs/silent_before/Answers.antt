@@ -1,12 +1,9 @@
 -- `columns::silent_before` meets its contract. Assumes nothing.
 use Rattle.columns.proofs.Silences.{pick_yes, pick_no}
 use Rattle.rows.specs.Rows.{field}
-use Rattle.model.specs.Plan.{M}
 use lib.Dec.{eqb}
-use Prim.Native.Nat.{◌-◌}
 use mathlib.Core.Path.{sym, ◌∙◌}
 use borrow.Author.Tests.{eq-eqb, ne_eqb}
-use borrow.Author.Rules.{rules}
 use Rattle.columns.proofs.silent_before.Goals as goal
 
 pub returns-then-get-eq1 : goal.returns-then-get-eq1

@@ -1,13 +1,9 @@
 -- `columns::stretch_all` meets its contract. Assumes nothing.
 use Rattle.rows.proofs.Plans.{plan_inside}
-use Rattle.columns.proofs.Driving.{fun_sized, Driving, drive_start, drive_fits, drive_on, driven}
-use Rattle.columns.specs.Whole.{Summed}
-use Rattle.columns.specs.Private.{silence_of, head_at}
-use lib.ListN.{length, get_or, length-replicate}
-use Prim.Native.Nat.{ℕ, ◌-◌, ◌≤◌, ◌<◌}
-use mathlib.Core.Path.{◌≡◌, refl, ◌∙◌}
-use Rattle.columns.specs.Sums.{cost_in}
-use borrow.Author.Rules.{rules}
+use Rattle.columns.proofs.Driving.{fun_sized, drive_start, drive_fits, drive_on, driven}
+use lib.ListN.{get_or, length-replicate}
+use Prim.Native.Nat.{ℕ, ◌-◌, ◌<◌}
+use mathlib.Core.Path.{refl, ◌∙◌}
 use native.Mathlib.Omega.{arith}
 use Rattle.columns.proofs.stretch_all.Goals as goal
 
@@ -36,10 +32,10 @@ bounds-starts-f-in-loop-f c =
 
 pub stretch_block-requires : goal.stretch_block-requires
 stretch_block-requires c =
-    let a = c.loop-f in 
-    let lt = c.loop-f-test.true in 
-    let v = c.requires.summed in 
-    let f = a.f - 1 in 
+    let a = c.loop-f in
+    let lt = c.loop-f-test.true in
+    let v = c.requires.summed in
+    let f = a.f - 1 in
     let l : f < c.args.n = omega (arith, a.invariant.0, lt) in record {
       to_in_bounds = ((plan_inside v.plan f l).0, (plan_inside v.plan f l).1, a.invariant.1, c.requires.n_in_bounds.2, c.requires.n_in_bounds.3);
       sized = fun_sized v f (get_or a.follows f 0) l (drive_fits (a.invariant.2 v) f l);

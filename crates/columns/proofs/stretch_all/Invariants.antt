@@ -1,14 +1,11 @@
 -- `columns::stretch_all` meets its contract. Assumes nothing.
-use Rattle.rows.proofs.Plans.{plan_inside}
-use Rattle.columns.proofs.Driving.{fun_sized, Driving, drive_start, drive_fits, drive_on, driven}
+use Rattle.columns.proofs.Driving.{Driving}
 use Rattle.columns.specs.Whole.{Summed}
 use Rattle.columns.specs.Private.{silence_of, head_at}
-use lib.ListN.{length, get_or, length-replicate}
-use Prim.Native.Nat.{ℕ, ◌-◌, ◌≤◌, ◌<◌}
-use mathlib.Core.Path.{◌≡◌, refl, ◌∙◌}
+use lib.ListN.{length}
+use Prim.Native.Nat.{◌≤◌}
+use mathlib.Core.Path.{◌≡◌}
 use Rattle.columns.specs.Sums.{cost_in}
-use borrow.Author.Rules.{rules}
-use native.Mathlib.Omega.{arith}
 use Rattle.columns.proofs.stretch_all.Given as goal
 
 abbrev pub invariant-loop-f : goal.invariant-loop-f

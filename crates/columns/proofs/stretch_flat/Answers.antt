@@ -11,7 +11,6 @@ use lib.ListN.{set}
 use Prim.Native.Nat.{ℕ}
 use mathlib.Core.Path.{◌≡◌, ap, ◌∙◌}
 use native.Mathlib.Omega.{arith}
-use borrow.Author.Rules.{rules}
 use Rattle.columns.proofs.stretch_flat.Goals as goal
 
 pub put_stretch-requires : goal.put_stretch-requires
@@ -22,12 +21,12 @@ put_stretch-requires c =
 
 pub returns-then-get-eq-LEAF : goal.returns-then-get-eq-LEAF
 returns-then-get-eq-LEAF c =
-    let lt = c.requires.i_lt_to.0 in 
-    let k = cost_in c.args.column in 
-    let x = c.args.s in 
-    let o = c.args.out.now in 
-    let a = c.args.follows.now in 
-    let hd = c.args.heads.now in 
+    let lt = c.requires.i_lt_to.0 in
+    let k = cost_in c.args.column in
+    let x = c.args.s in
+    let o = c.args.out.now in
+    let a = c.args.follows.now in
+    let hd = c.args.heads.now in
     let q : ℕ → ℕ → ℕ = λ f y. silence_of (head_at hd f) y in record {
       by_index = (λ ms p. wide.put_leaf k ms q x o (leaf_at lt p.part c.get.ensures c.if-get-eq-LEAF.true) c.put_stretch.ensures);
       by_index_2 = λ ms p. wide.leaf_follows k ms x a (leaf_at lt p.part c.get.ensures c.if-get-eq-LEAF.true);
@@ -81,14 +80,14 @@ put_stretch-requires-2 c =
 
 pub returns : goal.returns
 returns c =
-    let lt = c.requires.i_lt_to.0 in 
-    let k = cost_in c.args.column in 
-    let x = c.args.s in 
-    let o = c.args.out.now in 
-    let a = c.args.follows.now in 
-    let hd = c.args.heads.now in 
-    let q : ℕ → ℕ → ℕ = λ f y. silence_of (head_at hd f) y in 
-    let v1 : c.get.result ≡ 1 = omega (arith, c.get.ensures, c.if-get-eq-LEAF.false, c.requires.i_lt_to.3) in 
+    let lt = c.requires.i_lt_to.0 in
+    let k = cost_in c.args.column in
+    let x = c.args.s in
+    let o = c.args.out.now in
+    let a = c.args.follows.now in
+    let hd = c.args.heads.now in
+    let q : ℕ → ℕ → ℕ = λ f y. silence_of (head_at hd f) y in
+    let v1 : c.get.result ≡ 1 = omega (arith, c.get.ensures, c.if-get-eq-LEAF.false, c.requires.i_lt_to.3) in
     let e = c.apply.ensures ∙ ap (λ (y : SilentSum). silence_of y x) c.head-q.ensures ∙ ap (λ (f : ℕ). q f x) c.index-f.ensures in record {
       by_index = (λ ms p. wide.put_call k ms q x o (call_at lt p.part c.get.ensures v1)
           (c.put_stretch-2.ensures ∙ ap (λ (y : ℕ). set o c.args.i (leaf_stretch k (block_at c.args.row.now c.args.i) y)) e));

@@ -9,7 +9,6 @@ use Rattle.columns.specs.Private.{silence_of, head_at}
 use Rattle.columns.specs.declared.SilentSum.{SilentSum}
 use Rattle.columns.proofs.Widening.{head_low}
 use Rattle.columns.proofs.Written.{written_same}
-use borrow.Author.Rules.{rules}
 use Rattle.columns.proofs.stretches.Goals as goal
 
 pub apply-requires : goal.apply-requires
@@ -19,10 +18,10 @@ apply-requires c =
 
 pub returns : goal.returns
 returns c =
-    let n = c.args.n in 
-    let lt : n - 1 < n = omega (arith, c.requires.le_n.0) in 
-    let k = cost_in c.args.column in 
-    let ms = c.args.sums.now in 
+    let n = c.args.n in
+    let lt : n - 1 < n = omega (arith, c.requires.le_n.0) in
+    let k = cost_in c.args.column in
+    let ms = c.args.sums.now in
     let heads = c.silence_all-heads.result in record {
       value = (λ v. c.apply.ensures ∙ ap (λ (y : SilentSum). silence_of y 0) c.head-q.ensures ∙ c.silence_all-heads.ensures.s_value v (n - 1) 0 lt);
       stretch_after = λ v. c.stretch_all.ensures v ∙

@@ -1,13 +1,10 @@
 -- `columns::tail_all` meets its contract. Assumes nothing.
 use Rattle.columns.proofs.Driving.{fun_sized, tails_start, tails_next, tails_end}
-use Rattle.columns.specs.Whole.{Summed, tails_written}
-use lib.ListN.{length, length-replicate}
-use Prim.Native.Nat.{ℕ, ◌-◌, ◌≤◌}
-use mathlib.Core.Path.{◌≡◌, ◌∙◌}
-use Rattle.model.specs.Plan.{C}
+use lib.ListN.{length-replicate}
+use Prim.Native.Nat.{ℕ}
+use mathlib.Core.Path.{◌∙◌}
 use Rattle.rows.specs.Plans.{lines_of}
 use Rattle.rows.proofs.Plans.{plan_inside}
-use borrow.Author.Rules.{rules}
 use native.Mathlib.Omega.{arith}
 use Rattle.columns.proofs.tail_all.Goals as goal
 
@@ -16,9 +13,9 @@ loop-f-init c = (omega arith, length-replicate {A = ℕ} 512 0, λ v. tails_star
 
 pub tail_block-requires : goal.tail_block-requires
 tail_block-requires c =
-    let a = c.loop-f in 
-    let lt = c.loop-f-test.true in 
-    let v = c.requires.summed in 
+    let a = c.loop-f in
+    let lt = c.loop-f-test.true in
+    let v = c.requires.summed in
     let f = a.f in record {
       to_in_bounds = ((plan_inside v.plan f lt).0, (plan_inside v.plan f lt).1, a.invariant.1);
       sized = fun_sized v f 0 lt (omega (arith, v.exact.small f lt));

@@ -1,14 +1,10 @@
 -- `columns::tail_all` meets its contract. Assumes nothing.
-use Rattle.columns.proofs.Driving.{fun_sized, tails_start, tails_next, tails_end}
 use Rattle.columns.specs.Whole.{Summed, tails_written}
-use lib.ListN.{length, length-replicate}
-use Prim.Native.Nat.{ℕ, ◌-◌, ◌≤◌}
-use mathlib.Core.Path.{◌≡◌, ◌∙◌}
+use lib.ListN.{length}
+use Prim.Native.Nat.{◌-◌, ◌≤◌}
+use mathlib.Core.Path.{◌≡◌}
 use Rattle.model.specs.Plan.{C}
 use Rattle.rows.specs.Plans.{lines_of}
-use Rattle.rows.proofs.Plans.{plan_inside}
-use borrow.Author.Rules.{rules}
-use native.Mathlib.Omega.{arith}
 use Rattle.columns.proofs.tail_all.Given as goal
 
 abbrev pub invariant-loop-f : goal.invariant-loop-f

@@ -1,13 +1,7 @@
 -- `columns::tails_agree` meets its contract. Assumes nothing.
-use borrow.Author.Rules.{rules}
-use borrow.Author.Tests.{not-true, not-false}
-use native.Mathlib.Omega.{arith}
-use mathlib.Core.Path.{refl}
 use Prim.Native.Nat.{ℕ, ◌-◌, ◌≤◌, ◌<◌}
-use Rattle.rows.proofs.Answers.{said_true, said_false}
 use Rattle.rows.specs.Plans.{PlanOf, lines_of}
 use Rattle.columns.specs.Private.{FunctionFits}
-use Rattle.columns.proofs.Fitting.{fits_on, derived_fits, fits_derived}
 use Rattle.columns.proofs.tails_agree.Given as goal
 
 abbrev pub invariant-loop-f : goal.invariant-loop-f

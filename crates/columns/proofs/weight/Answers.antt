@@ -4,10 +4,9 @@ use Rattle.columns.proofs.Sizes.{leaf_lead, call_lead}
 use Rattle.columns.specs.Sums.{cost_in}
 use Rattle.rows.proofs.Shape.{leaf_at, call_at, loop_at}
 use lib.ListN.{get_or}
-use Prim.Native.Nat.{ℕ, ◌-◌}
+use Prim.Native.Nat.{ℕ}
 use mathlib.Core.Path.{◌≡◌, sym, ap, ◌∙◌}
 use native.Mathlib.Omega.{arith}
-use borrow.Author.Rules.{rules}
 use Rattle.columns.proofs.weight.Goals as goal
 
 pub returns-then-kind-eq-LEAF : goal.returns-then-kind-eq-LEAF

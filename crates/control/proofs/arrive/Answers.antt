@@ -8,7 +8,7 @@ use Rattle.control.proofs.arrive.Goals as goal
 
 pub next_times-times-requires : goal.next_times-times-requires
 next_times-times-requires c =
- let k = c.requires in record {
+    let k = c.requires in record {
       le_level = (k.new.least, k.new.most);
       clocked = clocked_here k;
     }
@@ -18,7 +18,7 @@ slice_bounds-last_point-end c = sym (bounds_17 c.requires.lent.rowed)
 
 pub last_point-last-requires : goal.last_point-last-requires
 last_point-last-requires c =
- let k = c.requires in record {
+    let k = c.requires in record {
       le_level = (k.new.least, k.new.most);
       decoded = decoded_here k;
     }
@@ -29,6 +29,6 @@ returns c =
     let earlier_33 : length c.args.state.earlier ≡ 33 = search rules in
     let place-33 : length c.args.place.leaves ≡ 33 = search rules in
     let visits-33 : length c.args.place.earlier ≡ 33 = search rules in
-    let times-33 : length c.next_times-times.result ≡ 33 = search rules in 
+    let times-33 : length c.next_times-times.result ≡ 33 = search rules in
     λ k. arrived_here k place-33 visits-33 leaves_33 earlier_33 c.next_times-times.result c.args.reading
     (new_times k c.next_times-times.result times-33 c.next_times-times.ensures) c.last_point-last.ensures c.weigh-w.result (c.weigh-w.ensures k.lent.rowed.head)

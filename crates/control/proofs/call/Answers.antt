@@ -1,5 +1,4 @@
 -- `control::call` meets its contract: the check says whether the table is good. Assumes nothing.
-use borrow.Author.Rules.{rules}
 use Rattle.control.proofs.call.Goals as goal
 
 pub checked_call-requires : goal.checked_call-requires

@@ -1,9 +1,7 @@
 -- `control::closed_at` meets its contract. Assumes nothing.
 use Rattle.control.proofs.Closing.{too_early, no_end, closes}
-use borrow.Author.Tests.{not-true, not-false}
 use native.Mathlib.Omega.{arith}
 use mathlib.Core.Path.{sym, ◌∙◌}
-use borrow.Author.Rules.{rules}
 use Rattle.control.proofs.closed_at.Goals as goal
 
 pub returns-then-reading-state : goal.returns-then-reading-state

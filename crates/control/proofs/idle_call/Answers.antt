@@ -1,6 +1,5 @@
 -- `control::idle_call` meets its contract. Assumes nothing.
 use Rattle.control.proofs.Calling.{idle_report, idle_end}
-use borrow.Author.Rules.{rules}
 use Rattle.control.proofs.idle_call.Goals as goal
 
 pub returns-in-Release : goal.returns-in-Release

@@ -3,7 +3,6 @@ use mathlib.Core.Path.{◌≡◌}
 use native.Mathlib.Omega.{arith}
 use Prim.Native.Nat.{ℕ, ◌+◌}
 use Rattle.model.specs.Places.{pick}
-use borrow.Author.Rules.{rules}
 use Rattle.control.proofs.less_reserve.Goals as goal
 
 pub returns-then-outlook : goal.returns-then-outlook

@@ -7,7 +7,6 @@ use Rattle.control.proofs.Judging.{stands_few}
 use Rattle.control.proofs.Lending.{table_here}
 use Rattle.control.proofs.Reporting.{spot_decoded}
 use Rattle.control.proofs.Closing.{first_closes, later_closes}
-use borrow.Author.Rules.{rules}
 use Rattle.control.proofs.may_close.Goals as goal
 
 pub first_end-requires : goal.first_end-requires
@@ -18,10 +17,10 @@ returns-then-state-eq0 c = λ q ls k. first_closes q c.args.state c.if-state-eq0
 
 pub can_end-requires : goal.can_end-requires
 can_end-requires c =
-    let o = c.requires in 
-    let z = c.spot_of-place.ensures in 
-    let one : 1 ≤ c.args.state.level = omega (arith, c.if-state-eq0.false) in 
-    let few = stands_few o.rowed.head.plan o.rowed.head.accepted c.args.state o.stands.0 o.stands.1 in 
+    let o = c.requires in
+    let z = c.spot_of-place.ensures in
+    let one : 1 ≤ c.args.state.level = omega (arith, c.if-state-eq0.false) in
+    let few = stands_few o.rowed.head.plan o.rowed.head.accepted c.args.state o.stands.0 o.stands.1 in
     let e = ap (λ (x : Place). x.level) z in record {
       le_level = (omega arith, omega arith);
       decoded = spot_decoded o.rowed c.args.state z one o.stands.0 o.stands.1;
@@ -29,5 +28,5 @@ can_end-requires c =
 
 pub returns : goal.returns
 returns c =
- λ q ls k.
+    λ q ls k.
     later_closes q c.args.state (omega (arith, c.if-state-eq0.false)) c.spot_of-place.ensures c.can_end.result c.can_end.ensures ls k

@@ -6,7 +6,6 @@ use Rattle.place.specs.declared.Place.{Place}
 use Rattle.control.proofs.Judging.{stands_few}
 use Rattle.control.proofs.Lending.{table_here}
 use Rattle.control.proofs.Reporting.{first_found, later_found, spot_decoded}
-use borrow.Author.Rules.{rules}
 use Rattle.control.proofs.next.Goals as goal
 
 pub first_place-requires : goal.first_place-requires
@@ -18,16 +17,16 @@ first_place-requires c =
 
 pub returns-then-state-eq0 : goal.returns-then-state-eq0
 returns-then-state-eq0 c =
- λ q ls k.
+    λ q ls k.
     first_found q c.args.state c.args.x c.first_place.result c.if-state-eq0.true c.first_place.ensures ls k
 
 pub next_place-requires : goal.next_place-requires
 next_place-requires c =
-    let o = c.requires.good_on_row in 
-    let p = o.rowed.head.plan in 
-    let z = c.spot_of-place.ensures in 
-    let one : 1 ≤ c.args.state.level = omega (arith, c.if-state-eq0.false) in 
-    let few = stands_few p o.rowed.head.accepted c.args.state o.stands.0 o.stands.1 in 
+    let o = c.requires.good_on_row in
+    let p = o.rowed.head.plan in
+    let z = c.spot_of-place.ensures in
+    let one : 1 ≤ c.args.state.level = omega (arith, c.if-state-eq0.false) in
+    let few = stands_few p o.rowed.head.accepted c.args.state o.stands.0 o.stands.1 in
     let e = ap (λ (x : Place). x.level) z in record {
       le_level = (omega arith, omega arith);
       x_value = c.requires.x_value;
@@ -36,5 +35,5 @@ next_place-requires c =
 
 pub returns : goal.returns
 returns c =
- λ q ls k.
+    λ q ls k.
     later_found q c.args.state c.args.x c.next_place.result (omega (arith, c.if-state-eq0.false)) c.spot_of-place.ensures c.next_place.ensures ls k

@@ -4,7 +4,6 @@ use mathlib.Core.Option.{some}
 use mathlib.Core.Path.{◌≡◌}
 use native.Mathlib.Omega.{arith}
 use lib.ListN.{get_or}
-use borrow.Author.Tests.{not-true, not-false}
 use Rattle.model.specs.Plan.{all_leaves}
 use Rattle.model.specs.Stack.{Levels}
 use Rattle.model.specs.Controller.{is_point}
@@ -12,19 +11,18 @@ use Rattle.rows.proofs.Answers.{said_true}
 use Rattle.control.specs.State.{standing}
 use Rattle.control.specs.Private.{WholeTable, Arriving}
 use Rattle.control.proofs.Reporting.{point_right, point_wrong, stretch_there, stranger, backward, astray, onwards, none_next, arriving}
-use borrow.Author.Rules.{rules}
 use Rattle.control.proofs.reported_at.Goals as goal
 
 pub returns-then-not-is_point : goal.returns-then-not-is_point
 returns-then-not-is_point c =
- λ q ls k.
+    λ q ls k.
     let o = c.is_point in
     stranger q c.args.state c.args.point c.args.reading ls (point_wrong q.lent.rowed c.args.point o.result c.if-not-is_point.true o.ensures) c.refusal.ensures
 
 pub returns-then-reading-state : goal.returns-then-reading-state
 returns-then-reading-state c =
     let is-a-point : let a = c.args in (q : WholeTable a.row.now a.turns.now a.tails.now a.stretches.now a.head) →
-    is_point (all_leaves q.lent.rowed.head.plan.functions) a.point ≡ true = λ q. let o = c.is_point in point_right q.lent.rowed c.args.point o.result c.if-not-is_point.false o.ensures in  λ q ls k.
+    is_point (all_leaves q.lent.rowed.head.plan.functions) a.point ≡ true = λ q. let o = c.is_point in point_right q.lent.rowed c.args.point o.result c.if-not-is_point.false o.ensures in λ q ls k.
     backward q c.args.state c.args.point c.args.reading ls (is-a-point q) c.if-reading-state.true c.refusal-then-reading-state.ensures
 
 pub next-place-requires : goal.next-place-requires
@@ -37,7 +35,7 @@ next-place-requires c =
 pub returns-then-place-eq0 : goal.returns-then-place-eq0
 returns-then-place-eq0 c =
     let is-a-point : let a = c.args in (q : WholeTable a.row.now a.turns.now a.tails.now a.stretches.now a.head) →
-    is_point (all_leaves q.lent.rowed.head.plan.functions) a.point ≡ true = λ q. let o = c.is_point in point_right q.lent.rowed c.args.point o.result c.if-not-is_point.false o.ensures in  λ q ls k.
+    is_point (all_leaves q.lent.rowed.head.plan.functions) a.point ≡ true = λ q. let o = c.is_point in point_right q.lent.rowed c.args.point o.result c.if-not-is_point.false o.ensures in λ q ls k.
     let x = c.next-place in
     let z = none_next q c.args.state c.args.point ls x.result (x.ensures q.lent.rowed ls k) c.if-place-eq0.true in
     astray q c.args.state c.args.point c.args.reading ls (is-a-point q) c.if-reading-state.false z c.refusal-then-place-eq0.ensures
@@ -45,14 +43,14 @@ returns-then-place-eq0 c =
 pub offset_bounds-stretches-x : goal.offset_bounds-stretches-x
 offset_bounds-stretches-x c =
     let is-a-point : let a = c.args in (q : WholeTable a.row.now a.turns.now a.tails.now a.stretches.now a.head) →
-    is_point (all_leaves q.lent.rowed.head.plan.functions) a.point ≡ true = λ q. let o = c.is_point in point_right q.lent.rowed c.args.point o.result c.if-not-is_point.false o.ensures in 
+    is_point (all_leaves q.lent.rowed.head.plan.functions) a.point ≡ true = λ q. let o = c.is_point in point_right q.lent.rowed c.args.point o.result c.if-not-is_point.false o.ensures in
     let q = c.requires.whole in
     omega (arith, (stretch_there q c.args.state c.args.point (is-a-point q)).1)
 
 pub bounds-stretches-x : goal.bounds-stretches-x
 bounds-stretches-x c =
     let is-a-point : let a = c.args in (q : WholeTable a.row.now a.turns.now a.tails.now a.stretches.now a.head) →
-    is_point (all_leaves q.lent.rowed.head.plan.functions) a.point ≡ true = λ q. let o = c.is_point in point_right q.lent.rowed c.args.point o.result c.if-not-is_point.false o.ensures in 
+    is_point (all_leaves q.lent.rowed.head.plan.functions) a.point ≡ true = λ q. let o = c.is_point in point_right q.lent.rowed c.args.point o.result c.if-not-is_point.false o.ensures in
     let q = c.requires.whole in
     omega (arith, (stretch_there q c.args.state c.args.point (is-a-point q)).0)
 
@@ -63,7 +61,7 @@ arrive-requires c =
     let arriving-at : let a = c.args in (q : WholeTable a.row.now a.turns.now a.tails.now a.stretches.now a.head) →
     (ls : Levels) → standing q.lent.rowed.head.plan a.state ≡ some ls →
     Arriving a.row.now a.turns.now a.tails.now a.head a.state c.next-place.result (get_or a.stretches.now a.point 0) = λ q ls k. let x = c.next-place in
-    arriving q c.args.state c.args.point ls x.result (x.ensures q.lent.rowed ls k) (is-a-point q) k c.if-place-eq0.false in 
+    arriving q c.args.state c.args.point ls x.result (x.ensures q.lent.rowed ls k) (is-a-point q) k c.if-place-eq0.false in
     let q = c.requires.whole in
     arriving-at q c.requires.stands.0 c.requires.stands.1
 
@@ -74,6 +72,6 @@ returns c =
     let arriving-at : let a = c.args in (q : WholeTable a.row.now a.turns.now a.tails.now a.stretches.now a.head) →
     (ls : Levels) → standing q.lent.rowed.head.plan a.state ≡ some ls →
     Arriving a.row.now a.turns.now a.tails.now a.head a.state c.next-place.result (get_or a.stretches.now a.point 0) = λ q ls k. let x = c.next-place in
-    arriving q c.args.state c.args.point ls x.result (x.ensures q.lent.rowed ls k) (is-a-point q) k c.if-place-eq0.false in  λ q ls k.
+    arriving q c.args.state c.args.point ls x.result (x.ensures q.lent.rowed ls k) (is-a-point q) k c.if-place-eq0.false in λ q ls k.
     let a = arriving-at q ls k in
     onwards q c.args.state c.args.point c.args.reading ls (is-a-point q) c.if-reading-state.false a.new.levels a.new.found (c.arrive.ensures a)

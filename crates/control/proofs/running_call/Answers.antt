@@ -1,6 +1,5 @@
 -- `control::running_call` meets its contract. Assumes nothing.
 use Rattle.control.proofs.Calling.{busy}
-use borrow.Author.Rules.{rules}
 use Rattle.control.proofs.running_call.Goals as goal
 
 pub reported_at-requires : goal.reported_at-requires

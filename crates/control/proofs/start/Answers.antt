@@ -2,7 +2,6 @@
 use Rattle.control.proofs.Deciding.{total_small, release_unfit, release_fit}
 use Rattle.control.proofs.Lending.{table_here}
 use native.Mathlib.Omega.{arith}
-use borrow.Author.Rules.{rules}
 use Rattle.control.proofs.start.Goals as goal
 
 pub overflow_add-total : goal.overflow_add-total
@@ -19,5 +18,5 @@ weigh-w-requires c = c.requires.head
 
 pub returns : goal.returns
 returns c =
- λ q.
+    λ q.
     release_fit q c.args.state c.if-head-total.false c.no_point-last.ensures (c.weigh-w.ensures q.head) c.open_at-after.ensures

@@ -1,6 +1,5 @@
 -- `control::weigh` meets its contract. Assumes nothing.
 use Rattle.control.proofs.Deciding.{deadline_small, weighed_here}
-use borrow.Author.Rules.{rules}
 use Rattle.control.proofs.weigh.Goals as goal
 
 pub margin_of-margin-requires : goal.margin_of-margin-requires

@@ -1,7 +1,6 @@
 -- `control::word_of` meets its contract. Assumes nothing.
 use Rattle.control.proofs.Deciding.{below, not_below}
 use mathlib.Core.Path.{refl}
-use borrow.Author.Rules.{rules}
 use Rattle.control.proofs.word_of.Goals as goal
 
 pub returns-then-margin-lt0 : goal.returns-then-margin-lt0

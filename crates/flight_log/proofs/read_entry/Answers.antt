@@ -23,7 +23,7 @@ unfolding entry_of
 returns-then-f c =
     let Tried : List ℕ → List ℕ → Fitted → Type 0 = λ p row' r. (row : List ℕ) × MatchAt (2 ^ 64 - 1) c.args.text.now 0 p row row' r × (length row ≡ 2) in
     let tried-point : Tried (bytes "point N E") c.matches-2.new.row c.matches-2.result = (_, c.matches-2.ensures, search rules) in
-    let missed-release : matched (bytes "release") false (line_at c.args.text.now 0) ≡ miss = subst (MatchAt _ _ _ _ _ _) c.in_default.is c.matches.ensures in 
+    let missed-release : matched (bytes "release") false (line_at c.args.text.now 0) ≡ miss = subst (MatchAt _ _ _ _ _ _) c.in_default.is c.matches.ensures in
     let got = subst (MatchAt _ _ _ _ _ _) c.in-Fit-matches.is tried-point.1 in
     says_miss _ _ _ _ missed-release
     (says_large _ _ _ _ got c.if-f.true)
@@ -33,7 +33,7 @@ unfolding entry_of
 returns-in-Fit-matches c =
     let Tried : List ℕ → List ℕ → Fitted → Type 0 = λ p row' r. (row : List ℕ) × MatchAt (2 ^ 64 - 1) c.args.text.now 0 p row row' r × (length row ≡ 2) in
     let tried-point : Tried (bytes "point N E") c.matches-2.new.row c.matches-2.result = (_, c.matches-2.ensures, search rules) in
-    let missed-release : matched (bytes "release") false (line_at c.args.text.now 0) ≡ miss = subst (MatchAt _ _ _ _ _ _) c.in_default.is c.matches.ensures in 
+    let missed-release : matched (bytes "release") false (line_at c.args.text.now 0) ≡ miss = subst (MatchAt _ _ _ _ _ _) c.in_default.is c.matches.ensures in
     let tried = tried-point in
     let got = subst (MatchAt _ _ _ _ _ _) c.in-Fit-matches.is tried.1 in
     says_miss _ _ _ _ missed-release
@@ -46,7 +46,7 @@ returns-then-f-2 c =
     let tried-end : Tried (bytes "end E") c.matches-3.new.row c.matches-3.result = (_, c.matches-3.ensures, search rules) in
     let missed-release : matched (bytes "release") false (line_at c.args.text.now 0) ≡ miss = subst (MatchAt _ _ _ _ _ _) c.in_default.is c.matches.ensures in
     let tried-point : Tried (bytes "point N E") c.matches-2.new.row c.matches-2.result = (_, c.matches-2.ensures, search rules) in
-    let missed-point : matched (bytes "point N E") false (line_at c.args.text.now 0) ≡ miss = subst (MatchAt _ _ _ _ _ _) c.in_default-matches.is tried-point.1 in 
+    let missed-point : matched (bytes "point N E") false (line_at c.args.text.now 0) ≡ miss = subst (MatchAt _ _ _ _ _ _) c.in_default-matches.is tried-point.1 in
     let got = subst (MatchAt _ _ _ _ _ _) c.in-Fit-matches-2.is tried-end.1 in
     says_miss _ _ _ _ missed-release
     (says_miss _ _ _ _ missed-point
@@ -59,7 +59,7 @@ returns-in-Fit-matches-2 c =
     let tried-end : Tried (bytes "end E") c.matches-3.new.row c.matches-3.result = (_, c.matches-3.ensures, search rules) in
     let missed-release : matched (bytes "release") false (line_at c.args.text.now 0) ≡ miss = subst (MatchAt _ _ _ _ _ _) c.in_default.is c.matches.ensures in
     let tried-point : Tried (bytes "point N E") c.matches-2.new.row c.matches-2.result = (_, c.matches-2.ensures, search rules) in
-    let missed-point : matched (bytes "point N E") false (line_at c.args.text.now 0) ≡ miss = subst (MatchAt _ _ _ _ _ _) c.in_default-matches.is tried-point.1 in 
+    let missed-point : matched (bytes "point N E") false (line_at c.args.text.now 0) ≡ miss = subst (MatchAt _ _ _ _ _ _) c.in_default-matches.is tried-point.1 in
     let tried = tried-end in
     let got = subst (MatchAt _ _ _ _ _ _) c.in-Fit-matches-2.is tried.1 in
     says_miss _ _ _ _ missed-release
@@ -74,7 +74,7 @@ returns c =
     let tried-point : Tried (bytes "point N E") c.matches-2.new.row c.matches-2.result = (_, c.matches-2.ensures, search rules) in
     let missed-point : matched (bytes "point N E") false (line_at c.args.text.now 0) ≡ miss = subst (MatchAt _ _ _ _ _ _) c.in_default-matches.is tried-point.1 in
     let tried-end : Tried (bytes "end E") c.matches-3.new.row c.matches-3.result = (_, c.matches-3.ensures, search rules) in
-    let missed-end : matched (bytes "end E") false (line_at c.args.text.now 0) ≡ miss = subst (MatchAt _ _ _ _ _ _) c.in_default-matches-2.is tried-end.1 in 
+    let missed-end : matched (bytes "end E") false (line_at c.args.text.now 0) ≡ miss = subst (MatchAt _ _ _ _ _ _) c.in_default-matches-2.is tried-end.1 in
     says_miss _ _ _ _ missed-release
     (says_miss _ _ _ _ missed-point
     (says_miss _ _ _ _ missed-end refl))

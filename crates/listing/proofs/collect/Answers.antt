@@ -1,5 +1,4 @@
 -- `listing::collect` meets its contract: what is collected from memory after reading is what is listed of the plan, or nothing. Assumes nothing.
-use borrow.Author.Rules.{rules}
 use Rattle.listing.proofs.Points.{leaves_read, collect_read}
 use Rattle.listing.proofs.collect.Goals as goal
 
@@ -10,7 +9,7 @@ collect_leaves-count-requires c =
 
 pub returns : goal.returns
 returns c =
-    let s = c.args in 
+    let s = c.args in
     let e = c.read-verdict.ensures in let both = collect_read s.text.now c.read-verdict.result c.no_head.ensures e.answers e.row e.tails e.stretches c.collect_leaves-count.ensures in record {
       summary = both.0;
       numbers = both.1;

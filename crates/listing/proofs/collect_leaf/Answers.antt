@@ -5,7 +5,6 @@ use Prim.Native.Nat.{◌*◌}
 use native.Mathlib.Omega.{arith}
 use lib.ListN.{get_or}
 use borrow.Author.Tests.{eq-eqb, ne_eqb}
-use borrow.Author.Rules.{rules}
 use Rattle.rows.specs.Rows.{point_at, level_at}
 use Rattle.listing.proofs.Numbers.{four_stored}
 use Rattle.listing.proofs.collect_leaf.Goals as goal

@@ -1,8 +1,7 @@
 -- `listing::collect_leaves` meets its contract. The loop's invariant: what is listed of the leaves passed is stored, at most one point for each.
 -- Assumes nothing.
-use Prim.Native.Nat.{◌-◌, ◌≤◌}
 use native.Mathlib.Omega.{arith}
-use Rattle.listing.proofs.Numbers.{First, first_none, first_more, first_all, fewer}
+use Rattle.listing.proofs.Numbers.{first_none, first_more, first_all, fewer}
 use Rattle.listing.proofs.collect_leaves.Goals as goal
 
 pub loop-i-init : goal.loop-i-init

@@ -1,8 +1,7 @@
 -- `listing::collect_leaves` meets its contract. The loop's invariant: what is listed of the leaves passed is stored, at most one point for each.
 -- Assumes nothing.
 use Prim.Native.Nat.{◌-◌, ◌≤◌}
-use native.Mathlib.Omega.{arith}
-use Rattle.listing.proofs.Numbers.{First, first_none, first_more, first_all, fewer}
+use Rattle.listing.proofs.Numbers.{First}
 use Rattle.listing.proofs.collect_leaves.Given as goal
 
 abbrev pub invariant-loop-i : goal.invariant-loop-i

@@ -1,10 +1,8 @@
 -- `listing::put_points` meets its contract. The loop's invariant: the lines of the points passed are written, 90 bytes at most for each. Assumes nothing.
-use Prim.Native.Nat.{ℕ, ◌*◌, ◌-◌, ◌≤◌}
+use Prim.Native.Nat.{ℕ, ◌*◌}
 use mathlib.Core.Path.{subst}
 use mathlib.Core.List.{[], flat_map}
 use native.Mathlib.Omega.{arith}
-use lib.ListN.{take}
-use borrow.Author.Rules.{rules}
 use Rattle.print.specs.Lines.{point_line}
 use Rattle.print.specs.Printed.{PrintedWithin}
 use Rattle.print.proofs.Laws.{none_written, one_written, all_written}

@@ -1,15 +1,10 @@
 -- `listing::put_points` meets its contract. The loop's invariant: the lines of the points passed are written, 90 bytes at most for each. Assumes nothing.
-use Prim.Native.Nat.{ℕ, ◌*◌, ◌-◌, ◌≤◌}
-use mathlib.Core.Path.{subst}
-use mathlib.Core.List.{[], flat_map}
-use native.Mathlib.Omega.{arith}
+use Prim.Native.Nat.{◌*◌, ◌-◌, ◌≤◌}
+use mathlib.Core.List.{flat_map}
 use lib.ListN.{take}
-use borrow.Author.Rules.{rules}
 use Rattle.print.specs.Lines.{point_line}
 use Rattle.print.specs.Printed.{PrintedWithin}
-use Rattle.print.proofs.Laws.{none_written, one_written, all_written}
 use Rattle.listing.specs.Summary.{points_in}
-use Rattle.listing.proofs.Numbers.{points_count, line_part, fewer}
 use Rattle.listing.proofs.put_points.Given as goal
 
 abbrev pub invariant-loop-i : goal.invariant-loop-i

@@ -2,7 +2,6 @@
 use Prim.Native.Nat.{ℕ, ◌-◌}
 use mathlib.Core.Path.{ap, ◌∙◌}
 use lib.ListN.{length}
-use borrow.Author.Rules.{rules}
 use Rattle.text.specs.Spelling.{decimal}
 use Rattle.print.proofs.Laws.{behind}
 use Rattle.pages.specs.Sheet.{right_aligned}

@@ -1,11 +1,7 @@
 -- `pages::put_blanks` meets its contract. The loop's invariant: as many blanks are written as were passed. Assumes nothing.
 use Prim.Native.Nat.{◌-◌, ◌≤◌}
-use native.Mathlib.Omega.{arith}
 use lib.ListN.{replicate}
-use borrow.Author.Rules.{rules}
 use Rattle.print.specs.Printed.{Printed}
-use Rattle.print.proofs.Laws.{same_size}
-use Rattle.pages.proofs.Lines.{no_blanks, blank_more, blanks_all}
 use Rattle.pages.proofs.put_blanks.Given as goal
 
 abbrev pub invariant-loop-i : goal.invariant-loop-i

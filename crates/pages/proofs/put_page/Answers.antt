@@ -1,5 +1,4 @@
 -- `pages::put_page` meets its contract: the three heading lines, and the lines of the points behind them. Assumes nothing.
-use borrow.Author.Rules.{rules}
 use Rattle.listing.specs.Summary.{points_in}
 use Rattle.pages.proofs.Lines.{page_whole}
 use Rattle.pages.proofs.put_page.Goals as goal

@@ -1,14 +1,9 @@
 -- `pages::put_pages` meets its contract. The loop's invariant: the pages passed are written. Assumes nothing.
 use Prim.Native.Nat.{◌-◌, ◌≤◌}
-use mathlib.Core.Path.{◌∙◌}
 use mathlib.Core.List.{flatten}
-use native.Mathlib.Omega.{arith}
-use borrow.Author.Rules.{rules}
 use Rattle.print.specs.Printed.{Printed}
-use Rattle.print.proofs.Laws.{same_size}
 use Rattle.listing.specs.Summary.{points_in}
-use Rattle.pages.specs.Sheet.{pages_to, page_count}
-use Rattle.pages.proofs.Lines.{no_pages, page_more, pages_all, nine}
+use Rattle.pages.specs.Sheet.{pages_to}
 use Rattle.pages.proofs.put_pages.Given as goal
 
 abbrev pub invariant-loop-k : goal.invariant-loop-k

@@ -1,9 +1,6 @@
 -- `pages::put_points` meets its contract. The loop's invariant: the lines passed are written. Assumes nothing.
-use Prim.Native.Nat.{◌-◌, ◌≤◌}
 use mathlib.Core.List.{flatten}
 use native.Mathlib.Omega.{arith}
-use borrow.Author.Rules.{rules}
-use Rattle.print.specs.Printed.{Printed}
 use Rattle.print.proofs.Laws.{same_size}
 use Rattle.listing.specs.Summary.{points_in}
 use Rattle.pages.specs.Sheet.{point_lines}

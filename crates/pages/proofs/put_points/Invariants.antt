@@ -1,13 +1,9 @@
 -- `pages::put_points` meets its contract. The loop's invariant: the lines passed are written. Assumes nothing.
 use Prim.Native.Nat.{◌-◌, ◌≤◌}
 use mathlib.Core.List.{flatten}
-use native.Mathlib.Omega.{arith}
-use borrow.Author.Rules.{rules}
 use Rattle.print.specs.Printed.{Printed}
-use Rattle.print.proofs.Laws.{same_size}
 use Rattle.listing.specs.Summary.{points_in}
 use Rattle.pages.specs.Sheet.{point_lines}
-use Rattle.pages.proofs.Lines.{no_points, point_more, points_all}
 use Rattle.pages.proofs.put_points.Given as goal
 
 abbrev pub invariant-loop-j : goal.invariant-loop-j

@@ -1,11 +1,6 @@
-use Rattle.place.proofs.Trailing.{Ahead, within_here, within_flat, within_then, within_else, nowhere, not_there, on, stays, leaves}
+use Rattle.place.proofs.Trailing.{within_here, within_flat, within_then, within_else, nowhere, not_there, on, stays, leaves}
 use Rattle.rows.proofs.Shape.{ends, flat_end}
 use Rattle.place.proofs.Shape.{then_plan, else_plan, piece_after}
-use Rattle.place.specs.Private.{trail}
-use Rattle.rows.specs.Rows.{Piece}
-use Rattle.model.specs.Forms.{forms, Forms}
-use Prim.Native.Nat.{◌+◌, ◌-◌, ◌≤◌, ℕ, ◌<◌}
-use mathlib.Core.List.{List}
 use mathlib.Core.Path.{refl}
 use native.Mathlib.Omega.{arith}
 use borrow.Author.Rules.{rules}

@@ -1,8 +1,7 @@
 use Rattle.place.proofs.Falling.{head_of, lower, ready, scanned, fall_found, fall_stuck, fall_out, fall_again, fall_other, fall_on}
-use Prim.Native.Nat.{ℕ, ◌+◌, ◌≤◌, ◌<◌}
+use Prim.Native.Nat.{◌≤◌}
 use mathlib.Core.Path.{sym}
 use native.Mathlib.Omega.{arith}
-use borrow.Author.Rules.{rules}
 use Rattle.place.proofs.+fall.Goals as goal
 
 pub behind-v-requires : goal.behind-v-requires

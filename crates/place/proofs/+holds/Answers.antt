@@ -1,11 +1,8 @@
-use borrow.Author.Tests.{not-true, not-false}
 use Rattle.rows.proofs.Answers.{said_true, said_false}
 use Rattle.place.proofs.Ending.{main_spanned}
 use Rattle.place.proofs.Holding.{held_none, held_down, says_first, held_enters, head_room, head_open, open_plan, says_up}
-use Prim.Native.Nat.{ℕ, ◌+◌, ◌<◌}
 use mathlib.Core.Path.{refl}
 use native.Mathlib.Omega.{arith}
-use borrow.Author.Rules.{rules}
 use Rattle.place.proofs.+holds.Goals as goal
 
 pub returns-then-l-eq0 : goal.returns-then-l-eq0
@@ -25,7 +22,7 @@ entry-to-requires t c = omega (arith, c.requires.function_table.fits)
 
 pub settled-requires : goal.settled-requires
 settled-requires t c =
- let sp = main_spanned c.requires.function_table c.entry-from.ensures c.entry-to.ensures in record {
+    let sp = main_spanned c.requires.function_table c.entry-from.ensures c.entry-to.ensures in record {
       to_in_bounds = sp.room;
       piece = sp.piece;
     }
@@ -44,7 +41,7 @@ opening-s-requires t c = let p = c.requires.function_table in head_open p (omega
 
 pub settled-requires-2 : goal.settled-requires-2
 settled-requires-2 t c =
- let p = c.requires.function_table in let both = open_plan p (omega (arith, c.if-l-eq0.false, c.if-l-eq1.false)) (said_true c.holds.result c.if-not-holds.false (c.holds.ensures p)) c.leaf_at-head.ensures refl (said_true c.enters.result c.if-not-enters.false c.enters.ensures) c.opening-s.ensures.0 c.opening-s.ensures.1 in record {
+    let p = c.requires.function_table in let both = open_plan p (omega (arith, c.if-l-eq0.false, c.if-l-eq1.false)) (said_true c.holds.result c.if-not-holds.false (c.holds.ensures p)) c.leaf_at-head.ensures refl (said_true c.enters.result c.if-not-enters.false c.enters.ensures) c.opening-s.ensures.0 c.opening-s.ensures.1 in record {
       to_in_bounds = both.0;
       piece = both.1;
     }

@@ -1,14 +1,8 @@
-use Rattle.place.proofs.Looking.{Passed, inside_flat, inside_if, stopped, inward, pass, passed_all}
+use Rattle.place.proofs.Looking.{inside_flat, inside_if, stopped, inward, pass, passed_all}
 use Rattle.rows.proofs.Shape.{ends}
 use Rattle.place.proofs.Shape.{cond_plans, piece_after}
-use Rattle.place.specs.Private.{look}
-use Rattle.rows.specs.Rows.{Piece}
-use Rattle.model.specs.Forms.{forms, Forms}
-use Prim.Native.Nat.{◌+◌, ◌-◌, ℕ, ◌<◌}
-use mathlib.Core.List.{List}
 use mathlib.Core.Path.{refl}
 use native.Mathlib.Omega.{arith}
-use borrow.Author.Rules.{rules}
 use Rattle.place.proofs.+inside_scan.Goals as goal
 
 pub inside-returns-then-get-ne-IF : goal.inside-returns-then-get-ne-IF

@@ -1,14 +1,9 @@
-use Rattle.place.proofs.Looking.{Passed, inside_flat, inside_if, stopped, inward, pass, passed_all}
-use Rattle.rows.proofs.Shape.{ends}
-use Rattle.place.proofs.Shape.{cond_plans, piece_after}
+use Rattle.place.proofs.Looking.{Passed}
 use Rattle.place.specs.Private.{look}
 use Rattle.rows.specs.Rows.{Piece}
 use Rattle.model.specs.Forms.{forms, Forms}
-use Prim.Native.Nat.{◌+◌, ◌-◌, ℕ, ◌<◌}
+use Prim.Native.Nat.{◌+◌, ◌-◌}
 use mathlib.Core.List.{List}
-use mathlib.Core.Path.{refl}
-use native.Mathlib.Omega.{arith}
-use borrow.Author.Rules.{rules}
 use Rattle.place.proofs.+inside_scan.Given as goal
 
 abbrev pub decreases-inside : goal.decreases-inside

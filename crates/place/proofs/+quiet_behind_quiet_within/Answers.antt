@@ -1,13 +1,7 @@
-use Rattle.place.proofs.Quieting.{Beside, quiet_here, quiet_flat, quiet_then, quiet_else, leaf_before, leaf_past, leaf_later, leaf_shut, leaf_leaves}
+use Rattle.place.proofs.Quieting.{quiet_here, quiet_flat, quiet_then, quiet_else, leaf_before, leaf_past, leaf_later, leaf_shut, leaf_leaves}
 use Rattle.rows.proofs.Shape.{ends, flat_end}
 use Rattle.place.proofs.Shape.{then_plan, else_plan, piece_after}
-use Rattle.place.specs.Private.{quiet_behind}
-use Rattle.rows.specs.Rows.{Piece}
-use Rattle.model.specs.Forms.{forms, Forms}
-use Rattle.model.specs.Stack.{suffix}
-use Prim.Native.Nat.{◌+◌, ◌-◌, ◌≤◌, ℕ, ◌<◌}
-use mathlib.Core.List.{List}
-use mathlib.Core.Path.{refl, ap}
+use mathlib.Core.Path.{refl}
 use native.Mathlib.Omega.{arith}
 use borrow.Author.Rules.{rules}
 use borrow.Author.Tests.{not-true}
@@ -27,7 +21,7 @@ quiet_behind-quiet_within-v-requires t c = (omega arith, ((c.loop-i-test.true, c
 
 pub quiet_behind-returns-then-not-v : goal.quiet_behind-returns-then-not-v
 quiet_behind-returns-then-not-v t c =
- λ q G.
+    λ q G.
     leaf_shut c.loop-i-test.true c.loop-i.invariant.0 c.after-after.ensures c.if-p-after.true c.quiet_within-v.ensures (not-true _ c.if-not-v.true) c.shut-then-not-v.ensures (c.loop-i.invariant.2 q G)
 
 pub quiet_behind-quiet_forms-x-requires : goal.quiet_behind-quiet_forms-x-requires
@@ -39,15 +33,14 @@ quiet_behind-quiet_forms-x-requires t c =
 
 pub quiet_behind-returns-then-p-after : goal.quiet_behind-returns-then-p-after
 quiet_behind-returns-then-p-after t c =
- λ q G.
+    λ q G.
     leaf_leaves c.loop-i-test.true c.loop-i.invariant.0 c.after-after.ensures c.if-p-after.true c.quiet_within-v.ensures c.quiet_forms-x.ensures c.series.ensures (c.loop-i.invariant.2 q G)
 
 pub quiet_behind-loop-i-smaller : goal.quiet_behind-loop-i-smaller
 quiet_behind-loop-i-smaller t c = omega (arith, ends c.loop-i-test.true c.loop-i.invariant.1.part)
 
 pub quiet_behind-loop-i-preserved : goal.quiet_behind-loop-i-preserved
-quiet_behind-loop-i-preserved t c =
- (
+quiet_behind-loop-i-preserved t c = (
   omega arith,
   piece_after c.loop-i-test.true c.loop-i.invariant.1 c.after-after.ensures,
   λ q G. leaf_later c.loop-i-test.true c.after-after.ensures c.if-p-after.false (c.loop-i.invariant.2 q G),
@@ -72,7 +65,7 @@ quiet_within-quiet_behind-requires t c =
 
 pub quiet_within-returns-then-p-other : goal.quiet_within-returns-then-p-other
 quiet_within-returns-then-p-other t c =
- λ q G.
+    λ q G.
     quiet_then c.requires.i_lt_to.0 q G _ c.if-p-i.false c.get.ensures c.if-get-ne-IF.false c.index-other.ensures c.if-p-other.true c.quiet_behind.ensures
 
 pub quiet_within-overflow_sub-left-2 : goal.quiet_within-overflow_sub-left-2
@@ -85,5 +78,5 @@ quiet_within-quiet_behind-requires-2 t c =
 
 pub quiet_within-returns : goal.quiet_within-returns
 quiet_within-returns t c =
- λ q G.
+    λ q G.
     quiet_else c.requires.i_lt_to.0 q G _ c.if-p-i.false c.get.ensures c.if-get-ne-IF.false c.index-other.ensures c.if-p-other.false c.index-after.ensures c.quiet_behind-2.ensures

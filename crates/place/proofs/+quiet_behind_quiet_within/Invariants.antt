@@ -1,16 +1,10 @@
-use Rattle.place.proofs.Quieting.{Beside, quiet_here, quiet_flat, quiet_then, quiet_else, leaf_before, leaf_past, leaf_later, leaf_shut, leaf_leaves}
-use Rattle.rows.proofs.Shape.{ends, flat_end}
-use Rattle.place.proofs.Shape.{then_plan, else_plan, piece_after}
+use Rattle.place.proofs.Quieting.{Beside}
 use Rattle.place.specs.Private.{quiet_behind}
 use Rattle.rows.specs.Rows.{Piece}
 use Rattle.model.specs.Forms.{forms, Forms}
 use Rattle.model.specs.Stack.{suffix}
-use Prim.Native.Nat.{◌+◌, ◌-◌, ◌≤◌, ℕ, ◌<◌}
+use Prim.Native.Nat.{◌+◌, ◌-◌, ◌≤◌}
 use mathlib.Core.List.{List}
-use mathlib.Core.Path.{refl}
-use native.Mathlib.Omega.{arith}
-use borrow.Author.Rules.{rules}
-use borrow.Author.Tests.{not-true}
 use Rattle.place.proofs.+quiet_behind_quiet_within.Given as goal
 
 abbrev pub decreases-quiet_behind : goal.decreases-quiet_behind

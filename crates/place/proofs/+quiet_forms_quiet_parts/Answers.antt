@@ -1,14 +1,10 @@
-use Rattle.place.proofs.Quieting.{Walked, parts_none, parts_both, walk_stopped, walk_shut, walk_on, walk_done}
+use Rattle.place.proofs.Quieting.{parts_none, parts_both, walk_stopped, walk_shut, walk_on, walk_done}
 use Rattle.rows.proofs.Shape.{ends}
 use Rattle.place.proofs.Shape.{cond_plans, piece_after}
 use Rattle.place.specs.Private.{quiet_of}
-use Rattle.rows.specs.Rows.{Piece}
-use Rattle.model.specs.Forms.{forms, Forms}
-use Prim.Native.Nat.{◌+◌, ◌-◌, ℕ, ◌<◌}
-use mathlib.Core.List.{List}
+use Rattle.model.specs.Forms.{forms}
 use mathlib.Core.Path.{sym, ap}
 use native.Mathlib.Omega.{arith}
-use borrow.Author.Rules.{rules}
 use borrow.Author.Tests.{not-true}
 use Rattle.place.proofs.+quiet_forms_quiet_parts.Goals as goal
 
@@ -33,7 +29,7 @@ quiet_parts-quiet_forms-b-requires t c =
 
 pub quiet_parts-returns : goal.quiet_parts-returns
 quiet_parts-returns t c =
- λ p G.
+    λ p G.
     parts_both c.requires.i_lt_to p G c.get.ensures c.if-get-ne-IF.false c.index-other.ensures c.index-after.ensures
     c.quiet_forms-a.ensures c.quiet_forms-b.ensures c.either.ensures
 
@@ -45,15 +41,14 @@ quiet_forms-returns-then-get-eq1 t c = λ p G. walk_stopped c.loop-i-test.true c
 
 pub quiet_forms-returns-then-not-v : goal.quiet_forms-returns-then-not-v
 quiet_forms-returns-then-not-v t c =
- λ p G.
+    λ p G.
     walk_shut c.loop-i-test.true c.get.ensures c.if-get-eq1.false c.quiet_parts-v.ensures (not-true _ c.if-not-v.true) c.shut-then-not-v.ensures (c.loop-i.invariant.1 p G)
 
 pub quiet_forms-loop-i-smaller : goal.quiet_forms-loop-i-smaller
 quiet_forms-loop-i-smaller t c = omega (arith, ends c.loop-i-test.true c.loop-i.invariant.0.part)
 
 pub quiet_forms-loop-i-preserved : goal.quiet_forms-loop-i-preserved
-quiet_forms-loop-i-preserved t c =
- (
+quiet_forms-loop-i-preserved t c = (
   piece_after c.loop-i-test.true c.loop-i.invariant.0 c.index-i.ensures,
   λ p G. walk_on c.loop-i-test.true c.get.ensures c.if-get-eq1.false c.quiet_parts-v.ensures c.series-passed.ensures c.index-i.ensures (c.loop-i.invariant.1 p G),
 )

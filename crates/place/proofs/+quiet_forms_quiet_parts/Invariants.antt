@@ -1,15 +1,9 @@
-use Rattle.place.proofs.Quieting.{Walked, parts_none, parts_both, walk_stopped, walk_shut, walk_on, walk_done}
-use Rattle.rows.proofs.Shape.{ends}
-use Rattle.place.proofs.Shape.{cond_plans, piece_after}
+use Rattle.place.proofs.Quieting.{Walked}
 use Rattle.place.specs.Private.{quiet_of}
 use Rattle.rows.specs.Rows.{Piece}
 use Rattle.model.specs.Forms.{forms, Forms}
-use Prim.Native.Nat.{◌+◌, ◌-◌, ℕ, ◌<◌}
+use Prim.Native.Nat.{◌+◌, ◌-◌}
 use mathlib.Core.List.{List}
-use mathlib.Core.Path.{sym, ap}
-use native.Mathlib.Omega.{arith}
-use borrow.Author.Rules.{rules}
-use borrow.Author.Tests.{not-true}
 use Rattle.place.proofs.+quiet_forms_quiet_parts.Given as goal
 
 abbrev pub decreases-quiet_forms : goal.decreases-quiet_forms

@@ -1,9 +1,7 @@
-use borrow.Author.Rules.{rules}
-use borrow.Author.Tests.{not-true, not-false}
 use Rattle.rows.proofs.Answers.{said_true, said_false}
 use Rattle.place.proofs.Timing.{down, level_fits, time_right, time_wrong, lower_wrong, last_function, base_right, base_wrong}
 use native.Mathlib.Omega.{arith}
-use Prim.Native.Nat.{ℕ, ◌+◌, ◌≤◌, ◌<◌}
+use Prim.Native.Nat.{◌≤◌}
 use Rattle.place.proofs.+times_hold.Goals as goal
 
 pub overflow_sub-total : goal.overflow_sub-total
@@ -29,7 +27,7 @@ returns-then-not-times_hold t c = let h : 1 ≤ c.args.l = omega (arith, c.if-l-
 
 pub level_time-time-requires : goal.level_time-time-requires
 level_time-time-requires t c =
- let h : 1 ≤ c.args.l = omega (arith, c.if-l-eq0.false) in  let q = c.requires.fares in record {
+    let h : 1 ≤ c.args.l = omega (arith, c.if-l-eq0.false) in let q = c.requires.fares in record {
       le_l = (h, c.requires.l_bound);
       level_fits = level_fits q h c.args.times.now (said_true c.times_hold.result c.if-not-times_hold.false (c.times_hold.ensures (down q h)));
     }

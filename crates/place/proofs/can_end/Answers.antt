@@ -1,5 +1,4 @@
 use mathlib.Core.Path.{ap}
-use borrow.Author.Rules.{rules}
 use Rattle.place.specs.declared.Quiet.{Quiet}
 use Rattle.place.proofs.can_end.Goals as goal
 

@@ -1,7 +1,6 @@
 use mathlib.Core.Logic.{inl, inr}
 use mathlib.Core.Path.{◌∙◌, sym}
 use native.Mathlib.Omega.{arith}
-use borrow.Author.Rules.{rules}
 use Rattle.place.proofs.counted.Goals as goal
 
 pub returns-then-count-get : goal.returns-then-count-get

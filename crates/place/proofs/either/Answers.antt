@@ -1,6 +1,5 @@
 use mathlib.Core.Bool.{◌||◌}
 use mathlib.Core.Path.{◌≡◌, sym}
-use borrow.Author.Rules.{rules}
 use Rattle.place.proofs.either.Goals as goal
 
 pub returns-then-x : goal.returns-then-x

@@ -1,6 +1,5 @@
 use mathlib.Core.Logic.{inl, inr}
 use mathlib.Core.Path.{◌∙◌, sym}
-use borrow.Author.Rules.{rules}
 use Rattle.rows.proofs.Answers.{same_answer}
 use Rattle.place.proofs.enters.Goals as goal
 

@@ -4,7 +4,6 @@ use Prim.Native.Nat.{ℕ}
 use native.Mathlib.Omega.{arith}
 use Rattle.rows.specs.Rows.{kind_at}
 use Rattle.place.proofs.Finding.{leaf_room, none_found, call_here, loop_here, find_flat, call_enter, call_pass, call_stop, loop_left}
-use borrow.Author.Rules.{rules}
 use Rattle.place.proofs.find.Goals as goal
 
 pub get-kind-requires : goal.get-kind-requires
@@ -20,7 +19,7 @@ sought-v-requires c =
 
 pub returns-then-v-eq-MEET : goal.returns-then-v-eq-MEET
 returns-then-v-eq-MEET c =
- λ q.
+    λ q.
     let h = c.requires.le_l.0 in
     let e = c.leaf_at-here.ensures in
     let g = c.get-kind.ensures in
@@ -28,7 +27,7 @@ returns-then-v-eq-MEET c =
 
 pub returns-then-v-eq-PASS : goal.returns-then-v-eq-PASS
 returns-then-v-eq-PASS c =
- λ q.
+    λ q.
     let h = c.requires.le_l.0 in
     let e = c.leaf_at-here.ensures in
     let g = c.get-kind.ensures in
@@ -36,7 +35,7 @@ returns-then-v-eq-PASS c =
 
 pub returns-then-kind-eq-CALL : goal.returns-then-kind-eq-CALL
 returns-then-kind-eq-CALL c =
- λ q.
+    λ q.
     let h = c.requires.le_l.0 in
     let e = c.leaf_at-here.ensures in
     let g = c.get-kind.ensures in
@@ -44,7 +43,7 @@ returns-then-kind-eq-CALL c =
 
 pub returns-then-kind-ne-LOOP : goal.returns-then-kind-ne-LOOP
 returns-then-kind-ne-LOOP c =
- λ q.
+    λ q.
     let h = c.requires.le_l.0 in
     let e = c.leaf_at-here.ensures in
     let g = c.get-kind.ensures in
@@ -52,7 +51,7 @@ returns-then-kind-ne-LOOP c =
 
 pub returns-then-under-gt0 : goal.returns-then-under-gt0
 returns-then-under-gt0 c =
- λ q.
+    λ q.
     let h = c.requires.le_l.0 in
     let e = c.leaf_at-here.ensures in
     let g = c.get-kind.ensures in
@@ -60,7 +59,7 @@ returns-then-under-gt0 c =
 
 pub round_again-requires : goal.round_again-requires
 round_again-requires c =
-    let e = c.leaf_at-here.ensures in 
+    let e = c.leaf_at-here.ensures in
     let kind = ap (λ (p : ℕ). kind_at c.args.row.now p) (sym e) ∙ (sym c.get-kind.ensures ∙ c.if-kind-ne-LOOP.false) in record {
       le_l = (c.requires.le_l.0, c.requires.le_l.1, kind);
       placed = c.requires.placed;

@@ -2,7 +2,6 @@ use Rattle.place.proofs.Ending.{main_spanned, first_none, first_some}
 use Rattle.place.proofs.Stacking.{next_none, next_some}
 use mathlib.Core.Path.{refl}
 use native.Mathlib.Omega.{arith}
-use borrow.Author.Rules.{rules}
 use Rattle.place.proofs.first_place.Goals as goal
 
 pub overflow_sub-n : goal.overflow_sub-n
@@ -16,7 +15,7 @@ entry-to-requires c = omega (arith, c.requires.function_table.fits)
 
 pub scan-v-requires : goal.scan-v-requires
 scan-v-requires c =
- let sp = main_spanned c.requires.function_table c.entry-from.ensures c.entry-to.ensures in record {
+    let sp = main_spanned c.requires.function_table c.entry-from.ensures c.entry-to.ensures in record {
       to_in_bounds = sp.room;
       piece = sp.piece;
     }

@@ -3,7 +3,6 @@ use lib.Dec.{eqb}
 use native.Mathlib.Omega.{arith}
 use mathlib.Core.Bool.{true, false}
 use mathlib.Core.Path.{◌≡◌, ◌∙◌}
-use borrow.Author.Rules.{rules}
 use Rattle.place.proofs.first_time.Goals as goal
 
 pub returns-then-l-eq1 : goal.returns-then-l-eq1

@@ -6,7 +6,6 @@ use native.Mathlib.Omega.{arith}
 use Prim.Native.Nat.{ℕ}
 use mathlib.Core.Bool.{true, false}
 use mathlib.Core.Path.{◌≡◌, ◌∙◌, sym, ap}
-use borrow.Author.Rules.{rules}
 use Rattle.place.proofs.inner_time.Goals as goal
 
 pub overflow_sub-result : goal.overflow_sub-result

@@ -2,7 +2,6 @@ use lib.ListN.{get_or}
 use native.Mathlib.Omega.{arith}
 use Prim.Native.Nat.{ℕ, ◌*◌}
 use mathlib.Core.Path.{◌≡◌, ap}
-use borrow.Author.Rules.{rules}
 use Rattle.place.proofs.level_time.Goals as goal
 
 pub overflow_mul-result : goal.overflow_mul-result

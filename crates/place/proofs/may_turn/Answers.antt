@@ -1,6 +1,5 @@
 use mathlib.Core.Path.{◌∙◌, sym}
 use native.Mathlib.Omega.{arith}
-use borrow.Author.Rules.{rules}
 use Rattle.place.proofs.may_turn.Goals as goal
 
 pub returns-then-get-ne-LOOP : goal.returns-then-get-ne-LOOP

@@ -1,10 +1,9 @@
 use Rattle.place.proofs.Timing.{level_fits, put_times, fares, lower_times}
-use borrow.Author.Rules.{rules}
 use Rattle.place.proofs.next_times.Goals as goal
 
 pub level_time-time-requires : goal.level_time-time-requires
 level_time-time-requires c =
- let h = c.requires.le_level.0 in  let q = c.requires.clocked in record {
+    let h = c.requires.le_level.0 in let q = c.requires.clocked in record {
       le_l = (h, c.requires.le_level.1);
       level_fits = level_fits (fares h q.costed) h _ (lower_times h q);
     }

@@ -6,7 +6,6 @@ use lib.Dec.{eqb}
 use mathlib.Core.Bool.{true, false}
 use mathlib.Core.Path.{◌≡◌, ◌∙◌, sym, ap}
 use native.Mathlib.Omega.{arith}
-use borrow.Author.Rules.{rules}
 use Rattle.place.proofs.opening.Goals as goal
 
 pub returns-then-get-eq-LOOP : goal.returns-then-get-eq-LOOP

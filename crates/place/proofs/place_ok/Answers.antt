@@ -1,6 +1,5 @@
 use Rattle.place.proofs.Holding.{says_decodes}
 use native.Mathlib.Omega.{arith}
-use borrow.Author.Rules.{rules}
 use Rattle.place.proofs.place_ok.Goals as goal
 
 pub returns-then-level-eq0 : goal.returns-then-level-eq0

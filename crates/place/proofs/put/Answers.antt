@@ -1,9 +1,7 @@
 use lib.ListN.{set, length-set, length}
-use Rattle.place.proofs.Putting.{Clearing, clear_none, clear_more, cleared}
-use Prim.Native.Nat.{◌-◌}
+use Rattle.place.proofs.Putting.{clear_none, clear_more, cleared}
 use mathlib.Core.Path.{◌≡◌, ◌∙◌}
 use native.Mathlib.Omega.{arith}
-use borrow.Author.Rules.{rules}
 use Rattle.place.proofs.put.Goals as goal
 
 pub loop-k-init : goal.loop-k-init

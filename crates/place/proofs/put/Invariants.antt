@@ -1,9 +1,5 @@
-use lib.ListN.{set, length-set, length}
-use Rattle.place.proofs.Putting.{Clearing, clear_none, clear_more, cleared}
+use Rattle.place.proofs.Putting.{Clearing}
 use Prim.Native.Nat.{◌-◌}
-use mathlib.Core.Path.{◌≡◌, ◌∙◌}
-use native.Mathlib.Omega.{arith}
-use borrow.Author.Rules.{rules}
 use Rattle.place.proofs.put.Given as goal
 
 abbrev pub invariant-loop-k : goal.invariant-loop-k

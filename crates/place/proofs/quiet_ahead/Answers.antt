@@ -4,7 +4,6 @@ use Rattle.place.proofs.Finding.{running, leaf_room, call_here}
 use Rattle.rows.proofs.Answers.{said_true, said_false}
 use mathlib.Core.Path.{refl}
 use native.Mathlib.Omega.{arith}
-use borrow.Author.Rules.{rules}
 use Rattle.place.proofs.quiet_ahead.Goals as goal
 
 pub quiet_levels-q-requires : goal.quiet_levels-q-requires

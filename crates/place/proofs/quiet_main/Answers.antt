@@ -13,7 +13,7 @@ entry-to-requires c = omega (arith, c.requires.fits)
 
 pub quiet_forms-requires : goal.quiet_forms-requires
 quiet_forms-requires c =
- let sp = main_spanned c.requires c.entry-from.ensures c.entry-to.ensures in record {
+    let sp = main_spanned c.requires c.entry-from.ensures c.entry-to.ensures in record {
       to_in_bounds = sp.room;
       piece = sp.piece;
     }

@@ -1,7 +1,6 @@
 use Rattle.place.proofs.Holding.{absent, in_room, says_counted}
 use mathlib.Core.Path.{◌∙◌}
 use native.Mathlib.Omega.{arith}
-use borrow.Author.Rules.{rules}
 use Rattle.place.proofs.settled.Goals as goal
 
 pub returns-then-behind-eq-ABSENT : goal.returns-then-behind-eq-ABSENT

@@ -1,4 +1,3 @@
-use borrow.Author.Rules.{rules}
 use Rattle.place.proofs.sought.Goals as goal
 
 pub scan-requires : goal.scan-requires

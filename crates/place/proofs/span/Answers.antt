@@ -4,7 +4,6 @@ use lib.Dec.{eqb}
 use mathlib.Core.Bool.{true, false}
 use mathlib.Core.Path.{◌≡◌}
 use native.Mathlib.Omega.{arith}
-use borrow.Author.Rules.{rules}
 use Rattle.place.proofs.span.Goals as goal
 
 pub overflow_sub-n : goal.overflow_sub-n

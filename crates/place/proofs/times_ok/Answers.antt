@@ -3,7 +3,7 @@ use Rattle.place.proofs.times_ok.Goals as goal
 
 pub times_hold-requires : goal.times_hold-requires
 times_hold-requires c =
- let h = c.requires.le_level.0 in record {
+    let h = c.requires.le_level.0 in record {
       l_bound = c.requires.le_level.1;
       fares = fares h c.requires.costed_stack;
     }

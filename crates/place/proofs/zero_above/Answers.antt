@@ -1,9 +1,7 @@
-use borrow.Author.Rules.{rules}
 use native.Mathlib.Omega.{arith}
 use mathlib.Core.Path.{◌≡◌}
 use lib.ListN.{length}
-use Prim.Native.Nat.{◌-◌}
-use Rattle.place.proofs.Putting.{Zeros, zeros_none, zeros_more, zeros_all}
+use Rattle.place.proofs.Putting.{zeros_none, zeros_more, zeros_all}
 use Rattle.place.proofs.zero_above.Goals as goal
 
 pub loop-j-init : goal.loop-j-init

@@ -1,9 +1,5 @@
-use borrow.Author.Rules.{rules}
-use native.Mathlib.Omega.{arith}
-use mathlib.Core.Path.{◌≡◌}
-use lib.ListN.{length}
 use Prim.Native.Nat.{◌-◌}
-use Rattle.place.proofs.Putting.{Zeros, zeros_none, zeros_more, zeros_all}
+use Rattle.place.proofs.Putting.{Zeros}
 use Rattle.place.proofs.zero_above.Given as goal
 
 abbrev pub invariant-loop-j : goal.invariant-loop-j

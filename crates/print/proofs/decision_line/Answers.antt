@@ -1,5 +1,4 @@
 -- `print::decision_line` meets its contract: the word, two fields and the late mark, one behind the other. Assumes nothing.
-use borrow.Author.Rules.{rules}
 use Rattle.print.specs.Lines.{answer_line}
 use Rattle.print.proofs.Signed.{field_read}
 use Rattle.print.proofs.Laws.{joined}

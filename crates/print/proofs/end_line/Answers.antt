@@ -1,5 +1,4 @@
 -- `print::end_line` meets its contract: the word and the late mark behind it. Assumes nothing.
-use borrow.Author.Rules.{rules}
 use Rattle.print.specs.Lines.{answer_line}
 use Rattle.print.proofs.Laws.{joined}
 use Rattle.print.proofs.end_line.Goals as goal

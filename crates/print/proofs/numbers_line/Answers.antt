@@ -1,5 +1,4 @@
 -- `print::numbers_line` meets its contract: the word, the numbers as fields behind it, and a line feed. Assumes nothing.
-use borrow.Author.Rules.{rules}
 use Rattle.print.specs.Lines.{numbers_line}
 use Rattle.print.proofs.Laws.{joined, whole}
 use Rattle.print.proofs.numbers_line.Goals as goal

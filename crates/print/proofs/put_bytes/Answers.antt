@@ -1,10 +1,8 @@
 -- `print::put_bytes` meets its contract. The loop's invariant: there was room for the bytes passed, and they are written, from the given place on.
 -- The measure is what is left of the text. Assumes nothing.
-use Prim.Native.Nat.{◌+◌, ◌-◌, ◌≤◌, min}
-use mathlib.Core.Path.{◌≡◌, refl}
+use mathlib.Core.Path.{refl}
 use native.Mathlib.Omega.{arith}
-use lib.ListN.{length, take}
-use lib.Seq.{sets}
+use lib.ListN.{take}
 use Rattle.print.proofs.Laws.{same_size, byte_more, all_bytes}
 use Rattle.print.proofs.put_bytes.Goals as goal
 

@@ -1,11 +1,9 @@
 -- `print::put_bytes` meets its contract. The loop's invariant: there was room for the bytes passed, and they are written, from the given place on.
 -- The measure is what is left of the text. Assumes nothing.
 use Prim.Native.Nat.{◌+◌, ◌-◌, ◌≤◌, min}
-use mathlib.Core.Path.{◌≡◌, refl}
-use native.Mathlib.Omega.{arith}
+use mathlib.Core.Path.{◌≡◌}
 use lib.ListN.{length, take}
 use lib.Seq.{sets}
-use Rattle.print.proofs.Laws.{same_size, byte_more, all_bytes}
 use Rattle.print.proofs.put_bytes.Given as goal
 
 abbrev pub invariant-loop-i : goal.invariant-loop-i

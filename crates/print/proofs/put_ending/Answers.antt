@@ -1,6 +1,5 @@
 -- `print::put_ending` meets its contract, once for each word. Assumes nothing.
 use native.Mathlib.Omega.{arith}
-use borrow.Author.Rules.{rules}
 use Rattle.print.specs.Lines.{ending_text}
 use Rattle.print.proofs.put_ending.Goals as goal
 

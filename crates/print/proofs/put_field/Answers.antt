@@ -1,6 +1,5 @@
 -- `print::put_field` meets its contract: a space, and a number of at most 20 digits behind it. Assumes nothing.
 use native.Mathlib.Omega.{arith}
-use borrow.Author.Rules.{rules}
 use Rattle.print.specs.Lines.{number_field}
 use Rattle.print.proofs.Laws.{behind, digits_most}
 use Rattle.print.proofs.put_field.Goals as goal

@@ -1,10 +1,7 @@
 -- `print::put_fields` meets its contract. The loop's invariant: the fields of the numbers passed are written, 21 bytes at most for each. Assumes nothing.
-use Prim.Native.Nat.{◌*◌, ◌-◌, ◌≤◌}
 use native.Mathlib.Omega.{arith}
-use lib.ListN.{length, take}
-use borrow.Author.Rules.{rules}
+use lib.ListN.{take}
 use Rattle.print.specs.Lines.{number_field, number_fields}
-use Rattle.print.specs.Printed.{PrintedWithin}
 use Rattle.print.proofs.Laws.{same_size, none_written, one_written, all_written}
 use Rattle.print.proofs.put_fields.Goals as goal
 

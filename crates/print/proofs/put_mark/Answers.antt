@@ -1,6 +1,5 @@
 -- `print::put_mark` meets its contract, once for each mark. Assumes nothing.
 use native.Mathlib.Omega.{arith}
-use borrow.Author.Rules.{rules}
 use Rattle.print.specs.Lines.{late_mark}
 use Rattle.print.proofs.put_mark.Goals as goal
 

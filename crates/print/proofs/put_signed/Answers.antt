@@ -1,5 +1,4 @@
 -- `print::put_signed` meets its contract, once for negative numbers and once for the others. Assumes nothing.
-use borrow.Author.Rules.{rules}
 use Rattle.print.proofs.Signed.{below, above, size_read, put_below, put_above}
 use Rattle.print.proofs.put_signed.Goals as goal
 

@@ -1,6 +1,5 @@
 -- `print::put_word` meets its contract, once for each word. Assumes nothing.
 use native.Mathlib.Omega.{arith}
-use borrow.Author.Rules.{rules}
 use Rattle.print.specs.Lines.{word_text}
 use Rattle.print.proofs.put_word.Goals as goal
 

@@ -1,5 +1,4 @@
 -- `print::refused_call_line` meets its contract: the word, a field and a line feed, one behind the other. Assumes nothing.
-use borrow.Author.Rules.{rules}
 use Rattle.print.specs.Lines.{answer_line}
 use Rattle.print.proofs.Laws.{joined, whole}
 use Rattle.print.proofs.refused_call_line.Goals as goal

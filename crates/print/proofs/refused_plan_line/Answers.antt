@@ -1,6 +1,5 @@
 -- `print::refused_plan_line` meets its contract: the word, two fields and a line feed, one behind the other. Assumes nothing.
 use native.Mathlib.Omega.{arith}
-use borrow.Author.Rules.{rules}
 use Rattle.print.specs.Lines.{refused_plan_line}
 use Rattle.print.proofs.Laws.{joined, whole, wider}
 use Rattle.print.proofs.refused_plan_line.Goals as goal

@@ -1,5 +1,4 @@
 -- `print::ticks_line` meets its contract: a number of at most 20 digits, two fields and a line feed, one behind the other. Assumes nothing.
-use borrow.Author.Rules.{rules}
 use Rattle.print.specs.Lines.{ticks_line}
 use Rattle.print.proofs.Laws.{joined, whole, digits_most}
 use Rattle.print.proofs.ticks_line.Goals as goal

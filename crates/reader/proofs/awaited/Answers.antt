@@ -1,6 +1,5 @@
 -- `reader::awaited` meets its contract: the line is the one that must come, or not. Assumes nothing.
 use borrow.Author.Tests.{eq-eqb, ne_eqb}
-use borrow.Author.Rules.{rules}
 use Rattle.reader.proofs.awaited.Goals as goal
 
 pub returns-in_default : goal.returns-in_default

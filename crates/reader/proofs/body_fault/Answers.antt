@@ -2,7 +2,6 @@
 use Rattle.reader.proofs.Faults.{fault_leaf, fault_call, fault_loop, fault_if, stray_fault}
 use lib.ListN.{take}
 use borrow.Enum.Refused.{opened}
-use borrow.Author.Rules.{rules}
 use Rattle.reader.proofs.body_fault.Goals as goal
 
 pub returns-in-Leaf : goal.returns-in-Leaf

@@ -1,7 +1,6 @@
 -- `reader::ended` meets its contract: test by test. Assumes nothing.
 use lib.ListN.{length}
 use borrow.Author.Tests.{eq-eqb, ne_eqb, lt-ltb, le-ltb}
-use borrow.Author.Rules.{rules}
 use Rattle.reader.proofs.ended.Goals as goal
 
 pub returns-then-raw-eq0 : goal.returns-then-raw-eq0

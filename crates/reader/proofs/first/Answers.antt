@@ -1,6 +1,5 @@
 -- `reader::first` meets its contract: the first of two refusals. Assumes nothing.
 use Rattle.reader.proofs.Faults.{first_some}
-use borrow.Author.Rules.{rules}
 use Rattle.reader.proofs.first.Goals as goal
 
 pub returns-else-a-eq0 : goal.returns-else-a-eq0

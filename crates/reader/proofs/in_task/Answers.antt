@@ -1,6 +1,5 @@
 -- `reader::in_task` meets its contract: for each kind of line what it is in the task. Assumes nothing.
 use borrow.Author.Tests.{eq-eqb, ne_eqb}
-use borrow.Author.Rules.{rules}
 use Rattle.reader.proofs.in_task.Goals as goal
 
 pub returns-in_default : goal.returns-in_default

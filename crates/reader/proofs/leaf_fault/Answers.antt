@@ -1,7 +1,6 @@
 -- `reader::leaf_fault` meets its contract: test by test. Assumes nothing.
 use Prim.Native.Nat.{◌^◌}
 use native.Mathlib.Omega.{arith}
-use borrow.Author.Rules.{rules}
 use borrow.Author.Tests.{le-leb, lt-leb, lt-ltb, le-ltb}
 use Rattle.model.specs.Places.{bit}
 use Rattle.reader.proofs.leaf_fault.Goals as goal

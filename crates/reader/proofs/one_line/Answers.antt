@@ -1,7 +1,6 @@
 -- `reader::one_line` meets its contract: the line closes the body, is refused or is taken. Assumes nothing.
 use borrow.Author.Tests.{eq-eqb, ne_eqb}
 use Rattle.reader.proofs.Faults.{judged_stop}
-use borrow.Author.Rules.{rules}
 use Rattle.reader.proofs.one_line.Goals as goal
 
 pub returns-in_default : goal.returns-in_default

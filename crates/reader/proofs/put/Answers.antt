@@ -1,6 +1,5 @@
 -- `reader::put` meets its contract: the eight numbers, four and four. Assumes nothing.
 use native.Mathlib.Numerals.{towards_suc}
-use borrow.Author.Rules.{rules}
 use Rattle.reader.proofs.put.Goals as goal
 
 pub returns : goal.returns

@@ -1,6 +1,5 @@
 -- `reader::read_lines` meets its contract: oversize, or what the lines say. Assumes nothing.
 use Rattle.reader.proofs.Tasks.{raw_oversize, raw_lines}
-use borrow.Author.Rules.{rules}
 use Rattle.reader.proofs.read_lines.Goals as goal
 
 pub returns-then-text-gt-MAX_TEXT : goal.returns-then-text-gt-MAX_TEXT

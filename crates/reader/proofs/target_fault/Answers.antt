@@ -1,7 +1,6 @@
 -- `reader::target_fault` meets its contract: test by test. Assumes nothing.
 use native.Mathlib.Omega.{arith}
 use Rattle.reader.proofs.Faults.{target_out, target_high, target_deep, target_fine}
-use borrow.Author.Rules.{rules}
 use Rattle.reader.proofs.target_fault.Goals as goal
 
 pub returns-then-own-f : goal.returns-then-own-f

@@ -1,7 +1,6 @@
 -- `reader::task_line` meets its contract: a task line without fault opens the task. Assumes nothing.
 use Rattle.reader.proofs.Faults.{judged_not, no_task}
 use borrow.Enum.Refused.{opened}
-use borrow.Author.Rules.{rules}
 use Rattle.reader.proofs.task_line.Goals as goal
 
 pub returns-in_default : goal.returns-in_default

@@ -1,7 +1,6 @@
 -- `accepted_reply` meets its contract. Assumes nothing.
 use mir.Syntax.{w64}
 use mir.ValLaws.{to_z-of_z}
-use borrow.Author.Rules.{rules}
 use Rattle.rolsipay.proofs.accepted_reply.Goals as goal
 
 pub returns : goal.returns

@@ -1,7 +1,6 @@
 -- `as_ruling` meets its contract. Assumes nothing.
 use mathlib.Core.Path.{ap, sym}
 use Rattle.rolsipay.specs.Face.{ruling_of}
-use borrow.Author.Rules.{rules}
 use Rattle.rolsipay.proofs.as_ruling.Goals as goal
 
 pub returns-in-Accepted : goal.returns-in-Accepted

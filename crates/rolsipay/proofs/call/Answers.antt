@@ -13,7 +13,7 @@ returns c =
     let o = call_of a.kind a.point a.reading in
     let is : c.if-n-le-FEW.moved ≡ called a.row.now a.head.now a.state.now o =
     elim c.if-n-le-FEW.branch [
-      then-n-le-FEW w ↦ w.moved-is ∙ called_is a.row.now a.head.now a.state.now o c.used-n.result w.call_small-moved.result c.used-n.ensures w.call_small-moved.ensures
+      | then-n-le-FEW w ↦ w.moved-is ∙ called_is a.row.now a.head.now a.state.now o c.used-n.result w.call_small-moved.result c.used-n.ensures w.call_small-moved.ensures
       | else-n-le-FEW w ↦ w.moved-is ∙ called_is a.row.now a.head.now a.state.now o c.used-n.result w.call_large-moved.result c.used-n.ensures w.call_large-moved.ensures
     ] in
     (ap (λ (m : Moved). m.answer) is, ap (λ (m : Moved). m.state) is)

@@ -5,7 +5,6 @@ use native.Mathlib.Omega.{arith}
 use lib.Seq.{length-take-le}
 use Rattle.control.specs.Calls.{call_of}
 use Rattle.rolsipay.proofs.Gathering.{same_call}
-use borrow.Author.Rules.{rules}
 use Rattle.rolsipay.proofs.call_on.Goals as goal
 
 pub slice_bounds-row-end : goal.slice_bounds-row-end

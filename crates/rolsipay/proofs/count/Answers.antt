@@ -1,5 +1,4 @@
 -- `count` meets its contract. Assumes nothing.
-use borrow.Author.Rules.{rules}
 use mathlib.Core.Path.{ap, sym}
 use Rattle.reader.specs.declared.Answer.{Answer}
 use Rattle.rolsipay.specs.Private.{count_of}

@@ -6,7 +6,6 @@ use Rattle.control.specs.declared.Step.{Step}
 use Rattle.rolsipay.specs.declared.State.{State}
 use Rattle.rolsipay.specs.declared.Moved.{Moved}
 use Rattle.rolsipay.specs.Calling.{lent}
-use borrow.Author.Rules.{rules}
 use Rattle.rolsipay.proofs.move_on.Goals as goal
 
 -- The answer, and the state afterwards, by whether the call was refused.

@@ -3,7 +3,6 @@ use mathlib.Core.List.{List}
 use mathlib.Core.Path.{◌≡◌, ap, sym, ◌∙◌}
 use Prim.Native.Nat.{ℕ, ◌*◌, ◌≤◌}
 use native.Mathlib.Omega.{arith}
-use borrow.Author.Rules.{rules}
 use lib.ListN.{length, take, replicate, length-replicate}
 use lib.Seq.{sets, length-sets, length-take-le}
 use Rattle.reader.specs.Machine.{outcome}
@@ -23,7 +22,7 @@ overflow_mul-end c =
     let raws : List ℕ = c.read_lines-raw.new.row in
     let left : RawOf lines c.read_lines-raw.result (take (c.read_lines-raw.result.leaves * 8) raws) = writing.came c.args.capacity c.args.text.now (replicate 4096 0) raws
     (length-replicate {A = ℕ} 4096 0) c.read_lines-raw.ensures.answers c.read_lines-raw.ensures.writes in
-    let read-few : c.read_lines-raw.result.leaves ≤ 512 = writing.few lines left in  record { fits = omega (arith, read-few) }
+    let read-few : c.read_lines-raw.result.leaves ≤ 512 = writing.few lines left in record { fits = omega (arith, read-few) }
 
 pub slice_bounds-row-end : goal.slice_bounds-row-end
 slice_bounds-row-end c =
@@ -32,7 +31,7 @@ slice_bounds-row-end c =
     let left : RawOf lines c.read_lines-raw.result (take (c.read_lines-raw.result.leaves * 8) raws) = writing.came c.args.capacity c.args.text.now (replicate 4096 0) raws
     (length-replicate {A = ℕ} 4096 0) c.read_lines-raw.ensures.answers c.read_lines-raw.ensures.writes in
     let read-few : c.read_lines-raw.result.leaves ≤ 512 = writing.few lines left in
-    let room : c.read_lines-raw.result.leaves * 8 ≤ length raws = writing.row_room lines (replicate 4096 0) raws (length-replicate {A = ℕ} 4096 0) c.read_lines-raw.ensures.answers read-few c.read_lines-raw.ensures.writes in  room
+    let room : c.read_lines-raw.result.leaves * 8 ≤ length raws = writing.row_room lines (replicate 4096 0) raws (length-replicate {A = ℕ} 4096 0) c.read_lines-raw.ensures.answers read-few c.read_lines-raw.ensures.writes in room
 
 pub slice_bounds-judge-end : goal.slice_bounds-judge-end
 slice_bounds-judge-end c =
@@ -41,17 +40,17 @@ slice_bounds-judge-end c =
     let left : RawOf lines c.read_lines-raw.result (take (c.read_lines-raw.result.leaves * 8) raws) = writing.came c.args.capacity c.args.text.now (replicate 4096 0) raws
     (length-replicate {A = ℕ} 4096 0) c.read_lines-raw.ensures.answers c.read_lines-raw.ensures.writes in
     let read-few : c.read_lines-raw.result.leaves ≤ 512 = writing.few lines left in
-    let room : c.read_lines-raw.result.leaves * 8 ≤ length raws = writing.row_room lines (replicate 4096 0) raws (length-replicate {A = ℕ} 4096 0) c.read_lines-raw.ensures.answers read-few c.read_lines-raw.ensures.writes in  sym (length-take-le (c.read_lines-raw.result.leaves * 8) raws room)
+    let room : c.read_lines-raw.result.leaves * 8 ≤ length raws = writing.row_room lines (replicate 4096 0) raws (length-replicate {A = ℕ} 4096 0) c.read_lines-raw.ensures.answers read-few c.read_lines-raw.ensures.writes in sym (length-take-le (c.read_lines-raw.result.leaves * 8) raws room)
 
 pub judge-said-requires : goal.judge-said-requires
 judge-said-requires c =
     let lines : Outcome = outcome c.args.capacity c.args.text.now in
     let raws : List ℕ = c.read_lines-raw.new.row in
     let left : RawOf lines c.read_lines-raw.result (take (c.read_lines-raw.result.leaves * 8) raws) = writing.came c.args.capacity c.args.text.now (replicate 4096 0) raws
-    (length-replicate {A = ℕ} 4096 0) c.read_lines-raw.ensures.answers c.read_lines-raw.ensures.writes in  (
-  (lines, left),
-  record { turns_wide = length-replicate {A = ℕ} 512 0; tails_wide = length-replicate {A = ℕ} 512 0; stretches_wide = length-replicate {A = ℕ} 512 0 },
-)
+    (length-replicate {A = ℕ} 4096 0) c.read_lines-raw.ensures.answers c.read_lines-raw.ensures.writes in (
+      (lines, left),
+      record { turns_wide = length-replicate {A = ℕ} 512 0; tails_wide = length-replicate {A = ℕ} 512 0; stretches_wide = length-replicate {A = ℕ} 512 0 },
+    )
 
 pub overflow_mul-row : goal.overflow_mul-row
 overflow_mul-row c =
@@ -65,7 +64,7 @@ overflow_mul-row c =
     let many : ℕ = c.count-told.result.leaves in
     let within : many ≤ c.read_lines-raw.result.leaves = omega (arith, ap (λ (f : Filled). f.leaves) told, told_few lines head c.read_lines-raw.ensures.answers) in
     let read-few : c.read_lines-raw.result.leaves ≤ 512 = writing.few lines left in
-    let few : many ≤ 512 = omega (arith, within, read-few) in  record { fits = omega (arith, few) }
+    let few : many ≤ 512 = omega (arith, within, read-few) in record { fits = omega (arith, few) }
 
 pub slice_bounds-row-end-2 : goal.slice_bounds-row-end-2
 slice_bounds-row-end-2 c =
@@ -80,7 +79,7 @@ slice_bounds-row-end-2 c =
     let within : many ≤ c.read_lines-raw.result.leaves = omega (arith, ap (λ (f : Filled). f.leaves) told, told_few lines head c.read_lines-raw.ensures.answers) in
     let read-few : c.read_lines-raw.result.leaves ≤ 512 = writing.few lines left in
     let room : c.read_lines-raw.result.leaves * 8 ≤ length raws = writing.row_room lines (replicate 4096 0) raws (length-replicate {A = ℕ} 4096 0) c.read_lines-raw.ensures.answers read-few c.read_lines-raw.ensures.writes in
-    let row_long : many * 8 ≤ length raws = omega (arith, within, room) in  row_long
+    let row_long : many * 8 ≤ length raws = omega (arith, within, room) in row_long
 
 pub slice_bounds-store_at-end : goal.slice_bounds-store_at-end
 slice_bounds-store_at-end c =
@@ -96,7 +95,7 @@ slice_bounds-store_at-end c =
     let read-few : c.read_lines-raw.result.leaves ≤ 512 = writing.few lines left in
     let room : c.read_lines-raw.result.leaves * 8 ≤ length raws = writing.row_room lines (replicate 4096 0) raws (length-replicate {A = ℕ} 4096 0) c.read_lines-raw.ensures.answers read-few c.read_lines-raw.ensures.writes in
     let row_long : many * 8 ≤ length raws = omega (arith, within, room) in
-    let row_taken : length (take (many * 8) raws) ≡ many * 8 = length-take-le (many * 8) raws row_long in  sym row_taken
+    let row_taken : length (take (many * 8) raws) ≡ many * 8 = length-take-le (many * 8) raws row_long in sym row_taken
 
 pub store_at-requires : goal.store_at-requires
 store_at-requires c =
@@ -113,7 +112,7 @@ store_at-requires c =
     let few : many ≤ 512 = omega (arith, within, read-few) in
     let room : c.read_lines-raw.result.leaves * 8 ≤ length raws = writing.row_room lines (replicate 4096 0) raws (length-replicate {A = ℕ} 4096 0) c.read_lines-raw.ensures.answers read-few c.read_lines-raw.ensures.writes in
     let row_long : many * 8 ≤ length raws = omega (arith, within, room) in
-    let row_taken : length (take (many * 8) raws) ≡ many * 8 = length-take-le (many * 8) raws row_long in 
+    let row_taken : length (take (many * 8) raws) ≡ many * 8 = length-take-le (many * 8) raws row_long in
     omega (arith, row_taken, few, c.requires)
 
 pub slice_bounds-turns-end : goal.slice_bounds-turns-end
@@ -128,7 +127,7 @@ slice_bounds-turns-end c =
     let many : ℕ = c.count-told.result.leaves in
     let within : many ≤ c.read_lines-raw.result.leaves = omega (arith, ap (λ (f : Filled). f.leaves) told, told_few lines head c.read_lines-raw.ensures.answers) in
     let read-few : c.read_lines-raw.result.leaves ≤ 512 = writing.few lines left in
-    let few : many ≤ 512 = omega (arith, within, read-few) in  omega (arith, few, c.judge-said.ensures.wide.turns_wide)
+    let few : many ≤ 512 = omega (arith, within, read-few) in omega (arith, few, c.judge-said.ensures.wide.turns_wide)
 
 pub slice_bounds-store_at-end-3 : goal.slice_bounds-store_at-end-3
 slice_bounds-store_at-end-3 c =
@@ -144,7 +143,7 @@ slice_bounds-store_at-end-3 c =
     let within : many ≤ c.read_lines-raw.result.leaves = omega (arith, ap (λ (f : Filled). f.leaves) told, told_few lines head c.read_lines-raw.ensures.answers) in
     let read-few : c.read_lines-raw.result.leaves ≤ 512 = writing.few lines left in
     let few : many ≤ 512 = omega (arith, within, read-few) in
-    let column-taken : (l : List ℕ) → length l ≡ 512 → length (take many l) ≡ many = λ l e. length-take-le many l (omega (arith, few)) in 
+    let column-taken : (l : List ℕ) → length l ≡ 512 → length (take many l) ≡ many = λ l e. length-take-le many l (omega (arith, few)) in
     sym (column-taken turns c.judge-said.ensures.wide.turns_wide)
 
 pub store_at-requires-2 : goal.store_at-requires-2
@@ -162,7 +161,7 @@ store_at-requires-2 c =
     let few : many ≤ 512 = omega (arith, within, read-few) in
     let turns : List ℕ = c.judge-said.new.turns in
     let column-taken : (l : List ℕ) → length l ≡ 512 → length (take many l) ≡ many = λ l e. length-take-le many l (omega (arith, few)) in
-    let out-wide : length c.store_at.new.out ≡ 5632 = ap length c.store_at.ensures ∙ (length-sets c.args.out.now 0 (take (many * 8) raws) ∙ c.requires) in 
+    let out-wide : length c.store_at.new.out ≡ 5632 = ap length c.store_at.ensures ∙ (length-sets c.args.out.now 0 (take (many * 8) raws) ∙ c.requires) in
     omega (arith, column-taken turns c.judge-said.ensures.wide.turns_wide, few, out-wide)
 
 pub slice_bounds-tails-end : goal.slice_bounds-tails-end
@@ -177,7 +176,7 @@ slice_bounds-tails-end c =
     let many : ℕ = c.count-told.result.leaves in
     let within : many ≤ c.read_lines-raw.result.leaves = omega (arith, ap (λ (f : Filled). f.leaves) told, told_few lines head c.read_lines-raw.ensures.answers) in
     let read-few : c.read_lines-raw.result.leaves ≤ 512 = writing.few lines left in
-    let few : many ≤ 512 = omega (arith, within, read-few) in  omega (arith, few, c.judge-said.ensures.wide.tails_wide)
+    let few : many ≤ 512 = omega (arith, within, read-few) in omega (arith, few, c.judge-said.ensures.wide.tails_wide)
 
 pub slice_bounds-store_at-end-5 : goal.slice_bounds-store_at-end-5
 slice_bounds-store_at-end-5 c =
@@ -193,7 +192,7 @@ slice_bounds-store_at-end-5 c =
     let within : many ≤ c.read_lines-raw.result.leaves = omega (arith, ap (λ (f : Filled). f.leaves) told, told_few lines head c.read_lines-raw.ensures.answers) in
     let read-few : c.read_lines-raw.result.leaves ≤ 512 = writing.few lines left in
     let few : many ≤ 512 = omega (arith, within, read-few) in
-    let column-taken : (l : List ℕ) → length l ≡ 512 → length (take many l) ≡ many = λ l e. length-take-le many l (omega (arith, few)) in 
+    let column-taken : (l : List ℕ) → length l ≡ 512 → length (take many l) ≡ many = λ l e. length-take-le many l (omega (arith, few)) in
     sym (column-taken tails c.judge-said.ensures.wide.tails_wide)
 
 pub store_at-requires-3 : goal.store_at-requires-3
@@ -213,7 +212,7 @@ store_at-requires-3 c =
     let column-taken : (l : List ℕ) → length l ≡ 512 → length (take many l) ≡ many = λ l e. length-take-le many l (omega (arith, few)) in
     let turns : List ℕ = c.judge-said.new.turns in
     let out-wide : length c.store_at.new.out ≡ 5632 = ap length c.store_at.ensures ∙ (length-sets c.args.out.now 0 (take (many * 8) raws) ∙ c.requires) in
-    let out-wide-2 : length c.store_at-2.new.out ≡ 5632 = ap length c.store_at-2.ensures ∙ (length-sets c.store_at.new.out 4096 (take many turns) ∙ out-wide) in 
+    let out-wide-2 : length c.store_at-2.new.out ≡ 5632 = ap length c.store_at-2.ensures ∙ (length-sets c.store_at.new.out 4096 (take many turns) ∙ out-wide) in
     omega (arith, column-taken tails c.judge-said.ensures.wide.tails_wide, few, out-wide-2)
 
 pub slice_bounds-stretches-end : goal.slice_bounds-stretches-end
@@ -228,7 +227,7 @@ slice_bounds-stretches-end c =
     let many : ℕ = c.count-told.result.leaves in
     let within : many ≤ c.read_lines-raw.result.leaves = omega (arith, ap (λ (f : Filled). f.leaves) told, told_few lines head c.read_lines-raw.ensures.answers) in
     let read-few : c.read_lines-raw.result.leaves ≤ 512 = writing.few lines left in
-    let few : many ≤ 512 = omega (arith, within, read-few) in  omega (arith, few, c.judge-said.ensures.wide.stretches_wide)
+    let few : many ≤ 512 = omega (arith, within, read-few) in omega (arith, few, c.judge-said.ensures.wide.stretches_wide)
 
 pub slice_bounds-store_at-end-7 : goal.slice_bounds-store_at-end-7
 slice_bounds-store_at-end-7 c =
@@ -244,7 +243,7 @@ slice_bounds-store_at-end-7 c =
     let within : many ≤ c.read_lines-raw.result.leaves = omega (arith, ap (λ (f : Filled). f.leaves) told, told_few lines head c.read_lines-raw.ensures.answers) in
     let read-few : c.read_lines-raw.result.leaves ≤ 512 = writing.few lines left in
     let few : many ≤ 512 = omega (arith, within, read-few) in
-    let column-taken : (l : List ℕ) → length l ≡ 512 → length (take many l) ≡ many = λ l e. length-take-le many l (omega (arith, few)) in 
+    let column-taken : (l : List ℕ) → length l ≡ 512 → length (take many l) ≡ many = λ l e. length-take-le many l (omega (arith, few)) in
     sym (column-taken stretches c.judge-said.ensures.wide.stretches_wide)
 
 pub store_at-requires-4 : goal.store_at-requires-4
@@ -266,7 +265,7 @@ store_at-requires-4 c =
     let turns : List ℕ = c.judge-said.new.turns in
     let out-wide : length c.store_at.new.out ≡ 5632 = ap length c.store_at.ensures ∙ (length-sets c.args.out.now 0 (take (many * 8) raws) ∙ c.requires) in
     let out-wide-2 : length c.store_at-2.new.out ≡ 5632 = ap length c.store_at-2.ensures ∙ (length-sets c.store_at.new.out 4096 (take many turns) ∙ out-wide) in
-    let out-wide-3 : length c.store_at-3.new.out ≡ 5632 = ap length c.store_at-3.ensures ∙ (length-sets c.store_at-2.new.out 4608 (take many tails) ∙ out-wide-2) in 
+    let out-wide-3 : length c.store_at-3.new.out ≡ 5632 = ap length c.store_at-3.ensures ∙ (length-sets c.store_at-2.new.out 4608 (take many tails) ∙ out-wide-2) in
     omega (arith, column-taken stretches c.judge-said.ensures.wide.stretches_wide, few, out-wide-3)
 
 pub returns : goal.returns

@@ -1,6 +1,5 @@
 -- `state_out` meets its contract. Assumes nothing.
 use mathlib.Core.Path.{refl}
-use borrow.Author.Rules.{rules}
 use Rattle.rolsipay.proofs.state_out.Goals as goal
 
 pub returns : goal.returns

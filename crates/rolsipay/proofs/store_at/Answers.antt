@@ -1,10 +1,9 @@
 -- `store_at` meets its contract. Assumes nothing.
-use Prim.Native.Nat.{ℕ, ◌+◌, ◌-◌, ◌≤◌}
+use Prim.Native.Nat.{ℕ, ◌+◌}
 use mathlib.Core.List.{List}
 use mathlib.Core.Path.{◌≡◌, refl, ap, ◌∙◌}
 use lib.ListN.{length, get_or, set, take}
 use lib.Seq.{sets, length-sets, take-length}
-use borrow.Author.Rules.{rules}
 use native.Mathlib.Omega.{arith}
 use Rattle.rolsipay.proofs.Stored.{store_next}
 use Rattle.rolsipay.proofs.store_at.Goals as goal
@@ -13,7 +12,7 @@ pub loop-i-init : goal.loop-i-init
 loop-i-init c = (omega arith, refl)
 
 pub bounds-out-from : goal.bounds-out-from
-bounds-out-from c = let kept : length c.loop-i.out ≡ length c.args.out.now = ap length c.loop-i.invariant.1 ∙ length-sets c.args.out.now c.args.from (take c.loop-i.i c.args.numbers.now) in  omega (arith, kept)
+bounds-out-from c = let kept : length c.loop-i.out ≡ length c.args.out.now = ap length c.loop-i.invariant.1 ∙ length-sets c.args.out.now c.args.from (take c.loop-i.i c.args.numbers.now) in omega (arith, kept)
 
 pub loop-i-smaller : goal.loop-i-smaller
 loop-i-smaller c = omega arith
@@ -27,7 +26,7 @@ loop-i-preserved c =
     (omega arith, ap (λ (o : List ℕ). set o (a + i) (get_or xs i 0)) c.loop-i.invariant.1 ∙ store_next xs l a i c.loop-i-test.true)
 
 pub shape_of-out : goal.shape_of-out
-shape_of-out c = let kept : length c.loop-i.out ≡ length c.args.out.now = ap length c.loop-i.invariant.1 ∙ length-sets c.args.out.now c.args.from (take c.loop-i.i c.args.numbers.now) in  kept
+shape_of-out c = let kept : length c.loop-i.out ≡ length c.args.out.now = ap length c.loop-i.invariant.1 ∙ length-sets c.args.out.now c.args.from (take c.loop-i.i c.args.numbers.now) in kept
 
 pub returns : goal.returns
 returns c =

@@ -1,12 +1,5 @@
-use Rattle.structure.proofs.Deciding.{head_of, head_sound, head_flat, head_loop, head_if, head_body, head_then, head_else, join, nothing}
-use Rattle.rows.proofs.Shape.{rep_le, after, flat_end}
 use Rattle.rows.specs.Rows.{Part}
-use Prim.Native.Nat.{◌+◌, ◌-◌, ℕ, ◌<◌}
-use mathlib.Core.Path.{◌∙◌, sym}
-use native.Mathlib.Omega.{arith}
-use borrow.Author.Tests.{not-true, not-false}
-use borrow.Author.Rules.{rules}
-use Rattle.rows.proofs.Answers.{said_true, said_false, same_answer}
+use Prim.Native.Nat.{◌+◌, ◌-◌}
 use Rattle.structure.proofs.+valid_whole.Given as goal
 
 abbrev pub decreases-valid : goal.decreases-valid

@@ -1,6 +1,4 @@
-use borrow.Author.Tests.{not-true, not-false}
 use native.Mathlib.Omega.{arith}
-use borrow.Author.Rules.{rules}
 use Rattle.rows.proofs.Answers.{said_true, said_false}
 use Rattle.structure.proofs.bounded.Goals as goal
 

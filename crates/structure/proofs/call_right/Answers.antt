@@ -1,6 +1,5 @@
 use Rattle.structure.proofs.Deciding.{call_high, call_fits}
 use native.Mathlib.Omega.{arith}
-use borrow.Author.Rules.{rules}
 use Rattle.structure.proofs.call_right.Goals as goal
 
 pub returns-then-l-hs : goal.returns-then-l-hs

@@ -1,11 +1,5 @@
-use Rattle.structure.proofs.Callers.{Caller, Marked, marked_none, marked_call, marked_other, marked_yes, marked_no, call_few, called_callers, callers_called}
-use lib.ListN.{get_or}
-use mathlib.Core.Logic.{⊎_elim}
-use borrow.Author.Count.{below_more}
+use Rattle.structure.proofs.Callers.{Caller, Marked}
 use Prim.Native.Nat.{ℕ, ◌-◌, ◌≤◌, ◌<◌}
-use mathlib.Core.Path.{◌≡◌, sym, ◌∙◌}
-use borrow.Author.Tests.{not-true, not-false}
-use native.Mathlib.Omega.{arith}
 use Rattle.structure.proofs.called.Given as goal
 
 abbrev pub invariant-loop-i : goal.invariant-loop-i

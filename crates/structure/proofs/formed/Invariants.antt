@@ -1,14 +1,7 @@
-use Rattle.rows.proofs.Answers.{said_true, said_false}
-use Rattle.rows.proofs.Plans.{bound_le}
-use Rattle.structure.proofs.Functions.{Read, Held, read_none, held_none, read_more, held_more, read_all, held_all, plan_part}
-use Rattle.rows.specs.Plans.{PlanOf}
-use lib.Seq.{length-take-le}
-use lib.ListN.{length, length-set}
-use Prim.Native.Nat.{◌-◌, ◌≤◌, ◌<◌}
-use mathlib.Core.Path.{◌≡◌, refl, sym}
-use borrow.Author.Tests.{not-true, not-false}
-use borrow.Author.Rules.{rules}
-use native.Mathlib.Omega.{arith}
+use Rattle.structure.proofs.Functions.{Read, Held}
+use lib.ListN.{length}
+use Prim.Native.Nat.{◌-◌, ◌≤◌}
+use mathlib.Core.Path.{◌≡◌}
 use Rattle.structure.proofs.formed.Given as goal
 
 abbrev pub invariant-loop-f : goal.invariant-loop-f

@@ -2,7 +2,6 @@ use Rattle.structure.proofs.Seeing.{call_has_point}
 use mathlib.Core.Logic.{inl, ⊎_elim}
 use mathlib.Core.Path.{◌∙◌, sym}
 use native.Mathlib.Omega.{arith}
-use borrow.Author.Rules.{rules}
 use Rattle.structure.proofs.has_point.Goals as goal
 
 pub returns-then-get-eq1 : goal.returns-then-get-eq1

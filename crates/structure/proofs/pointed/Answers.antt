@@ -1,8 +1,6 @@
 use Rattle.structure.proofs.Seeing.{text_record, record_text, known_target}
-use Rattle.structure.specs.Private.{HasPoint}
 use Rattle.rows.proofs.Shape.{rep_le}
 use Rattle.rows.proofs.Answers.{said_true, said_false}
-use Prim.Native.Nat.{ℕ, ◌-◌, ◌≤◌, ◌<◌}
 use mathlib.Core.Path.{◌≡◌}
 use native.Mathlib.Decide.{dec_lt}
 use native.Mathlib.Omega.{arith}
@@ -28,8 +26,7 @@ pub loop-i-smaller : goal.loop-i-smaller
 loop-i-smaller c = omega arith
 
 pub loop-i-preserved : goal.loop-i-preserved
-loop-i-preserved c =
- (
+loop-i-preserved c = (
   omega arith,
   omega arith,
   λ k a b x.
@@ -43,6 +40,6 @@ loop-i-preserved c =
 
 pub returns : goal.returns
 returns c =
- let all = c.loop-i.invariant.2 in
+    let all = c.loop-i.invariant.2 in
     let le = c.loop-i-test.false in
     λ fs g t p. let x = text_record g t p in all x.place x.low (omega (arith, x.high)) x.reaches

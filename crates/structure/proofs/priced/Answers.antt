@@ -1,6 +1,5 @@
 -- `structure::priced` meets its contract: a mark of 1 at most, and a cost not below it. Assumes nothing.
 use native.Mathlib.Omega.{arith}
-use borrow.Author.Rules.{rules}
 use Rattle.structure.proofs.PointRecords.{costless_record, block_right}
 use Rattle.structure.proofs.priced.Goals as goal
 

@@ -1,7 +1,6 @@
 use Rattle.structure.proofs.Levels.{call_low, reached_call, reached_own}
 use mathlib.Core.Path.{◌∙◌, sym}
 use native.Mathlib.Omega.{arith}
-use borrow.Author.Rules.{rules}
 use Rattle.structure.proofs.reach.Goals as goal
 
 pub offset_bounds-hs-f : goal.offset_bounds-hs-f

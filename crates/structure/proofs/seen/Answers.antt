@@ -1,9 +1,7 @@
-use Rattle.structure.proofs.Seeing.{SeenSoFar, so_far_none, so_far_more, records_allowed, text_records, records_text, known_target}
+use Rattle.structure.proofs.Seeing.{so_far_none, so_far_more, records_allowed, text_records, records_text, known_target}
 use Rattle.rows.proofs.Shape.{rep_le}
 use Rattle.rows.proofs.Answers.{said_true, said_false}
-use Prim.Native.Nat.{◌-◌, ◌≤◌}
 use mathlib.Core.Path.{◌≡◌}
-use borrow.Author.Tests.{not-true, not-false}
 use native.Mathlib.Omega.{arith}
 use Rattle.structure.proofs.seen.Goals as goal
 
@@ -19,7 +17,7 @@ allowed-requires c =
 
 pub returns-then-not-allowed : goal.returns-then-not-allowed
 returns-then-not-allowed c =
- λ fs g t s. said_false c.allowed.result c.if-not-allowed.true c.allowed.ensures
+    λ fs g t s. said_false c.allowed.result c.if-not-allowed.true c.allowed.ensures
     (records_allowed c.loop-i.invariant.0 (text_records g t s) c.loop-i.invariant.1 c.loop-i-test.true)
 
 pub silent_until-until-requires : goal.silent_until-until-requires
@@ -33,10 +31,10 @@ loop-i-smaller c = omega arith
 
 pub loop-i-preserved : goal.loop-i-preserved
 loop-i-preserved c =
- let a = said_true c.allowed.result c.if-not-allowed.false c.allowed.ensures in
+    let a = said_true c.allowed.result c.if-not-allowed.false c.allowed.ensures in
     (so_far_more c.loop-i.invariant.0 c.loop-i.invariant.1 a c.silent_until-until.ensures, omega arith, omega arith)
 
 pub returns : goal.returns
 returns c =
- let q : c.loop-i.i ≡ c.args.to = omega arith in
+    let q : c.loop-i.i ≡ c.args.to = omega arith in
     λ fs g t. records_text g t (rw q at c.loop-i.invariant.0.kept)

@@ -1,9 +1,7 @@
-use Rattle.structure.proofs.AllSeen.{SeenUpTo, up_to_none, up_to_more, up_to_all, not_seen, its_text}
+use Rattle.structure.proofs.AllSeen.{up_to_none, up_to_more, up_to_all, not_seen, its_text}
 use Rattle.rows.proofs.Plans.{bound_le}
 use lib.Seq.{length-take-le}
-use Prim.Native.Nat.{◌-◌, ◌≤◌}
 use mathlib.Core.Path.{◌≡◌, refl, sym}
-use borrow.Author.Tests.{not-true, not-false}
 use native.Mathlib.Omega.{arith}
 use Rattle.structure.proofs.seen_all.Goals as goal
 
@@ -58,8 +56,7 @@ pub loop-f-smaller : goal.loop-f-smaller
 loop-f-smaller c = omega arith
 
 pub loop-f-preserved : goal.loop-f-preserved
-loop-f-preserved c =
- (
+loop-f-preserved c = (
   omega arith,
   up_to_more c.loop-f.invariant.1 c.loop-f-test.true c.requires.bounds.few c.start-from.ensures c.start-to.ensures c.pointed-some.result c.seen.result
       c.if-not-seen.false c.seen.ensures c.pointed-some.ensures,
@@ -67,5 +64,5 @@ loop-f-preserved c =
 
 pub returns : goal.returns
 returns c =
- let e : c.loop-f.f ≡ c.args.n = omega arith in
+    let e : c.loop-f.f ≡ c.args.n = omega arith in
     up_to_all (rw e at c.loop-f.invariant.1)

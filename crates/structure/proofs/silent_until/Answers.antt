@@ -1,7 +1,6 @@
 use Rattle.structure.proofs.Seeing.{silent_loop, not_silent, not_loop}
 use mathlib.Core.Path.{◌∙◌}
 use native.Mathlib.Omega.{arith}
-use borrow.Author.Rules.{rules}
 use Rattle.structure.proofs.silent_until.Goals as goal
 
 pub returns-then-get-ne0 : goal.returns-then-get-ne0
@@ -12,10 +11,10 @@ returns-then-get-ne-LOOP c = omega (arith, not_loop c.args.row.now c.args.i (λ 
 
 pub returns-then-until-after : goal.returns-then-until-after
 returns-then-until-after c =
- let x = silent_loop c.args.row.now c.args.i (omega (arith, c.get.ensures, c.if-get-ne0.false)) (omega (arith, c.get-2.ensures, c.if-get-ne-LOOP.false)) in
+    let x = silent_loop c.args.row.now c.args.i (omega (arith, c.get.ensures, c.if-get-ne0.false)) (omega (arith, c.get-2.ensures, c.if-get-ne-LOOP.false)) in
     omega (arith, c.index-after.ensures)
 
 pub returns-else-until-after : goal.returns-else-until-after
 returns-else-until-after c =
- let x = silent_loop c.args.row.now c.args.i (omega (arith, c.get.ensures, c.if-get-ne0.false)) (omega (arith, c.get-2.ensures, c.if-get-ne-LOOP.false)) in
+    let x = silent_loop c.args.row.now c.args.i (omega (arith, c.get.ensures, c.if-get-ne0.false)) (omega (arith, c.get-2.ensures, c.if-get-ne-LOOP.false)) in
     omega (arith, c.index-after.ensures)

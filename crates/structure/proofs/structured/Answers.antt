@@ -1,5 +1,3 @@
-use borrow.Author.Tests.{not-true, not-false}
-use borrow.Author.Rules.{rules}
 use Rattle.rows.proofs.Answers.{said_true, said_false}
 use Rattle.structure.proofs.structured.Goals as goal
 
@@ -32,11 +30,11 @@ returns-then-not-called c =
 
 pub returns : goal.returns
 returns c =
- let p = said_true c.formed.result c.if-not-formed.false c.formed.ensures.says in record {
+    let p = said_true c.formed.result c.if-not-formed.false c.formed.ensures.says in record {
       says = record {
-    plan = p;
-    seen = said_true c.seen_all.result c.if-not-seen_all.false (c.seen_all.ensures p);
-    called = said_true c.called.result c.if-not-called.false (c.called.ensures p);
-  };
+        plan = p;
+        seen = said_true c.seen_all.result c.if-not-seen_all.false (c.seen_all.ensures p);
+        called = said_true c.called.result c.if-not-called.false (c.called.ensures p);
+      };
       hs_after = c.formed.ensures.hs_after;
     }

@@ -1,8 +1,6 @@
-use Rattle.structure.proofs.Levels.{Highest, highest_none, highest_more, height_reached, readable}
+use Rattle.structure.proofs.Levels.{highest_none, highest_more, height_reached, readable}
 use Rattle.rows.proofs.Shape.{rep_le}
-use Prim.Native.Nat.{◌-◌, ◌≤◌}
 use mathlib.Core.Path.{◌≡◌}
-use borrow.Author.Rules.{rules}
 use native.Mathlib.Omega.{arith}
 use Rattle.structure.proofs.tall.Goals as goal
 
@@ -23,5 +21,5 @@ loop-i-preserved c = (highest_more c.loop-i.invariant.1 c.loop-i.invariant.0 c.r
 
 pub returns : goal.returns
 returns c =
- let q : c.loop-i.i ≡ c.args.to = omega arith in
+    let q : c.loop-i.i ≡ c.args.to = omega arith in
     λ p. height_reached p.lines p.rep (rw q at c.loop-i.invariant.0)

@@ -1,9 +1,5 @@
-use Rattle.structure.proofs.Levels.{Highest, highest_none, highest_more, height_reached, readable}
-use Rattle.rows.proofs.Shape.{rep_le}
+use Rattle.structure.proofs.Levels.{Highest}
 use Prim.Native.Nat.{◌-◌, ◌≤◌}
-use mathlib.Core.Path.{◌≡◌}
-use borrow.Author.Rules.{rules}
-use native.Mathlib.Omega.{arith}
 use Rattle.structure.proofs.tall.Given as goal
 
 abbrev pub invariant-loop-i : goal.invariant-loop-i

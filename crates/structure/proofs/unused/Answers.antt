@@ -1,7 +1,4 @@
-use lib.ListN.{get_or}
-use Prim.Native.Nat.{ℕ, ◌-◌, ◌≤◌, ◌<◌}
 use mathlib.Core.Path.{◌≡◌, ◌∙◌, sym}
-use borrow.Author.Rules.{rules}
 use native.Mathlib.Decide.{dec_lt}
 use native.Mathlib.Omega.{arith}
 use Rattle.structure.proofs.unused.Goals as goal
@@ -19,8 +16,7 @@ pub loop-f-smaller : goal.loop-f-smaller
 loop-f-smaller c = omega arith
 
 pub loop-f-preserved : goal.loop-f-preserved
-loop-f-preserved c =
- (
+loop-f-preserved c = (
   omega arith,
   omega arith,
   λ k a b.

@@ -6,7 +6,6 @@ use Rattle.table.proofs.Tests.{no_truth}
 use Rattle.rows.proofs.Answers.{same_answer, said_true, said_false}
 use lib.ListN.{length, replicate, length-replicate}
 use native.Mathlib.Omega.{arith}
-use borrow.Author.Tests.{not-true, not-false}
 use Prim.Native.Nat.{ℕ}
 use mathlib.Core.Path.{◌≡◌, refl, sym, ◌∙◌}
 use borrow.Author.Rules.{rules}
@@ -14,8 +13,8 @@ use Rattle.table.proofs.agrees.Goals as goal
 
 pub tails_agree-requires : goal.tails_agree-requires
 tails_agree-requires c =
-    let q = c.requires.0 in 
-    let e = c.indexes-starts.ensures in 
+    let q = c.requires.0 in
+    let e = c.indexes-starts.ensures in
     let long : length c.indexes-starts.result ≡ 17 = search (rules, c.indexes-starts.type_inv) in record {
       n_in_bounds = (omega (arith, q.plan.bounds.few), q.plan.bounds.few);
       plan_of = row_plan e q;
@@ -28,8 +27,8 @@ returns-then-not-tails_agree c =
 
 pub measure-loads-requires : goal.measure-loads-requires
 measure-loads-requires c =
-    let q = c.requires.0 in 
-    let e = c.indexes-starts.ensures in 
+    let q = c.requires.0 in
+    let e = c.indexes-starts.ensures in
     let long : length c.indexes-starts.result ≡ 17 = search (rules, c.indexes-starts.type_inv) in record {
       n_in_bounds = (omega (arith, q.plan.bounds.few), q.plan.bounds.few, refl, (omega arith, omega arith));
       plan_of = row_plan e q;
@@ -37,7 +36,7 @@ measure-loads-requires c =
 
 pub returns-then-max_load_total-gt-LIMIT : goal.returns-then-max_load_total-gt-LIMIT
 returns-then-max_load_total-gt-LIMIT c =
-    let fits : (Fitting c.args.row.now c.indexes-starts.result c.args.head.functions c.args.head.totals c.args.turns.now c.args.tails.now) = λ v. said_true c.tails_agree.result c.if-not-tails_agree.false (c.tails_agree.ensures v) in 
+    let fits : (Fitting c.args.row.now c.indexes-starts.result c.args.head.functions c.args.head.totals c.args.turns.now c.args.tails.now) = λ v. said_true c.tails_agree.result c.if-not-tails_agree.false (c.tails_agree.ensures v) in
     λ p q same few g.
     let x = fits in
     let y = c.measure-loads.ensures.measured in
@@ -45,12 +44,12 @@ returns-then-max_load_total-gt-LIMIT c =
 
 pub stretches-stretch-requires : goal.stretches-stretch-requires
 stretches-stretch-requires c =
-    let fits : (Fitting c.args.row.now c.indexes-starts.result c.args.head.functions c.args.head.totals c.args.turns.now c.args.tails.now) = λ v. said_true c.tails_agree.result c.if-not-tails_agree.false (c.tails_agree.ensures v) in  
-    let q = c.requires.0 in 
-    let e = c.indexes-starts.ensures in 
-    let long : length c.indexes-starts.result ≡ 17 = search (rules, c.indexes-starts.type_inv) in 
-    let x = fits in 
-    let y = c.measure-loads.ensures.measured in 
+    let fits : (Fitting c.args.row.now c.indexes-starts.result c.args.head.functions c.args.head.totals c.args.turns.now c.args.tails.now) = λ v. said_true c.tails_agree.result c.if-not-tails_agree.false (c.tails_agree.ensures v) in
+    let q = c.requires.0 in
+    let e = c.indexes-starts.ensures in
+    let long : length c.indexes-starts.result ≡ 17 = search (rules, c.indexes-starts.type_inv) in
+    let x = fits in
+    let y = c.measure-loads.ensures.measured in
     let k = c.if-max_load_total-gt-LIMIT.false in record {
       le_n = (q.plan.bounds.some, omega (arith, q.plan.bounds.few), q.plan.bounds.few, (omega arith, omega arith));
       summed = fitting_costed q e x y k;
@@ -68,7 +67,7 @@ bounds-totals-n c = omega (arith, c.requires.0.plan.bounds.few, c.requires.0.pla
 pub returns-then-head-totals : goal.returns-then-head-totals
 returns-then-head-totals c =
     let totals-long : length c.args.head.totals ≡ 16 = let g = c.well_formed.1.1.1.1.0.1.1.1.1.1.1.1.1.1.1.0 in search (rules, g) in
-    let fits : (Fitting c.args.row.now c.indexes-starts.result c.args.head.functions c.args.head.totals c.args.turns.now c.args.tails.now) = λ v. said_true c.tails_agree.result c.if-not-tails_agree.false (c.tails_agree.ensures v) in 
+    let fits : (Fitting c.args.row.now c.indexes-starts.result c.args.head.functions c.args.head.totals c.args.turns.now c.args.tails.now) = λ v. said_true c.tails_agree.result c.if-not-tails_agree.false (c.tails_agree.ensures v) in
     λ p q same few g.
     let h = c.args.head in
     let x = fits in
@@ -81,7 +80,7 @@ returns-then-head-totals c =
 pub returns-then-head-max_load_total : goal.returns-then-head-max_load_total
 returns-then-head-max_load_total c =
     let totals-long : length c.args.head.totals ≡ 16 = let g = c.well_formed.1.1.1.1.0.1.1.1.1.1.1.1.1.1.1.0 in search (rules, g) in
-    let fits : (Fitting c.args.row.now c.indexes-starts.result c.args.head.functions c.args.head.totals c.args.turns.now c.args.tails.now) = λ v. said_true c.tails_agree.result c.if-not-tails_agree.false (c.tails_agree.ensures v) in 
+    let fits : (Fitting c.args.row.now c.indexes-starts.result c.args.head.functions c.args.head.totals c.args.turns.now c.args.tails.now) = λ v. said_true c.tails_agree.result c.if-not-tails_agree.false (c.tails_agree.ensures v) in
     λ p q same few g.
     let h = c.args.head in
     let x = fits in
@@ -94,7 +93,7 @@ returns-then-head-max_load_total c =
 pub returns-then-head-stretch : goal.returns-then-head-stretch
 returns-then-head-stretch c =
     let totals-long : length c.args.head.totals ≡ 16 = let g = c.well_formed.1.1.1.1.0.1.1.1.1.1.1.1.1.1.1.0 in search (rules, g) in
-    let fits : (Fitting c.args.row.now c.indexes-starts.result c.args.head.functions c.args.head.totals c.args.turns.now c.args.tails.now) = λ v. said_true c.tails_agree.result c.if-not-tails_agree.false (c.tails_agree.ensures v) in 
+    let fits : (Fitting c.args.row.now c.indexes-starts.result c.args.head.functions c.args.head.totals c.args.turns.now c.args.tails.now) = λ v. said_true c.tails_agree.result c.if-not-tails_agree.false (c.tails_agree.ensures v) in
     λ p q same few g.
     let h = c.args.head in
     let x = fits in
@@ -106,7 +105,7 @@ returns-then-head-stretch c =
 
 pub slice_bounds-same-end : goal.slice_bounds-same-end
 slice_bounds-same-end c =
-    let fits : (Fitting c.args.row.now c.indexes-starts.result c.args.head.functions c.args.head.totals c.args.turns.now c.args.tails.now) = λ v. said_true c.tails_agree.result c.if-not-tails_agree.false (c.tails_agree.ensures v) in 
+    let fits : (Fitting c.args.row.now c.indexes-starts.result c.args.head.functions c.args.head.totals c.args.turns.now c.args.tails.now) = λ v. said_true c.tails_agree.result c.if-not-tails_agree.false (c.tails_agree.ensures v) in
     let q = c.requires.0 in
     let e = c.indexes-starts.ensures in
     let x = fits in
@@ -117,7 +116,7 @@ slice_bounds-same-end c =
 
 pub same-requires : goal.same-requires
 same-requires c =
-    let fits : (Fitting c.args.row.now c.indexes-starts.result c.args.head.functions c.args.head.totals c.args.turns.now c.args.tails.now) = λ v. said_true c.tails_agree.result c.if-not-tails_agree.false (c.tails_agree.ensures v) in 
+    let fits : (Fitting c.args.row.now c.indexes-starts.result c.args.head.functions c.args.head.totals c.args.turns.now c.args.tails.now) = λ v. said_true c.tails_agree.result c.if-not-tails_agree.false (c.tails_agree.ensures v) in
     let q = c.requires.0 in
     let e = c.indexes-starts.ensures in
     let x = fits in
@@ -129,7 +128,7 @@ same-requires c =
 pub returns : goal.returns
 returns c =
     let totals-long : length c.args.head.totals ≡ 16 = let g = c.well_formed.1.1.1.1.0.1.1.1.1.1.1.1.1.1.1.0 in search (rules, g) in
-    let fits : (Fitting c.args.row.now c.indexes-starts.result c.args.head.functions c.args.head.totals c.args.turns.now c.args.tails.now) = λ v. said_true c.tails_agree.result c.if-not-tails_agree.false (c.tails_agree.ensures v) in 
+    let fits : (Fitting c.args.row.now c.indexes-starts.result c.args.head.functions c.args.head.totals c.args.turns.now c.args.tails.now) = λ v. said_true c.tails_agree.result c.if-not-tails_agree.false (c.tails_agree.ensures v) in
     λ p q same few.
     let h = c.args.head in
     let x = fits in

@@ -5,7 +5,6 @@ use mathlib.Core.Path.{◌≡◌, refl, sym}
 use Prim.Native.Nat.{◌-◌}
 use native.Mathlib.Omega.{arith}
 use lib.ListN.{length, get_or}
-use borrow.Author.Tests.{ltb-true, ltb-false}
 use Rattle.table.specs.Accepting.{short?}
 use Rattle.table.proofs.Tests.{no_truth}
 use Rattle.table.proofs.Deriving.{Room, still_wide, row_plan, row_summed, row_long_isolated, row_long_loaded, row_derives}
@@ -14,8 +13,8 @@ use Rattle.table.proofs.derive_all.Goals as goal
 
 pub measure-totals-requires : goal.measure-totals-requires
 measure-totals-requires c =
-    let q = c.requires.structured in 
-    let e = c.indexes-starts.ensures in 
+    let q = c.requires.structured in
+    let e = c.indexes-starts.ensures in
     let long : length c.indexes-starts.result ≡ 17 = search rules in record {
       n_in_bounds = (omega (arith, q.plan.bounds.few), q.plan.bounds.few, c.requires.wide.turns_wide, (omega arith, omega arith));
       plan_of = row_plan e q;
@@ -23,8 +22,8 @@ measure-totals-requires c =
 
 pub measure-loads-requires : goal.measure-loads-requires
 measure-loads-requires c =
-    let q = c.requires.structured in 
-    let e = c.indexes-starts.ensures in 
+    let q = c.requires.structured in
+    let e = c.indexes-starts.ensures in
     let long : length c.indexes-starts.result ≡ 17 = search rules in record {
       n_in_bounds = (omega (arith, q.plan.bounds.few), q.plan.bounds.few, refl, (omega arith, omega arith));
       plan_of = row_plan e q;
@@ -32,9 +31,9 @@ measure-loads-requires c =
 
 pub returns-then-total-gt-LIMIT : goal.returns-then-total-gt-LIMIT
 returns-then-total-gt-LIMIT c =
-    let e = c.indexes-starts.ensures in 
-    let x = c.measure-totals.ensures in 
-    let y = c.measure-loads.ensures.measured in 
+    let e = c.indexes-starts.ensures in
+    let x = c.measure-totals.ensures in
+    let y = c.measure-loads.ensures.measured in
     let m = get_or c.measure-loads.result (c.args.n - 1) 0 in record {
       derives = (λ p q same.
           let long : short? p ≡ false =
@@ -48,11 +47,11 @@ returns-then-total-gt-LIMIT c =
 
 pub derive-stretch-requires : goal.derive-stretch-requires
 derive-stretch-requires c =
-    let q = c.requires.structured in 
-    let e = c.indexes-starts.ensures in 
-    let x = c.measure-totals.ensures.measured in 
-    let y = c.measure-loads.ensures.measured in 
-    let m = get_or c.measure-loads.result (c.args.n - 1) 0 in 
+    let q = c.requires.structured in
+    let e = c.indexes-starts.ensures in
+    let x = c.measure-totals.ensures.measured in
+    let y = c.measure-loads.ensures.measured in
+    let m = get_or c.measure-loads.result (c.args.n - 1) 0 in
     let long : length c.indexes-starts.result ≡ 17 = search rules in record {
       le_n = (q.plan.bounds.some, omega (arith, q.plan.bounds.few), q.plan.bounds.few);
       summed_both = row_summed q e x y c.if-total-gt-LIMIT.false c.if-max_load_total-gt-LIMIT.false;
@@ -60,14 +59,14 @@ derive-stretch-requires c =
 
 pub returns : goal.returns
 returns c =
-    let e = c.indexes-starts.ensures in 
-    let x = c.measure-totals.ensures in 
-    let y = c.measure-loads.ensures.measured in 
-    let d = c.derive-stretch.ensures in 
-    let m = get_or c.measure-loads.result (c.args.n - 1) 0 in 
-    let long : length c.measure-totals.result ≡ 16 = search (rules, c.measure-totals.type_inv) in 
-    let low = c.if-total-gt-LIMIT.false in 
-    let light = c.if-max_load_total-gt-LIMIT.false in 
+    let e = c.indexes-starts.ensures in
+    let x = c.measure-totals.ensures in
+    let y = c.measure-loads.ensures.measured in
+    let d = c.derive-stretch.ensures in
+    let m = get_or c.measure-loads.result (c.args.n - 1) 0 in
+    let long : length c.measure-totals.result ≡ 16 = search (rules, c.measure-totals.type_inv) in
+    let low = c.if-total-gt-LIMIT.false in
+    let light = c.if-max_load_total-gt-LIMIT.false in
     let room : Room c.args.n c.measure-totals.result c.measure-totals.new.turn c.args.tails.now c.args.stretches.now =
     record { long = long; behind = x.by_index.0; turns = x.by_index.1; tails = c.requires.wide.tails_wide; stretches = c.requires.wide.stretches_wide } in record {
       derives = (λ p q same. row_derives q p same e x.measured y low light room (record { release = d.value; tails = d.tail_after; stretches = d.stretch_after }));

@@ -1,12 +1,7 @@
 -- `table::indexes` meets its contract. Assumes nothing.
-use Prim.Native.Nat.{suc, ◌-◌, ◌≤◌, ◌<◌}
-use mathlib.Core.Path.{◌≡◌, refl, sym, ◌∙◌}
-use mathlib.Core.List.{[], ◌∷◌, ◌++◌}
-use borrow.Author.Rules.{rules}
-use native.Mathlib.Omega.{arith}
-use native.Mathlib.Numerals.{add-one}
-use lib.ListN.{length, get_or, take, length-set}
-use lib.Seq.{take_all, take-suc, take-suc-set}
+use Prim.Native.Nat.{◌-◌, ◌≤◌}
+use mathlib.Core.Path.{◌≡◌}
+use lib.ListN.{length, take}
 use Rattle.table.proofs.indexes.Given as goal
 
 abbrev pub invariant-loop-f : goal.invariant-loop-f

@@ -1,9 +1,7 @@
 -- `table::same` meets its contract. Assumes nothing.
-use Prim.Native.Nat.{◌-◌, ◌≤◌}
 use mathlib.Core.Path.{◌≡◌, refl}
-use borrow.Author.Rules.{rules}
 use native.Mathlib.Omega.{arith}
-use Rattle.table.proofs.Lists.{Alike, alike_next, alike_short, alike_entry}
+use Rattle.table.proofs.Lists.{alike_next, alike_short, alike_entry}
 use Rattle.table.proofs.same.Goals as goal
 
 pub returns-then-lent-n : goal.returns-then-lent-n
@@ -19,8 +17,7 @@ pub loop-i-smaller : goal.loop-i-smaller
 loop-i-smaller c = omega arith
 
 pub loop-i-preserved : goal.loop-i-preserved
-loop-i-preserved c =
- (
+loop-i-preserved c = (
   omega arith,
   alike_next c.args.lent.now c.args.derived.now c.loop-i.i (omega (arith, c.if-lent-n.false)) (omega (arith, c.requires)) c.loop-i.invariant.1 (omega (arith, c.if-lent-i.false)),
 )

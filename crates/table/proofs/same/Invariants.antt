@@ -1,9 +1,6 @@
 -- `table::same` meets its contract. Assumes nothing.
 use Prim.Native.Nat.{◌-◌, ◌≤◌}
-use mathlib.Core.Path.{◌≡◌, refl}
-use borrow.Author.Rules.{rules}
-use native.Mathlib.Omega.{arith}
-use Rattle.table.proofs.Lists.{Alike, alike_next, alike_short, alike_entry}
+use Rattle.table.proofs.Lists.{Alike}
 use Rattle.table.proofs.same.Given as goal
 
 abbrev pub invariant-loop-i : goal.invariant-loop-i

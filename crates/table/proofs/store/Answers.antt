@@ -1,12 +1,10 @@
 -- `table::store` meets its contract. Assumes nothing.
-use Prim.Native.Nat.{ℕ, ◌-◌, ◌≤◌}
+use Prim.Native.Nat.{ℕ}
 use mathlib.Core.List.{List}
 use mathlib.Core.Path.{◌≡◌, refl, ap, ◌∙◌}
 use lib.ListN.{length, get_or, set, take}
 use lib.Seq.{sets, length-sets, take-length}
-use borrow.Author.Rules.{rules}
 use native.Mathlib.Omega.{arith}
-use mathlib.Core.Logic.{⊎_elim}
 use Rattle.table.proofs.Lists.{store_next, store_full}
 use Rattle.table.proofs.store.Goals as goal
 use Rattle.table.proofs.store.Goals.{then-i-lent, else-i-lent}
@@ -25,7 +23,7 @@ loop-i-preserved c =
     let e = c.loop-i.invariant.1 in (
       omega arith,
       elim c.if-i-lent.branch [
-        then-i-lent w ↦ w.lent-is ∙ (ap (λ (o : List ℕ). set o i (get_or xs i 0)) e ∙ store_next xs l i c.loop-i-test.true)
+        | then-i-lent w ↦ w.lent-is ∙ (ap (λ (o : List ℕ). set o i (get_or xs i 0)) e ∙ store_next xs l i c.loop-i-test.true)
         | else-i-lent w ↦ store_full xs l c.if-i-lent.lent i c.loop-i-test.true (omega (arith, w.if-i-lent.false, ap length e, length-sets l 0 (take i xs))) (w.lent-is ∙ e)
       ],
     )

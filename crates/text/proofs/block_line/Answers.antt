@@ -16,7 +16,7 @@ pub returns-in-Fit : goal.returns-in-Fit
 unfolding block_line_at
 returns-in-Fit c =
     let Tried : List ℕ → List ℕ → Fitted → Type 0 = λ p row' r. (row : List ℕ) × MatchAt (2 ^ 41) c.args.text.now c.args.at p row row' r × (length row ≡ 10) in
-    let tried-1 : Tried (bytes "(leaf K C M)") c.matches_word.new.row c.matches_word.result = (_, c.matches_word.ensures, search rules) in 
+    let tried-1 : Tried (bytes "(leaf K C M)") c.matches_word.new.row c.matches_word.result = (_, c.matches_word.ensures, search rules) in
     let got = subst (MatchAt _ _ _ _ _ _) c.in-Fit.is tried-1.1 in
     answer_fit _ _ _ _ _ got (leaf_held tried-1.2 got)
 
@@ -27,7 +27,7 @@ returns-in-Fit-matches_word c =
     let tried-2 : Tried (bytes "(call K F C M)") c.matches_word-2.new.row c.matches_word-2.result = (_, c.matches_word-2.ensures, search rules) in
     let tried-1 : Tried (bytes "(leaf K C M)") c.matches_word.new.row c.matches_word.result = (_, c.matches_word.ensures, search rules) in
     let line-from : List ℕ = line_at c.args.text.now c.args.at in
-    let missed-1 : matched (bytes "(leaf K C M)") false line-from ≡ miss = subst (MatchAt _ _ _ _ _ _) c.in_default.is tried-1.1 in 
+    let missed-1 : matched (bytes "(leaf K C M)") false line-from ≡ miss = subst (MatchAt _ _ _ _ _ _) c.in_default.is tried-1.1 in
     let got = subst (MatchAt _ _ _ _ _ _) c.in-Fit-matches_word.is tried-2.1 in
     answer_miss _ _ _ _ _ missed-1
     (answer_fit _ _ _ _ _ got (call_held tried-2.2 got))
@@ -41,7 +41,7 @@ returns-in-Fit-matches_word-2 c =
     let line-from : List ℕ = line_at c.args.text.now c.args.at in
     let missed-1 : matched (bytes "(leaf K C M)") false line-from ≡ miss = subst (MatchAt _ _ _ _ _ _) c.in_default.is tried-1.1 in
     let tried-2 : Tried (bytes "(call K F C M)") c.matches_word-2.new.row c.matches_word-2.result = (_, c.matches_word-2.ensures, search rules) in
-    let missed-2 : matched (bytes "(call K F C M)") false line-from ≡ miss = subst (MatchAt _ _ _ _ _ _) c.in_default-matches_word.is tried-2.1 in 
+    let missed-2 : matched (bytes "(call K F C M)") false line-from ≡ miss = subst (MatchAt _ _ _ _ _ _) c.in_default-matches_word.is tried-2.1 in
     let got = subst (MatchAt _ _ _ _ _ _) c.in-Fit-matches_word-2.is tried-3.1 in
     answer_miss _ _ _ _ _ missed-1
     (answer_miss _ _ _ _ _ missed-2
@@ -58,7 +58,7 @@ returns-in-Fit-matches_word-3 c =
     let tried-2 : Tried (bytes "(call K F C M)") c.matches_word-2.new.row c.matches_word-2.result = (_, c.matches_word-2.ensures, search rules) in
     let missed-2 : matched (bytes "(call K F C M)") false line-from ≡ miss = subst (MatchAt _ _ _ _ _ _) c.in_default-matches_word.is tried-2.1 in
     let tried-3 : Tried (bytes "(loop K B C M") c.matches_word-3.new.row c.matches_word-3.result = (_, c.matches_word-3.ensures, search rules) in
-    let missed-3 : matched (bytes "(loop K B C M") false line-from ≡ miss = subst (MatchAt _ _ _ _ _ _) c.in_default-matches_word-2.is tried-3.1 in 
+    let missed-3 : matched (bytes "(loop K B C M") false line-from ≡ miss = subst (MatchAt _ _ _ _ _ _) c.in_default-matches_word-2.is tried-3.1 in
     let got = subst (MatchAt _ _ _ _ _ _) c.in-Fit-matches_word-3.is tried-4.1 in
     answer_miss _ _ _ _ _ missed-1
     (answer_miss _ _ _ _ _ missed-2
@@ -77,7 +77,7 @@ returns c =
     let tried-3 : Tried (bytes "(loop K B C M") c.matches_word-3.new.row c.matches_word-3.result = (_, c.matches_word-3.ensures, search rules) in
     let missed-3 : matched (bytes "(loop K B C M") false line-from ≡ miss = subst (MatchAt _ _ _ _ _ _) c.in_default-matches_word-2.is tried-3.1 in
     let tried-4 : Tried (bytes "(if K C M") c.matches_word-4.new.row c.matches_word-4.result = (_, c.matches_word-4.ensures, search rules) in
-    let missed-4 : matched (bytes "(if K C M") false line-from ≡ miss = subst (MatchAt _ _ _ _ _ _) c.in_default-matches_word-3.is tried-4.1 in 
+    let missed-4 : matched (bytes "(if K C M") false line-from ≡ miss = subst (MatchAt _ _ _ _ _ _) c.in_default-matches_word-3.is tried-4.1 in
     answer_miss _ _ _ _ _ missed-1
     (answer_miss _ _ _ _ _ missed-2
     (answer_miss _ _ _ _ _ missed-3

@@ -12,15 +12,13 @@ use Rattle.text.specs.Patterns.{number, number_item, item}
 use Rattle.text.specs.Private.{NumberAt}
 use Rattle.text.proofs.Capped.{cap_same, cap_over}
 use Rattle.text.proofs.Laws.{one_on, item_end, item_kind, item_neither, item_number}
-use borrow.Author.Rules.{rules}
 use Rattle.text.proofs.capital.Goals as goal
 
 pub returns-then-text-at : goal.returns-then-text-at
 returns-then-text-at c = (item_end _ _ _ (omega arith), refl)
 
 pub returns-then-b-eq112 : goal.returns-then-b-eq112
-returns-then-b-eq112 c =
- (
+returns-then-b-eq112 c = (
   one_on _ _ (omega arith) (λ z. omega arith),
   inl (record {
     kind_found = true;
@@ -31,8 +29,7 @@ returns-then-b-eq112 c =
 )
 
 pub returns-then-b-eq115 : goal.returns-then-b-eq115
-returns-then-b-eq115 c =
- (
+returns-then-b-eq115 c = (
   one_on _ _ (omega arith) (λ z. omega arith),
   inl (record {
     kind_found = false;
@@ -54,13 +51,13 @@ numbered-requires-in-At c = c.requires.0
 pub returns-in-No : goal.returns-in-No
 returns-in-No c =
     let line-there : List ℕ = line_at c.args.text.now c.args.at in
-    let asks-number : item c.args.t line-there ≡ number_item (number line-there) = item_number _ _ c.if-t-eq75.false c.requires.1 in  (asks-number ∙ ap number_item (subst (NumberAt _ _ _) c.in-No.is c.number.ensures), refl)
+    let asks-number : item c.args.t line-there ≡ number_item (number line-there) = item_number _ _ c.if-t-eq75.false c.requires.1 in (asks-number ∙ ap number_item (subst (NumberAt _ _ _) c.in-No.is c.number.ensures), refl)
 
 pub returns-in-Over : goal.returns-in-Over
 returns-in-Over c =
     let line-there : List ℕ = line_at c.args.text.now c.args.at in
     let asks-number : item c.args.t line-there ≡ number_item (number line-there) = item_number _ _ c.if-t-eq75.false c.requires.1 in
-    let stored-with : ℕ → List ℕ = λ v. set c.args.row.now c.args.f.count v in 
+    let stored-with : ℕ → List ℕ = λ v. set c.args.row.now c.args.f.count v in
     let got = subst (NumberAt _ _ _) c.in-Over.is c.number.ensures in (
       got.3,
       inr (record {
@@ -75,7 +72,7 @@ pub returns-in-At : goal.returns-in-At
 returns-in-At c =
     let line-there : List ℕ = line_at c.args.text.now c.args.at in
     let asks-number : item c.args.t line-there ≡ number_item (number line-there) = item_number _ _ c.if-t-eq75.false c.requires.1 in
-    let stored-with : ℕ → List ℕ = λ v. set c.args.row.now c.args.f.count v in 
+    let stored-with : ℕ → List ℕ = λ v. set c.args.row.now c.args.f.count v in
     let got = subst (NumberAt _ _ _) c.in-At.is c.number.ensures in (
       got.2,
       inr (record {

@@ -1,12 +1,9 @@
 -- `text::digits_end` meets its contract. The loop's invariant: the digits passed make of any value no smaller one.
 -- The measure is what is left of the text. Assumes nothing.
-use borrow.Author.Rules.{rules}
 use native.Mathlib.Omega.{arith}
-use Prim.Native.Nat.{◌-◌}
-use lib.ListN.{length}
 use mathlib.Core.Path.{sym, ◌∙◌}
 use Rattle.text.proofs.Classes.{class_digit}
-use Rattle.text.proofs.Laws.{Passing, none_passed, one_passed, all_passed, digits_stop, digits_end}
+use Rattle.text.proofs.Laws.{none_passed, one_passed, all_passed, digits_stop, digits_end}
 use Rattle.text.proofs.digits_end.Goals as goal
 
 pub loop-i-init : goal.loop-i-init

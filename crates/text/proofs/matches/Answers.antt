@@ -2,13 +2,11 @@
 -- The measure is what is left of the pattern. Assumes nothing.
 use native.Mathlib.Omega.{arith}
 use borrow.Author.Rules.{rules}
-use Prim.Native.Nat.{◌-◌}
 use lib.ListN.{length}
 use mathlib.Core.Path.{sym, ap, ◌∙◌, subst}
-use mathlib.Core.Logic.{⊎_elim}
 use Rattle.text.specs.Private.{StandsAt, CapitalAt}
 use Rattle.text.proofs.Classes.{class_feed, class_no_feed}
-use Rattle.text.proofs.Laws.{Matching, match_begins, sign_step, capital_step, match_miss, match_short, match_long, match_whole, row_long}
+use Rattle.text.proofs.Laws.{match_begins, sign_step, capital_step, match_miss, match_short, match_long, match_whole, row_long}
 use Rattle.text.proofs.matches.Goals as goal
 use Rattle.text.proofs.matches.Goals.{then-is_upper+in-Fit, else-is_upper+then-stands}
 
@@ -16,8 +14,7 @@ pub loop-j-init : goal.loop-j-init
 loop-j-init c = match_begins _ _ _ _ _
 
 pub capital-requires : goal.capital-requires
-capital-requires c =
- (
+capital-requires c = (
   omega (arith, c.loop-j.invariant.few),
   sym c.is_upper.ensures ∙ c.if-is_upper.true,
 )
@@ -50,7 +47,7 @@ pub loop-j-preserved : goal.loop-j-preserved
 loop-j-preserved c =
     let m = c.loop-j.invariant in
     elim c.if-is_upper.branch [
-      then-is_upper+in-Fit w ↦ rw (w.row-is, w.f-is, w.i-is) (capital_step m (omega arith) (subst (CapitalAt _ _ _ _ _ _ _) w.in-Fit.is w.capital.ensures))
+      | then-is_upper+in-Fit w ↦ rw (w.row-is, w.f-is, w.i-is) (capital_step m (omega arith) (subst (CapitalAt _ _ _ _ _ _ _) w.in-Fit.is w.capital.ensures))
       | else-is_upper+then-stands w ↦ rw (w.row-is, w.f-is, w.i-is) (sign_step m (omega arith) (subst (StandsAt _ _ _) w.if-stands.true w.stands.ensures))
     ]
 

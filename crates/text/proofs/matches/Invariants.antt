@@ -1,14 +1,8 @@
 -- `text::matches` meets its contract. The loop's invariant: the signs passed have taken the line up to here, and the lent row has the numbers found.
 -- The measure is what is left of the pattern. Assumes nothing.
-use native.Mathlib.Omega.{arith}
-use borrow.Author.Rules.{rules}
 use Prim.Native.Nat.{◌-◌}
 use lib.ListN.{length}
-use mathlib.Core.Path.{sym, ap, ◌∙◌, subst}
-use mathlib.Core.Logic.{⊎_elim}
-use Rattle.text.specs.Private.{StandsAt, CapitalAt}
-use Rattle.text.proofs.Classes.{class_feed, class_no_feed}
-use Rattle.text.proofs.Laws.{Matching, match_begins, sign_step, capital_step, match_miss, match_short, match_long, match_whole, row_long}
+use Rattle.text.proofs.Laws.{Matching}
 use Rattle.text.proofs.matches.Given as goal
 
 abbrev pub invariant-loop-j : goal.invariant-loop-j

@@ -6,7 +6,6 @@ use Prim.Native.Nat.{ℕ}
 use lib.ListN.{get_or}
 use lib.Dec.{eqb}
 use borrow.Author.Tests.{eqb-true, eqb-false}
-use borrow.Author.Rules.{rules}
 use Rattle.text.specs.Patterns.{is_upper}
 use Rattle.text.specs.Private.{StandsAt}
 use Rattle.text.proofs.Laws.{one_on, item_end, item_feed, item_same, item_other}

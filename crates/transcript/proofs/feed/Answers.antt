@@ -3,12 +3,9 @@
 use borrow.Author.Rules.{rules}
 use borrow.Author.Tests.{eq-eqb, ne_eqb}
 use native.Mathlib.Omega.{arith}
-use Prim.Native.Nat.{◌-◌}
-use mathlib.Core.Logic.{⊎_elim}
 use mathlib.Core.Path.{refl}
-use lib.ListN.{length, length-take}
-use Rattle.table.specs.Table.{table_at}
-use Rattle.transcript.proofs.Feeding.{carried_at, Feeding, feeding_none, feeding_byte, feeding_line, fed_all}
+use lib.ListN.{length-take}
+use Rattle.transcript.proofs.Feeding.{feeding_none, feeding_byte, feeding_line, fed_all}
 use Rattle.transcript.proofs.feed.Goals as goal
 use Rattle.transcript.proofs.feed.Goals.{then-b-eq10, else-b-eq10, else-loop-i-test, then-loop-i-test+then-i-eq-PIECE}
 
@@ -41,7 +38,7 @@ loop-i-preserved c =
     let h = c.hold-held.ensures in
     let inside = c.loop-i-test.true in
     elim c.if-b-eq10.branch [
-      then-b-eq10 w ↦ rw (w.out-is, w.held-is, w.told-is) (feeding_line l.invariant inside (omega arith) h (eq-eqb _ 10 w.if-b-eq10.true) w.read_entry-entry.ensures w.tell-told.ensures)
+      | then-b-eq10 w ↦ rw (w.out-is, w.held-is, w.told-is) (feeding_line l.invariant inside (omega arith) h (eq-eqb _ 10 w.if-b-eq10.true) w.read_entry-entry.ensures w.tell-told.ensures)
       | else-b-eq10 w ↦ rw (w.out-is, w.held-is, w.told-is) (feeding_byte l.invariant inside (omega arith) h (ne_eqb _ 10 w.if-b-eq10.false))
     ]
 

@@ -1,14 +1,9 @@
 -- `transcript::feed` meets its contract. The loop's invariant: the bytes passed were taken, 128 bytes at most being printed for each.
 -- Assumes nothing.
-use borrow.Author.Rules.{rules}
-use borrow.Author.Tests.{eq-eqb, ne_eqb}
-use native.Mathlib.Omega.{arith}
 use Prim.Native.Nat.{◌-◌}
-use mathlib.Core.Logic.{⊎_elim}
-use mathlib.Core.Path.{refl}
-use lib.ListN.{length, length-take}
+use lib.ListN.{length}
 use Rattle.table.specs.Table.{table_at}
-use Rattle.transcript.proofs.Feeding.{carried_at, Feeding, feeding_none, feeding_byte, feeding_line, fed_all}
+use Rattle.transcript.proofs.Feeding.{carried_at, Feeding}
 use Rattle.transcript.proofs.feed.Given as goal
 
 abbrev pub invariant-loop-i : goal.invariant-loop-i

@@ -1,5 +1,4 @@
 -- `transcript::hold` meets its contract. Assumes nothing.
-use borrow.Author.Rules.{rules}
 use native.Mathlib.Omega.{arith}
 use Rattle.transcript.proofs.Holding.{held_more, held_full}
 use Rattle.transcript.proofs.hold.Goals as goal

@@ -1,5 +1,4 @@
 -- `transcript::put_ticks` meets its contract: what is not shared is suspended. Assumes nothing.
-use borrow.Author.Rules.{rules}
 use Rattle.transcript.proofs.put_ticks.Goals as goal
 
 pub returns : goal.returns

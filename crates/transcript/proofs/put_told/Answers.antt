@@ -1,5 +1,4 @@
 -- `transcript::put_told` meets its contract, once for each answer. Assumes nothing.
-use borrow.Author.Rules.{rules}
 use native.Mathlib.Omega.{arith}
 use Rattle.print.proofs.Laws.{joined, wider}
 use Rattle.transcript.proofs.Telling.{alone}

@@ -1,5 +1,4 @@
 -- `transcript::shared_after` meets its contract, once for each answer. Assumes nothing.
-use borrow.Author.Rules.{rules}
 use Rattle.transcript.proofs.shared_after.Goals as goal
 
 pub returns-in-Decided : goal.returns-in-Decided

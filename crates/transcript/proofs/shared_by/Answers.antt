@@ -1,5 +1,4 @@
 -- `transcript::shared_by` meets its contract, once for each call. Assumes nothing.
-use borrow.Author.Rules.{rules}
 use Rattle.transcript.proofs.shared_by.Goals as goal
 
 pub returns-in-Report : goal.returns-in-Report

@@ -1,5 +1,4 @@
 -- `transcript::shared_to` meets its contract, by what the others did. Assumes nothing.
-use borrow.Author.Rules.{rules}
 use Rattle.transcript.proofs.shared_to.Goals as goal
 
 pub returns-in-Running : goal.returns-in-Running

@@ -1,5 +1,4 @@
 -- `transcript::start` meets its contract. Assumes nothing.
-use borrow.Author.Rules.{rules}
 use Rattle.transcript.proofs.start.Goals as goal
 
 pub returns : goal.returns

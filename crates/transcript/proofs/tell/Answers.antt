@@ -1,5 +1,4 @@
 -- `transcript::tell` meets its contract, for a call and for a line of another form. Assumes nothing.
-use borrow.Author.Rules.{rules}
 use Rattle.table.specs.Table.{table_at}
 use Rattle.transcript.proofs.Telling.{told_other}
 use Rattle.transcript.proofs.tell.Goals as goal

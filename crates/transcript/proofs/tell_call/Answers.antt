@@ -1,5 +1,4 @@
 -- `transcript::tell_call` meets its contract. Assumes nothing.
-use borrow.Author.Rules.{rules}
 use Rattle.table.specs.Table.{table_at}
 use Rattle.transcript.proofs.Telling.{told_call}
 use Rattle.transcript.proofs.tell_call.Goals as goal
