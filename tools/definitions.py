@@ -191,7 +191,11 @@ def resolve(source, word):
     if name in source.aliases and fields:
         found, fields = look(source.aliases[name], fields[0]), fields[1:]
     elif name in source.imports and name not in source.names:
-        found = look(*source.imports[name])
+        path, type_name = source.imports[name]
+        found = look(path, type_name)
+        if fields and name[0].isupper() and all(isinstance(target, str) for target in found):
+            # A constructor behind the name of its type, which is the library's.
+            found, fields = look(path, fields[0]), fields[1:]
     else:
         found = source.names.get(name) or [f"the language {name}" for _ in LANGUAGE & {name}]
     return found and [*found, *projections(fields)]
