@@ -31,8 +31,8 @@ pub data Around : Type 0 where
   in_else : Block → Lines → Lines → Around → Around
 
 -- Nothing was read yet (start); inside the task but in no function (task); in a body, with its forms so far (body); behind an `(if` line, where
--- its `(then` must come, with the forms before the if (await-then); behind its then part, where its `(else` must come (await-else); behind its else
--- part, where its `)` must come (await-close); behind the closed task (done). The plan is the one so far: D, T and the functions that are closed.
+-- its `(then` must come, with the forms before the if (await_then); behind its then part, where its `(else` must come (await_else); behind its else
+-- part, where its `)` must come (await_close); behind the closed task (done). The plan is the one so far: D, T and the functions that are closed.
 pub data ParserState : Type 0 where
   start : ParserState
   task : Plan → ParserState
