@@ -236,13 +236,18 @@ static void chain(void)
     expect(0, END, 0, "chain");
 }
 
-/* What each call takes on the plan that docs/MEMORY.md names: the deepest nesting, with so many leaves behind it. */
+/* What each call takes on the plan that docs/MEMORY.md names: the deepest nesting, with so many leaves behind it; for reading also with a leaf at level 33 in
+ * it, at which the text is refused. */
 static void named_plan(int behind, size_t taken[CALLS])
 {
     struct nesting nesting = DEEPEST;
     nesting.behind = behind;
     memset(deepest, 0, sizeof deepest);
     play(&nesting, "deepest");
+    nesting.inside = "(leaf p 1 1)\n";
+    nesting.broken_off = 1;
+    write_nesting(&nesting);
+    expect(ROLSIPAY_DEPTH, READ, 0, "deepest, with a leaf in it");
     memcpy(taken, deepest, sizeof deepest);
 }
 
