@@ -5,7 +5,7 @@ import re
 import sys
 from dataclasses import dataclass, field
 
-LIBRARY, LANGUAGE = ("mathlib.", "lib.", "Prim.", "native."), {"Type", "Unit", "⊤", "⊥", "¬", "×"}
+LIBRARY, LANGUAGE = ("mathlib.", "lib.", "Prim.", "native."), {"Type", "Unit", "tt", "⊤", "⊥", "¬", "×"}
 KEYWORDS = set("abbrev unfoldable pub data record module where → : = ; _ bool u8 u16 u32 u64 usize i64".split())
 RUST_KINDS = {"struct": "record", "enum": "data", "type": "function", "const": "function"}
 HEAD = re.compile(r"((?:abbrev |unfoldable |pub )*)(data |record |module )?(\S+)")
@@ -196,6 +196,9 @@ def resolve(source, word):
         if fields and name[0].isupper() and all(isinstance(target, str) for target in found):
             # A constructor behind the name of its type, which is the library's.
             found, fields = look(path, fields[0]), fields[1:]
+        elif fields and all(not isinstance(target, str) and target.kind == "data" and fields[0] in target.members() for target in found):
+            # A constructor behind the name of its own type.
+            fields = fields[1:]
     else:
         found = source.names.get(name) or [f"the language {name}" for _ in LANGUAGE & {name}]
     return found and [*found, *projections(fields)]

@@ -1,7 +1,7 @@
 -- A walk over siblings from the last to the first: what it has written, and what stands at the last form that it passed. Assumes nothing.
 use mathlib.Core.Path.{◌≡◌, refl, sym, ap, ◌∙◌}
 use mathlib.Core.List.{List}
-use Prim.Native.Nat.{ℕ, suc, ◌+◌, ◌≤◌, ◌<◌}
+use Prim.Native.Nat.{ℕ, suc, ◌+◌, ◌-◌, ◌≤◌, ◌<◌}
 use native.Mathlib.Omega.{arith}
 use lib.ListN.{get_or}
 use lib.Seq.{sets}
@@ -57,6 +57,22 @@ pub back_end : {u : Rule} {w : List ℕ} {i s n t : ℕ} {l : Lines} {o o₀ : L
 unfolding sibling later
 back_end {u} {w} {i} {s} {n} {t} {l} {o} {o₀} h q = let e : n ≡ 0 = omega arith in (rw e at q.stands, rw e at q.done)
 
--- The place that the list has of the form before.
-pub listed_at : {w : List ℕ} {i e m n k x : ℕ} {o o₀ : List ℕ} → Listed w i e n o₀ → k ≡ suc m → m < n → Kept (i + k) o₀ o → x ≡ get_or o (i + m) 0 → x ≡ sibling w i m
-listed_at {w} {i} {e} {m} q hk h k hx = hx ∙ k.same (i + m) (omega arith) ∙ q.there m h
+-- One form back from number k of those listed: it stands at x.
+pub record Before (w : List ℕ) (i e k x : ℕ) : Type 0 where
+  pub one : k ≡ suc (k - 1)
+  pub at : x ≡ sibling w i (k - 1)
+  pub here : x < e
+  pub past : i + (k - 1) ≤ x
+  pub below : (j : ℕ) → j < k → sibling w i j < e
+
+pub listed_before : {w : List ℕ} {i e k n : ℕ} {o o₀ : List ℕ} → Listed w i e n o₀ → 0 < k → k ≤ n → Kept (i + k) o₀ o → Before w i e k (get_or o (i + (k - 1)) 0)
+listed_before {w} {i} {e} {k} {n} q lt le h =
+    let m = k - 1 in
+    let at = h.same (i + m) (omega arith) ∙ q.there m (omega arith) in
+    record {
+      one = omega arith;
+      at = at;
+      here = rw at (q.inside m (omega arith));
+      past = rw at (q.room m (omega arith));
+      below = λ j l. q.inside j (omega arith);
+    }

@@ -1,17 +1,14 @@
 -- Sums held at the ceiling: a part that is held already changes nothing. Assumes nothing.
-use mathlib.Core.Bool.{Bool, true, false}
 use mathlib.Core.Path.{◌≡◌, sym, ap, ◌∙◌}
-use mathlib.Core.List.{List}
 use Prim.Native.Nat.{ℕ, zero, suc, ◌+◌, ◌*◌, ◌≤◌, max}
 use native.Mathlib.Nat.{mul-le-mul, suc-mul, zero-mul}
 use native.Mathlib.Decide.{dec_le}
 use native.Mathlib.Omega.{arith}
-use lib.Dec.{eqb}
-use Rattle.model.specs.Plan.{Block, C, M}
-use Rattle.model.specs.Places.{pick}
+use Rattle.model.specs.Plan.{Block}
 use Rattle.model.specs.Acceptance.{Costs}
-use Rattle.rows.specs.Rows.{field, block_at}
-use Rattle.columns.specs.Sums.{limit, ceiling, cap, IsCost, cost_in}
+use Rattle.columns.specs.declared.Cost.{Cost}
+use Rattle.columns.specs.declared.Cost.TheVariants.{Isolated, MaxLoad}
+use Rattle.columns.specs.Sums.{limit, ceiling, cap, cost_in}
 
 pub cap_loop : (c n x : ℕ) → cap (c + n * (cap x + c)) ≡ cap (c + n * (x + c))
 cap_loop c zero x = omega (arith, zero-mul (cap x + c), zero-mul (x + c))
@@ -32,25 +29,10 @@ cap_low n h = omega arith
 pub product : (c b y : ℕ) → c ≤ 1048576 → b ≤ 65535 → y ≤ ceiling → b * (y + c) ≤ 65535 * 2199024304128
 product c b y hc hb hy = let h : y + c ≤ 2199024304128 = omega arith in mul-le-mul hb h
 
--- So does that of rounds within the limit.
-pub rounds_low : (b y : ℕ) → b ≤ 65535 → y ≤ limit → b * y ≤ 65535 * 1099511627776
-rounds_low b y hb hy = mul-le-mul hb hy
-
 -- A leaf's cost is within its range.
-pub cost_le : (c : ℕ) (b : Block) → Costs b → cost_in c b ≤ 1048576
-cost_le c b q = go (eqb c 2)
-  where
-    go : (t : Bool) → pick t C M b ≤ 1048576
-    go true = omega (arith, q.isolated_range)
-    go false = omega (arith, q.max_load_range)
-
--- A field that holds a cost holds that of its block.
-pub cost_held : (w : List ℕ) (i c : ℕ) → IsCost c → field w i c ≡ cost_in c (block_at w i)
-cost_held w i c h =
-    elim (dec_le c 2) [
-      | yes l ↦ let e : c ≡ 2 = omega (arith, h.0) in rw e
-      | no l ↦ let e : c ≡ 3 = omega (arith, h.1) in rw e
-    ]
+pub cost_le : (c : Cost) (b : Block) → Costs b → cost_in c b ≤ 1048576
+cost_le Isolated b q = omega (arith, q.isolated_range)
+cost_le MaxLoad b q = omega (arith, q.max_load_range)
 
 pub cap_both : (a a' b b' : ℕ) → cap a ≡ cap a' → cap b ≡ cap b' → cap (a + b) ≡ cap (a' + b')
 cap_both a a' b b' p q = omega arith

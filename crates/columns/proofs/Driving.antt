@@ -1,36 +1,36 @@
 -- All functions: tails from the first to the last, silences, and stretches from the last to the first, within the limit. Assumes nothing.
 use mathlib.Core.Path.{◌≡◌, refl, ap, ◌∙◌}
 use mathlib.Core.List.{List, [], ◌∷◌}
+use Rattle.std.specs.Prelude.{Some, None}
 use mathlib.Core.Logic.{◌⊎◌, inl, inr}
-use Prim.Native.Nat.{ℕ, zero, suc, ◌+◌, ◌-◌, ◌*◌, ◌≤◌, ◌<◌, max}
+use Prim.Native.Nat.{ℕ, zero, suc, ◌+◌, ◌-◌, ◌≤◌, ◌<◌, max}
 use native.Mathlib.Omega.{arith}
 use native.Mathlib.Decide.{dec_lt}
 use native.Mathlib.Numerals.{add-one}
-use lib.Dec.{eqb}
-use lib.ListN.{length, get_or, set, replicate, length-set}
-use lib.Seq.{sets, length-sets, get_or-set_same, get_or-set_other}
+use lib.ListN.{length, get_or, set, replicate, length-set, length-replicate}
+use lib.Seq.{sets, get_or-set_same, get_or-set_other}
 use Rattle.model.specs.Plan.{Block, C, Lines, close, leaf_line, call_line, loop_line, if_line}
 use Rattle.model.specs.Total.{tally}
 use Rattle.model.specs.Static.{line_silence}
 use Rattle.rows.specs.Rows.{Rules}
-use Rattle.model.specs.Places.{bit}
-use Rattle.model.proofs.Bits.{bit_told, bit_low}
 use Rattle.rows.specs.Plans.{lines_of}
-use Rattle.rows.proofs.Plans.{plan_rules, heights_before}
+use Rattle.rows.proofs.Plans.{plan_inside, plan_rules, heights_before}
 use Rattle.columns.specs.declared.SilentSum.{SilentSum}
 use Rattle.columns.specs.Sums.{limit}
-use Rattle.columns.specs.Private.{Under, Sized, silence_of, head_at, IsSilence}
+use Rattle.columns.specs.Private.{Sized, silence_of, head_at, IsSilence, WithinLimit, WithinLimits}
+use Rattle.columns.proofs.Silences.{within}
 use Rattle.columns.specs.Columns.{column_of, tail_rule}
 use Rattle.columns.specs.Stretches.{stretch_rule, follow_call, follow_calls}
 use Rattle.columns.specs.Whole.{Summed, follows_after, stretches_written, tails_written}
 use Rattle.columns.proofs.Sizes.{round_le}
 use Rattle.columns.proofs.Widening.{silence_le}
-use Rattle.columns.proofs.Functions.{fun_part, zeros_at, under_set}
+use Rattle.columns.proofs.Functions.{fun_part, zeros_at}
 
 -- A function with s behind it.
 abbrev pub fun_sized : {k : Block → ℕ} {w starts : List ℕ} {n : ℕ} {ts o : List ℕ} (v : Summed k w starts n ts o) (f s : ℕ) → f < n → s + get_or ts f 0 ≤ limit
     → Sized k w ts o 62 (get_or starts f 0) (get_or starts (f + 1) 0) s
-fun_sized v f s lt h = record { forms = fun_part v.plan f lt; small = omega (arith, v.exact.total f lt); noted = v.exact.rounds f lt }
+fun_sized v f s lt h =
+    record { forms = fun_part v.plan f lt; held = (plan_inside v.plan f lt).0; few = (plan_inside v.plan f lt).1; small = omega (arith, v.exact.total f lt); noted = v.exact.rounds f lt }
 
 -- Tails, function by function.
 pub tails_start : (ts : List ℕ) (F : ℕ → Lines) (starts o : List ℕ) → o ≡ tails_written ts F starts 0 o
@@ -48,18 +48,18 @@ pub tails_end : (ts starts : List ℕ) (F : ℕ → Lines) (o₀ : List ℕ) {n 
 tails_end ts starts F o₀ {n} {f} a b h = let e : f ≡ n = omega arith in rw e at h
 
 -- What follows a function and its own total are within the limit.
-set_at : (a : List ℕ) (f v g : ℕ) → (get_or (set a f v) g 0 ≡ get_or a g 0) ⊎ ((g ≡ f) × (get_or (set a f v) g 0 ≡ v))
-set_at [] f v g = inl refl
-set_at (x ∷ a) zero v zero = inr (refl, refl)
-set_at (x ∷ a) zero v (suc g) = inl refl
-set_at (x ∷ a) (suc f) v zero = inl refl
-set_at (x ∷ a) (suc f) v (suc g) = elim (set_at a f v g) [ inl e ↦ inl e | inr e ↦ inr (ap suc e.0, e.1) ]
+set_at : {A : Type 0} (d : A) (a : List A) (f : ℕ) (v : A) (g : ℕ) → (get_or (set a f v) g d ≡ get_or a g d) ⊎ ((g ≡ f) × (get_or (set a f v) g d ≡ v))
+set_at d [] f v g = inl refl
+set_at d (x ∷ a) zero v zero = inr (refl, refl)
+set_at d (x ∷ a) zero v (suc g) = inl refl
+set_at d (x ∷ a) (suc f) v zero = inl refl
+set_at d (x ∷ a) (suc f) v (suc g) = elim (set_at d a f v g) [ inl e ↦ inl e | inr e ↦ inr (ap suc e.0, e.1) ]
 
 abbrev FollowsFit : List ℕ → ℕ → List ℕ → Type 0
 FollowsFit ms n a = (g : ℕ) → g < n → get_or a g 0 + get_or ms g 0 ≤ limit
 
 follow_fits : (ms : List ℕ) (n f s : ℕ) (a : List ℕ) → FollowsFit ms n a → s + get_or ms f 0 ≤ limit → FollowsFit ms n (follow_call a f s)
-follow_fits ms n f s a h le g lt = elim (set_at a f (max (get_or a f 0) s) g) [
+follow_fits ms n f s a h le g lt = elim (set_at 0 a f (max (get_or a f 0) s) g) [
   | inl e ↦ omega (arith, e, h g lt)
   | inr e ↦
       let o = ap (λ u. get_or a u 0) e.0 in
@@ -122,62 +122,38 @@ pub driven : {k : Block → ℕ} {w starts ms p : List ℕ} {n f : ℕ} {q : ℕ
     → Driving k w starts ms p n q v f a o o₀ → o ≡ stretches_written k ms q (lines_of v.plan) starts n n o₀
 driven {n = n} {f = f} h d = let e : n - f ≡ n = omega arith in rw e at d.written
 
--- Silences of functions, kept in a row of three numbers for each.
-same_sums : (x y : SilentSum) → x.hit ≡ y.hit → x.pass ≡ y.pass → x.free ≡ y.free → x ≡ y
-same_sums x y p q r = λ i. record { hit = p i; pass = q i; free = r i }
-
-abbrev three : SilentSum → List ℕ
-three q = q.hit ∷ q.pass ∷ bit q.free ∷ []
-
-kept_here : (h : List ℕ) (f : ℕ) (q : SilentSum) → f * 3 + 3 ≤ length h → head_at (sets h (f * 3) (three q)) f ≡ q
-kept_here h f q le =
-    let a = set h (f * 3) q.hit in
-    let b = set a (suc (f * 3)) q.pass in
-    let la : length a ≡ length h = simp length-set in
-    let lb : length b ≡ length a = simp length-set in
-    let e₁ : f * 3 + 1 ≡ suc (f * 3) = omega arith in
-    let e₂ : f * 3 + 2 ≡ suc (suc (f * 3)) = omega arith in
-    let x₂ = get_or-set_same b (suc (suc (f * 3))) (bit q.free) 0 (omega arith) in
-    let x₁ = get_or-set_other b (suc (suc (f * 3))) (suc (f * 3)) (bit q.free) 0 (omega arith) ∙ get_or-set_same a (suc (f * 3)) q.pass 0 (omega arith) in
-    let x₀ = get_or-set_other b (suc (suc (f * 3))) (f * 3) (bit q.free) 0 (omega arith) ∙ get_or-set_other a (suc (f * 3)) (f * 3) q.pass 0 (omega arith) ∙ get_or-set_same h (f * 3) q.hit 0 (omega arith) in
-    let y₂ : get_or (sets h (f * 3) (three q)) (f * 3 + 2) 0 ≡ bit q.free = rw e₂ x₂ in
-    same_sums _ q x₀ (rw e₁ x₁) (ap (λ u. eqb u 1) y₂ ∙ bit_told q.free)
-
-kept_else : (h : List ℕ) (f g : ℕ) (q : SilentSum) → g < f → head_at (sets h (f * 3) (three q)) g ≡ head_at h g
-kept_else h f g q l = same_sums _ _ (read (g * 3) (omega arith)) (read (g * 3 + 1) (omega arith)) (ap (λ u. eqb u 1) (read (g * 3 + 2) (omega arith)))
-  where
-    read : (j : ℕ) → j < f * 3 → get_or (sets h (f * 3) (three q)) j 0 ≡ get_or h j 0
-    read j lt =
-        get_or-set_other (set (set h (f * 3) q.hit) (suc (f * 3)) q.pass) (suc (suc (f * 3))) j (bit q.free) 0 (omega arith) ∙
-        get_or-set_other (set h (f * 3) q.hit) (suc (f * 3)) j q.pass 0 (omega arith) ∙ get_or-set_other h (f * 3) j q.hit 0 (omega arith)
-
--- The first f functions are kept.
-pub record Keeping (k : Block → ℕ) (w starts ms p : List ℕ) (n f : ℕ) (h : List ℕ) : Type 0 where
-  pub wide : length h ≡ 48
-  pub under : Under limit h
+-- Silences of functions: the first f of them are there.
+pub record Keeping (k : Block → ℕ) (w starts ms p : List ℕ) (n f : ℕ) (h : List SilentSum) : Type 0 where
+  pub wide : length h ≡ 16
+  pub under : WithinLimits h
   pub right : (v : Summed k w starts n ms p) (g s : ℕ) → g < f → silence_of (head_at h g) s ≡ line_silence k ms (lines_of v.plan g) s
 
-pub keep_start : {k : Block → ℕ} {w starts ms p : List ℕ} {n : ℕ} (h : List ℕ) → length h ≡ 48 → Under limit h → Keeping k w starts ms p n 0 h
-keep_start h e u = record { wide = e; under = u; right = λ v g s lt. absurd (omega arith) }
+silent_at : (k g : ℕ) → WithinLimit (head_at (replicate k (record { hit = 0; pass = Some 0 })) g)
+silent_at zero g = record { hit = omega arith; pass = λ x e. absurd (cc e) }
+silent_at (suc k) zero = record { hit = omega arith; pass = λ x e. let d : 0 ≡ x = cc e in omega arith }
+silent_at (suc k) (suc g) = silent_at k g
 
-pub keep_on : {k : Block → ℕ} {w starts ms p : List ℕ} {n f : ℕ} {h h' : List ℕ} {q : SilentSum} → f < n → n ≤ 16 → Summed k w starts n ms p
-    → ((z : Sized k w ms p 62 (get_or starts f 0) (get_or starts (f + 1) 0) 0) → IsSilence q (λ s. line_silence k ms z.forms.part.lines s) (tally k ms z.forms.part.lines))
-    → h' ≡ sets h (f * 3) (q.hit ∷ q.pass ∷ bit q.free ∷ []) → Keeping k w starts ms p n f h → Keeping k w starts ms p n (f + 1) h'
-keep_on {k} {w} {starts} {ms} {p} {n} {f} {h} {h'} {q} lt few v₀ hq e r =
-    let o = hq (fun_sized v₀ f 0 lt (omega (arith, v₀.exact.small f lt))) in
-    let t = v₀.exact.total f lt in
-    let m = v₀.exact.small f lt in
-    let i = f * 3 in
+pub keep_start : {k : Block → ℕ} {w starts ms p : List ℕ} {n : ℕ} → Keeping k w starts ms p n 0 (replicate 16 (record { hit = 0; pass = Some 0 }))
+keep_start =
     record {
-      wide = ap length e ∙ length-sets h i (three q) ∙ r.wide;
-      under = rw e (under_set limit (set (set h i q.hit) (suc i) q.pass) (suc (suc i)) (bit q.free) (omega (arith, bit_low q.free))
-          (under_set limit (set h i q.hit) (suc i) q.pass (omega (arith, o.pass)) (under_set limit h i q.hit (omega (arith, o.hit)) r.under)));
-      right = λ v g s lt'.
-          elim (dec_lt g f) [
-            | yes j ↦ ap (λ (u : List ℕ). silence_of (head_at u g) s) e ∙ ap (λ (u : SilentSum). silence_of u s) (kept_else h f g q j) ∙ r.right v g s j
-            | no j ↦
-                let d : g ≡ f = omega arith in
-                rw d (ap (λ (u : List ℕ). silence_of (head_at u f) s) e ∙ ap (λ (u : SilentSum). silence_of u s) (kept_here h f q (omega (arith, r.wide))) ∙
-                (hq (fun_sized v f 0 lt (omega (arith, v.exact.small f lt)))).says s)
-          ];
+      wide = length-replicate {A = SilentSum} 16 (record { hit = 0; pass = Some 0 });
+      under = λ f. silent_at 16 f;
+      right = λ v g s lt. absurd (omega arith);
+    }
+
+pub keep_on : {k : Block → ℕ} {w starts ms p : List ℕ} {n f : ℕ} {h : List SilentSum} {q : SilentSum} → f < n → n ≤ 16 → Summed k w starts n ms p
+    → ((z : Sized k w ms p 62 (get_or starts f 0) (get_or starts (f + 1) 0) 0) → IsSilence q (λ s. line_silence k ms z.forms.part.lines s) (tally k ms z.forms.part.lines))
+    → Keeping k w starts ms p n f h → Keeping k w starts ms p n (f + 1) (set h f q)
+keep_on {k} {w} {starts} {ms} {p} {n} {f} {h} {q} lt few v₀ hq r =
+    let low = within (hq (fun_sized v₀ f 0 lt (omega (arith, v₀.exact.small f lt)))) (omega (arith, v₀.exact.total f lt, v₀.exact.small f lt)) in
+    let d : SilentSum = record { hit = 0; pass = None } in
+    record {
+      wide = length-set h f q ∙ r.wide;
+      under = λ g. elim (set_at d h f q g) [ inl e ↦ rw e (r.under g) | inr e ↦ rw e.1 low ];
+      right = λ v g s l. elim (dec_lt g f) [
+        | yes j ↦ rw (get_or-set_other h f g q d (omega arith)) (r.right v g s j)
+        | no j ↦
+            let e : g ≡ f = omega arith in
+            rw (e, get_or-set_same h f q d (omega (arith, r.wide))) ((hq (fun_sized v f 0 lt (omega (arith, v.exact.small f lt)))).says s)
+      ];
     }

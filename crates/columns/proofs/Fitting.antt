@@ -5,7 +5,15 @@ use mathlib.Core.List.{List}
 use Prim.Native.Nat.{ℕ, ◌+◌, ◌-◌, ◌*◌, ◌≤◌, ◌<◌, max}
 use native.Mathlib.Omega.{arith}
 use native.Mathlib.Decide.{dec_lt}
-use lib.ListN.{length, get_or}
+use lib.Dec.{eqb, leb}
+use mathlib.Core.Bool.{Bool, true, false}
+use Rattle.std.specs.Bool.{MatchBool}
+use Rattle.std.specs.List.{AllWithin, HoldsAt}
+use Rattle.std.proofs.lemmas.List.{get_or-take, get_or-drop, length-take, length-drop}
+use lib.ListN.{length, get_or, take, drop}
+use Rattle.std.proofs.lemmas.Bool.{false≢true, leb-true, eqb-true, eq-eqb}
+use Rattle.rows.specs.Answers.{Says}
+use Rattle.rows.proofs.Answers.{says}
 use Rattle.model.specs.Plan.{C, Lines, close, leaf_line, call_line, loop_line, if_line}
 use Rattle.model.specs.Total.{tally}
 use Rattle.rows.specs.Rows.{field, after_at, Rep, Piece}
@@ -27,11 +35,18 @@ pub record Walking (ts o u w : List ℕ) (left from i e s : ℕ) (l : Lines) : T
   pub back : AsDerived ts o u more.part.lines i s → AsDerived ts o u l from s
   pub on : AsDerived ts o u l from s → AsDerived ts o u more.part.lines i s
 
--- A column has one number at the start of forms.
-pub begins_same : {u : List ℕ} {i e s x y : ℕ} → Begins u i e s x → Begins u i e s y → x ≡ y
-begins_same {u} {i} {e} a b =
-    elim (dec_lt i e) [ yes lt ↦ a.there lt ∙ sym (b.there lt) | no ge ↦ let le : e ≤ i = omega arith in a.none le ∙ sym (b.none le) ]
+-- A no to a claim that does not hold.
+pub says_no : {b : Bool} {A : Type 0} → b ≡ false → (A → ⊥) → Says b A
+says_no {b} {A} e f = says {A = A} b (λ t. absurd (false≢true (sym e ∙ t))) (λ t. f)
 
+-- What a test of two numbers answers.
+pub says_same : (x y : ℕ) {A : Type 0} → (x ≡ y → A) → (A → x ≡ y) → Says (eqb x y) A
+says_same x y f g = says (eqb x y) (λ e. f (eqb-true x y e)) (λ e a. false≢true (sym e ∙ eq-eqb x y (g a)))
+
+pub says_above : (x y : ℕ) {A : Type 0} → y < x → (A → ⊥) → Says (leb x y) A
+says_above x y {A} h f = says (leb x y) (λ e. absurd (omega (arith, h, leb-true x y e))) (λ e. f)
+
+-- What a column has at the start of forms.
 pub begins_some : (u : List ℕ) (i e s : ℕ) → (x : ℕ) × Begins u i e s x
 begins_some u i e s =
     elim (dec_lt i e) [
@@ -151,14 +166,14 @@ module _ (ts o u : List ℕ) where
     first_within f = (omega (arith, (first_head f).1), omega (arith, (first_head f).1, f.small))
 
     -- A form that is no loop has no round.
-    pub first_round : {v : ℕ} → v ≡ field w i 0 → (v ≡ 2 → ⊥) → AsDerivedFirst ts o u p.part.lines i x → get_or o i 0 ≡ 0
-    first_round hv k f = (first_head f).0 ∙ no_round w p.level i e p.part.lines p.part.rep lt (λ z. k (hv ∙ z))
+    pub first_round : (field w i 0 ≡ 2 → ⊥) → AsDerivedFirst ts o u p.part.lines i x → get_or o i 0 ≡ 0
+    first_round k f = (first_head f).0 ∙ no_round w p.level i e p.part.lines p.part.rep lt k
 
     -- A leaf or a call.
-    pub flat_first : {v : ℕ} → v ≡ field w i 0 → (v ≡ 2 → ⊥) → (v ≡ 3 → ⊥) → get_or o i 0 ≡ 0 → (x ≤ get_or u i 0) × (get_or u i 0 ≤ limit)
+    pub flat_first : (field w i 0 ≡ 2 → ⊥) → (field w i 0 ≡ 3 → ⊥) → get_or o i 0 ≡ 0 → (x ≤ get_or u i 0) × (get_or u i 0 ≤ limit)
         → get_or u i 0 - x ≡ lead C ts p.part.lines → AsDerivedFirst ts o u p.part.lines i x
-    flat_first hv k2 k3 ho b d =
-        flat w p.level i e p.part.lines x p.part.rep lt (λ z. k2 (hv ∙ z)) (λ z. k3 (hv ∙ z)) ho (omega (arith, b.0, d)) (omega (arith, b.0, b.1, d))
+    flat_first k2 k3 ho b d =
+        flat w p.level i e p.part.lines x p.part.rep lt k2 k3 ho (omega (arith, b.0, d)) (omega (arith, b.0, b.1, d))
 
     pub first_flat : AsDerivedFirst ts o u p.part.lines i x → get_or u i 0 - x ≡ lead C ts p.part.lines
     first_flat f = omega (arith, (first_head f).1)
@@ -269,22 +284,25 @@ module _ (ts o u : List ℕ) where
 
 -- THE FUNCTIONS
 
--- The totals from n up to one more.
-pub settled_on : (ts : List ℕ) {n f h : ℕ} → ((g : ℕ) → n ≤ g → g < f → get_or ts g 0 ≡ 0) → get_or ts f 0 ≡ 0 → h ≡ f + 1
-    → (g : ℕ) → n ≤ g → g < h → get_or ts g 0 ≡ 0
-settled_on ts {n} {f} {h} a b e g l r =
-    elim (dec_lt g f) [ yes lt ↦ a g l lt | no ge ↦ let z : g ≡ f = omega arith in rw z b ]
+-- The totals from n on are all 0, or one of them is not.
+pub settled_says : (ts : List ℕ) (n : ℕ) (r : Bool) → length ts ≡ 16 → n ≤ 16
+    → MatchBool r (AllWithin (λ x. x ≡ 0) (take (16 - n) (drop n ts)) 0 (length (take (16 - n) (drop n ts))))
+    ((k : ℕ) × (k < length (take (16 - n) (drop n ts))) × HoldsAt (λ x. x ≡ 0 → ⊥) (take (16 - n) (drop n ts)) k)
+    → Says r ((f : ℕ) → n ≤ f → f < 16 → get_or ts f 0 ≡ 0)
+settled_says ts n true e le h = λ f a b.
+    let j : n + (f - n) ≡ f = omega arith in
+    let m : f - n < length (take (16 - n) (drop n ts)) = simp (length-take, length-drop) (omega arith) in
+    let t = ap (λ (g : ℕ). get_or ts g 0) j in
+    let g = get_or-take (16 - n) (drop n ts) (f - n) 0 (omega arith) in
+    omega (arith, t, g, get_or-drop n ts (f - n) 0, h (f - n) 0 (omega arith) m)
+settled_says ts n false e le h = λ a.
+    let m = simp (length-take, length-drop) at h.1 in
+    let lt : h.0 < 16 - n = omega arith in
+    let g = get_or-take (16 - n) (drop n ts) h.0 0 (omega arith) in
+    h.2 0 (omega (arith, g, get_or-drop n ts h.0 0, a (n + h.0) (omega arith) (omega arith)))
 
 module _ (ts o u starts : List ℕ) (F : ℕ → Lines) where
-  pub fits_on : {f h : ℕ} → ((g : ℕ) → g < f → FunctionFits ts o u starts F g) → FunctionFits ts o u starts F f → h ≡ f + 1 → (g : ℕ) → g < h → FunctionFits ts o u starts F g
-  fits_on {f} {h} a b e g l = elim (dec_lt g f) [ yes lt ↦ a g lt | no ge ↦ let z : g ≡ f = omega arith in rw z b ]
-
-  -- All functions fit exactly when the lent numbers are theirs.
-  pub derived_fits : {n : ℕ} → AllDerived F starts n ts o u → (f : ℕ) → f < n → FunctionFits ts o u starts F f
-  derived_fits q f lt =
-      let e = q.exact in
-      (record { turns_are = e.rounds f lt; tails_are = q.tails f lt; small = omega (arith, e.total f lt, e.small f lt) }, e.total f lt)
-
+  -- Where all functions fit, the lent numbers are theirs.
   pub fits_derived : {n : ℕ} → ((f : ℕ) → f < n → FunctionFits ts o u starts F f) → ((f : ℕ) → n ≤ f → f < 16 → get_or ts f 0 ≡ 0)
       → get_or starts n 0 ≤ length o → get_or starts n 0 ≤ length u → AllDerived F starts n ts o u
   fits_derived a b lo lu =

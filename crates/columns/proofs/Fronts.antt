@@ -4,6 +4,7 @@ use mathlib.Core.List.{List, [], ◌∷◌, ◌++◌, append_assoc}
 use Prim.Native.Nat.{ℕ, suc, ◌+◌, ◌<◌}
 use native.Mathlib.Omega.{arith}
 use lib.ListN.{length, get_or, set, length-append}
+use Rattle.std.proofs.lemmas.List.{set-set}
 use lib.Seq.{sets}
 use Rattle.model.specs.Plan.{Block, Lines, close, leaf_line, call_line, loop_line, if_line}
 use Rattle.rows.specs.Rows.{field, after_at, block_at, Rep, Piece}
@@ -102,10 +103,9 @@ module _ (u : Rule) where
   rep_plain o x y w v i e (if_line b t s r) h lt k2 k3 hy = absurd (k3 h.0.0)
 
   -- A leaf or a call.
-  pub plain_front : (o : List ℕ) (x : ℕ) {w : List ℕ} {left i e v y : ℕ} → i < e → (p : Piece w left i e) → v ≡ field w i 0 → (v ≡ 2 → ⊥) → (v ≡ 3 → ⊥)
+  pub plain_front : (o : List ℕ) (x : ℕ) {w : List ℕ} {left i e y : ℕ} → i < e → (p : Piece w left i e) → (field w i 0 ≡ 2 → ⊥) → (field w i 0 ≡ 3 → ⊥)
       → y ≡ u.value p.part.lines x → set o i y ≡ sets o i (front u p.part.lines x)
-  plain_front o x {w} {left} {i} {e} {v} {y} lt p hv v2 v3 hy =
-      rep_plain o x y w p.level i e p.part.lines p.part.rep lt (λ a. v2 (hv ∙ a)) (λ a. v3 (hv ∙ a)) hy
+  plain_front o x {w} {left} {i} {e} {y} lt p k2 k3 hy = rep_plain o x y w p.level i e p.part.lines p.part.rep lt k2 k3 hy
 
   whole_loop : (o : List ℕ) (x : ℕ) {w hs : List ℕ} {left v i : ℕ} {l : Lines} {y z : ℕ} → (h : LoopAt w hs left v i l) → y ≡ u.value l x → z ≡ u.inner l x
       → sets o i (y ∷ column_of u h.body.lines z) ≡ sets o i (front u l x)
@@ -118,6 +118,13 @@ module _ (u : Rule) where
   pub loop_front : (o : List ℕ) (x : ℕ) {w hs : List ℕ} {left v i : ℕ} {l : Lines} {o' : List ℕ} {y z : ℕ} → (h : LoopAt w hs left v i l)
       → y ≡ u.value l x → z ≡ u.inner l x → o' ≡ sets o (i + 1) (column_of u h.body.lines z) → set o' i y ≡ sets o i (front u l x)
   loop_front o x {i = i} {y = y} {z = z} h hy hz ho = set_before y (column_of u h.body.lines z) o i (i + 1) ho refl ∙ whole_loop o x h hy hz
+
+  -- The same, where another number stood at the loop.
+  pub loop_again : (o : List ℕ) (x a : ℕ) {w hs : List ℕ} {left v i : ℕ} {l : Lines} {o' : List ℕ} {y z : ℕ} → (h : LoopAt w hs left v i l)
+      → y ≡ u.value l x → z ≡ u.inner l x → o' ≡ sets (set o i a) (i + 1) (column_of u h.body.lines z) → set o' i y ≡ sets o i (front u l x)
+  loop_again o x a {i = i} {y = y} {z = z} h hy hz ho =
+      let b = column_of u h.body.lines z in
+      set_before y b (set o i a) i (i + 1) ho refl ∙ ap (λ (t : List ℕ). sets t (suc i) b) (set-set o i a y) ∙ whole_loop o x h hy hz
 
   -- The same, the loop's own number first.
   pub front_loop : (o : List ℕ) (x : ℕ) {w hs : List ℕ} {left v i : ℕ} {l : Lines} {o' : List ℕ} {y z : ℕ} → (h : LoopAt w hs left v i l)

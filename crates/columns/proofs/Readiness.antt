@@ -8,7 +8,7 @@ use Rattle.model.specs.Plan.{Block, Lines}
 use Rattle.model.specs.Total.{tally}
 use Rattle.rows.specs.Rows.{field, after_at, block_at, Piece}
 use Rattle.rows.specs.First.{rest}
-use Rattle.rows.proofs.Shape.{LoopAt, IfAt}
+use Rattle.rows.proofs.Shape.{LoopAt, IfAt, ends, parts}
 use Rattle.columns.specs.Sums.{limit, lead}
 use Rattle.columns.specs.Columns.{Rule, column_of, turn_rule, Contains}
 use Rattle.columns.specs.Private.{front, Sized, Ready, sibling, later}
@@ -37,7 +37,13 @@ module _ {k : Block → ℕ} {w ts o : List ℕ} {left i e x : ℕ} (lt : i < e)
 
   abbrev pub body_sized : {hs : List ℕ} {v en y : ℕ} → en ≡ after_at w i → (h : LoopAt w hs left v i z.forms.part.lines) → tally k ts h.body.lines + y ≤ limit
       → Sized k w ts o (left - 1) (i + 1) en y
-  body_sized he h le = record { forms = body_part he h; small = le; noted = (contains_loop (turn_rule k ts) o 0 h first_noted).1 }
+  body_sized he h le = record {
+    forms = body_part he h;
+    held = omega (arith, ends lt z.forms.part, he, z.held);
+    few = omega (arith, ends lt z.forms.part, he, z.few);
+    small = le;
+    noted = (contains_loop (turn_rule k ts) o 0 h first_noted).1;
+  }
 
   -- Nothing, or what is left of the form, follows the body.
   pub body_low : {hs : List ℕ} {v : ℕ} (h : LoopAt w hs left v i z.forms.part.lines) → tally k ts h.body.lines + 0 ≤ limit
@@ -47,6 +53,8 @@ module _ {k : Block → ℕ} {w ts o : List ℕ} {left i e x : ℕ} (lt : i < e)
   then_sized hm h =
       record {
         forms = then_part hm h;
+        held = omega (arith, parts hm refl h, ends lt z.forms.part, z.held);
+        few = omega (arith, parts hm refl h, ends lt z.forms.part, z.few);
         small = omega (arith, if_lead k ts h, z.small);
         noted = (contains_if (turn_rule k ts) o 0 h hm first_noted).0;
       }
@@ -55,22 +63,26 @@ module _ {k : Block → ℕ} {w ts o : List ℕ} {left i e x : ℕ} (lt : i < e)
   else_sized hm he h =
       record {
         forms = else_part hm he h;
+        held = omega (arith, ends lt z.forms.part, he, z.held);
+        few = omega (arith, ends lt z.forms.part, he, z.few);
         small = omega (arith, if_lead k ts h, z.small);
         noted = (contains_if (turn_rule k ts) o 0 h hm first_noted).1;
       }
 
   abbrev pub ready_zero : Ready k w ts o left i e 0
-  ready_zero = record { forms = z.forms; small = omega (arith, z.small); noted = z.noted }
+  ready_zero = record { forms = z.forms; held = z.held; few = z.few; small = omega (arith, z.small); noted = z.noted }
 
 -- The first form of lines, and the lines after it.
 module _ {k : Block → ℕ} {w ts o : List ℕ} {left i e s : ℕ} (lt : i < e) (z : Sized k w ts o left i e s) where
   abbrev pub first_ready : Ready k w ts o left i e 0
-  first_ready = record { forms = z.forms; small = omega (arith, tally_split k ts z.forms.part.lines, z.small); noted = z.noted }
+  first_ready = record { forms = z.forms; held = z.held; few = z.few; small = omega (arith, tally_split k ts z.forms.part.lines, z.small); noted = z.noted }
 
   abbrev pub after_sized : {en : ℕ} → en ≡ after_at w i → Sized k w ts o left en e s
   after_sized he =
       record {
         forms = after_part lt z.forms he;
+        held = z.held;
+        few = z.few;
         small = omega (arith, tally_split k ts z.forms.part.lines, z.small);
         noted = (contains_rest (turn_rule k ts) o 0 lt z.forms he z.noted).1;
       }
@@ -95,6 +107,8 @@ later_ready {k} {w} {ts} {o} {left} {i} {e} {s} {n} {x} {t} z lt hx ht =
     let ls = z.forms.part.lines in
     record {
       forms = later_part n lt hx z.forms;
+      held = z.held;
+      few = z.few;
       small = omega (arith, tally_later k ts n ls, tally_split k ts (later n ls), z.small);
       noted = rw hx (contains_later (turn_rule k ts) o 0 n z.forms lt z.noted);
     }

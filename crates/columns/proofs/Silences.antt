@@ -1,8 +1,8 @@
 -- Silent stretches as functions of what follows. Plain mathematics: no code is named here. Assumes nothing.
 use mathlib.Core.Path.{◌≡◌, refl, sym, ap, ◌∙◌}
-use mathlib.Core.Bool.{Bool, true, false, not}
+use mathlib.Core.Bool.{Bool, true, false}
 use mathlib.Core.List.{List}
-use mathlib.Core.Logic.{◌⊎◌, inl, inr}
+use Rattle.std.specs.Prelude.{Some, None}
 use Prim.Native.Nat.{ℕ, ◌+◌, ◌≤◌, ◌<◌, max}
 use native.Mathlib.Omega.{arith}
 use borrow.Author.Tests.{eq-eqb, ne_eqb}
@@ -15,7 +15,7 @@ use Rattle.rows.specs.First.{rest}
 use Rattle.rows.proofs.Shape.{IfAt}
 use Rattle.columns.specs.declared.SilentSum.{SilentSum}
 use Rattle.columns.specs.Sums.{limit, lead}
-use Rattle.columns.specs.Private.{Sized, silence_of, IsSilence, WithinLimit, first_silence}
+use Rattle.columns.specs.Private.{Sized, IsSilence, WithinLimit, first_silence}
 use Rattle.columns.proofs.Sizes.{tally_split, no_part, if_lead}
 use Rattle.columns.proofs.Readiness.{after_sized}
 
@@ -25,71 +25,18 @@ pick_yes p x y h = rw h
 pub pick_no : (p : Bool) (x y : ℕ) → p ≡ false → pick p x y ≡ y
 pick_no p x y h = rw h
 
-pub not-true : (p : Bool) → not p ≡ true → p ≡ false
-not-true true h = sym h
-not-true false h = refl
-
-truth : (p : Bool) → (p ≡ true) ⊎ (p ≡ false)
-truth true = inl refl
-truth false = inr refl
-
-pub open_silence : (q : SilentSum) (s : ℕ) → q.free ≡ true → silence_of q s ≡ max q.hit (q.pass + s)
-open_silence q s h = pick_yes q.free (max q.hit (q.pass + s)) q.hit h
-
-pub shut_silence : (q : SilentSum) (s : ℕ) → q.free ≡ false → silence_of q s ≡ q.hit
-shut_silence q s h = pick_no q.free (max q.hit (q.pass + s)) q.hit h
-
 pub silence_as : {q : SilentSum} {f : ℕ → ℕ} {m : ℕ} (g : ℕ → ℕ) {n : ℕ} → IsSilence q f m → ((s : ℕ) → f s ≡ g s) → m ≤ n → IsSilence q g n
-silence_as g h e l = record { says = λ s. h.says s ∙ e s; hit = omega (arith, h.hit); pass = omega (arith, h.pass) }
+silence_as g h e l = record { says = λ s. h.says s ∙ e s; hit = omega (arith, h.hit); pass = λ x e'. omega (arith, h.pass x e') }
 
-pub onto_free : {x y : SilentSum} {u : ℕ} → x.free ≡ true → u ≡ max x.hit (x.pass + y.hit) →
-    (f g : ℕ → ℕ) (a b : ℕ) → IsSilence x f a → IsSilence y g b → IsSilence (record { hit = u; pass = x.pass + y.pass; free = y.free }) (λ s. f (g s)) (a + b)
-onto_free {x} {y} {u} h hu f g a b p q =
-    record {
-      says = λ s. elim (truth y.free) [
-        | inl e ↦ omega (arith, hu, pick_yes y.free (max u (x.pass + y.pass + s)) u e, p.says (g s), open_silence x (g s) h, q.says s, open_silence y s e)
-        | inr e ↦ omega (arith, hu, pick_no y.free (max u (x.pass + y.pass + s)) u e, p.says (g s), open_silence x (g s) h, q.says s, shut_silence y s e)
-      ];
-      hit = omega (arith, hu, p.hit, p.pass, q.hit);
-      pass = omega (arith, p.pass, q.pass);
-    }
+pub within : {q : SilentSum} {f : ℕ → ℕ} {m : ℕ} → IsSilence q f m → m ≤ limit → WithinLimit q
+within h l = record { hit = omega (arith, h.hit); pass = λ x e. omega (arith, h.pass x e) }
 
-pub onto_shut : {x : SilentSum} → x.free ≡ false → (f g : ℕ → ℕ) (a b : ℕ) → IsSilence x f a → IsSilence x (λ s. f (g s)) (a + b)
-onto_shut {x} h f g a b p =
-    record { says = λ s. shut_silence x s h ∙ sym (shut_silence x (g s) h) ∙ p.says (g s); hit = omega (arith, p.hit); pass = omega (arith, p.pass) }
+-- A silence that what follows passes through, and one that a point stops.
+pub passing : {u v m : ℕ} {f : ℕ → ℕ} → ((s : ℕ) → max u (v + s) ≡ f s) → u ≤ m → v ≤ m → IsSilence (record { hit = u; pass = Some v }) f m
+passing {v = v} says hit pass = record { says = says; hit = hit; pass = λ x e. let d : v ≡ x = cc e in omega arith }
 
-pub either_both : (m : ℕ) {x y : SilentSum} {u v : ℕ} → x.free ≡ true → y.free ≡ true → u ≡ max x.hit y.hit → v ≡ max x.pass y.pass →
-    (f g : ℕ → ℕ) (a b : ℕ) → IsSilence x f a → IsSilence y g b → IsSilence (record { hit = m + u; pass = m + v; free = true }) (λ s. m + max (f s) (g s)) (m + max a b)
-either_both m {x} {y} {u} {v} h k hu hv f g a b p q =
-    record {
-      says = λ s. calc m x.hit y.hit x.pass y.pass (f s) (g s) u v s (sym (p.says s) ∙ open_silence x s h) (sym (q.says s) ∙ open_silence y s k) hu hv;
-      hit = omega (arith, p.hit, q.hit);
-      pass = omega (arith, p.pass, q.pass);
-    }
-  where
-    calc : (m xh yh xp yp fs gs u v s : ℕ) → fs ≡ max xh (xp + s) → gs ≡ max yh (yp + s) → u ≡ max xh yh → v ≡ max xp yp → max (m + u) (m + v + s) ≡ m + max fs gs
-    calc m xh yh xp yp fs gs u v s e₁ e₂ e₃ e₄ = omega arith
-
-pub either_left : (m : ℕ) {x y : SilentSum} {u : ℕ} → x.free ≡ true → y.free ≡ false → u ≡ max x.hit y.hit →
-    (f g : ℕ → ℕ) (a b : ℕ) → IsSilence x f a → IsSilence y g b → IsSilence (record { hit = m + u; pass = m + x.pass; free = true }) (λ s. m + max (f s) (g s)) (m + max a b)
-either_left m {x} {y} {u} h k hu f g a b p q =
-    record {
-      says = λ s. omega (arith, hu, p.says s, q.says s, open_silence x s h, shut_silence y s k);
-      hit = omega (arith, p.hit, q.hit);
-      pass = omega (arith, p.pass, q.pass);
-    }
-
-pub either_right : (m : ℕ) {x y : SilentSum} {u : ℕ} → x.free ≡ false → u ≡ max x.hit y.hit →
-    (f g : ℕ → ℕ) (a b : ℕ) → IsSilence x f a → IsSilence y g b → IsSilence (record { hit = m + u; pass = m + y.pass; free = y.free }) (λ s. m + max (f s) (g s)) (m + max a b)
-either_right m {x} {y} {u} h hu f g a b p q =
-    record {
-      says = λ s. elim (truth y.free) [
-        | inl e ↦ omega (arith, hu, pick_yes y.free (max (m + u) (m + y.pass + s)) (m + u) e, p.says s, q.says s, shut_silence x s h, open_silence y s e)
-        | inr e ↦ omega (arith, hu, pick_no y.free (max (m + u) (m + y.pass + s)) (m + u) e, p.says s, q.says s, shut_silence x s h, shut_silence y s e)
-      ];
-      hit = omega (arith, p.hit, q.hit);
-      pass = omega (arith, p.pass, q.pass);
-    }
+pub stopping : {u m : ℕ} {f : ℕ → ℕ} → ((s : ℕ) → u ≡ f s) → u ≤ m → IsSilence (record { hit = u; pass = None }) f m
+stopping says hit = record { says = says; hit = hit; pass = λ x e. absurd (cc e) }
 
 -- The first form and the others.
 pub silence_split : (k : Block → ℕ) (ms : List ℕ) (l : Lines) (s : ℕ) → line_silence k ms l s ≡ first_silence k ms l (line_silence k ms (rest l) s)
@@ -125,18 +72,14 @@ as_if k ms l t f r b s h q = rw h (sym (pick_no b.point 0 (k b + max (line_silen
 
 module _ (k : Block → ℕ) (ms : List ℕ) {w : List ℕ} {left i e : ℕ} (lt : i < e) (p : Piece w left i e) where
   pub through_point : {v : ℕ} → v ≡ field w i 1 → v ≡ 1
-      → IsSilence (record { hit = 0; pass = 0; free = false }) (λ s. first_silence k ms p.part.lines s) (lead k ms p.part.lines)
+      → IsSilence (record { hit = 0; pass = None }) (λ s. first_silence k ms p.part.lines s) (lead k ms p.part.lines)
   through_point hv v1 =
-      record { says = λ s. sym (first_silence_point k ms w p.level i e p.part.lines s p.part.rep lt (sym hv ∙ v1)); hit = omega arith; pass = omega arith }
+      stopping (λ s. sym (first_silence_point k ms w p.level i e p.part.lines s p.part.rep lt (sym hv ∙ v1))) (omega arith)
 
-  pub through_plain : {v d x : ℕ} → v ≡ field w i 1 → (v ≡ 1 → ⊥) → d ≡ field w i 0 → (d ≡ 3 → ⊥) → x ≡ lead k ms p.part.lines
-      → IsSilence (record { hit = 0; pass = x; free = true }) (λ s. first_silence k ms p.part.lines s) (lead k ms p.part.lines)
-  through_plain hv v1 hd d3 hx =
-      record {
-        says = λ s. omega (arith, hx, first_silence_plain k ms w p.level i e p.part.lines s p.part.rep lt (λ y. v1 (hv ∙ y)) (λ y. d3 (hd ∙ y)));
-        hit = omega arith;
-        pass = omega (arith, hx);
-      }
+  pub through_plain : {v x : ℕ} → v ≡ field w i 1 → (v ≡ 1 → ⊥) → (field w i 0 ≡ 3 → ⊥) → x ≡ lead k ms p.part.lines
+      → IsSilence (record { hit = 0; pass = Some x }) (λ s. first_silence k ms p.part.lines s) (lead k ms p.part.lines)
+  through_plain hv v1 d3 hx =
+      passing (λ s. omega (arith, hx, first_silence_plain k ms w p.level i e p.part.lines s p.part.rep lt (λ y. v1 (hv ∙ y)) d3)) (omega arith) (omega (arith, hx))
 
   pub through_if : {v m : ℕ} {x y r : SilentSum} → v ≡ field w i 1 → (v ≡ 1 → ⊥) → m ≡ k (block_at w i) → (h : IfAt w p.heights left p.level i p.part.lines)
       → IsSilence x (λ s. line_silence k ms h.then.lines s) (tally k ms h.then.lines)
@@ -160,13 +103,13 @@ pub record SilenceSoFar (k : Block → ℕ) (w ms o : List ℕ) (left i e : ℕ)
   pub total : sum + tally k ms more.forms.part.lines ≡ m
 
 pub walk_start : {k : Block → ℕ} {w ms o : List ℕ} {left i e : ℕ} (p : Sized k w ms o left i e 0) →
-    SilenceSoFar k w ms o left i e (record { hit = 0; pass = 0; free = true }) (λ s. line_silence k ms p.forms.part.lines s) (tally k ms p.forms.part.lines)
+    SilenceSoFar k w ms o left i e (record { hit = 0; pass = Some 0 }) (λ s. line_silence k ms p.forms.part.lines s) (tally k ms p.forms.part.lines)
 walk_start p =
-    record { more = p; before = λ s. s; sum = 0; through = record { says = λ s. omega arith; hit = omega arith; pass = omega arith }; says = λ s. refl; total = omega arith }
+    record { more = p; before = λ s. s; sum = 0; through = passing (λ s. omega arith) (omega arith) (omega arith); says = λ s. refl; total = omega arith }
 
 module _ {k : Block → ℕ} {w ms o : List ℕ} {left i e : ℕ} {acc : SilentSum} {f : ℕ → ℕ} {m : ℕ} (h : SilenceSoFar k w ms o left i e acc f m) where
   pub walk_low : m ≤ limit → WithinLimit acc
-  walk_low l = record { hit = omega (arith, h.through.hit, h.total); pass = omega (arith, h.through.pass, h.total) }
+  walk_low l = record { hit = omega (arith, h.through.hit, h.total); pass = λ x e. omega (arith, h.through.pass x e, h.total) }
 
   pub walk_next : {x r : SilentSum} {en : ℕ} (lt : i < e) → en ≡ after_at w i
       → IsSilence x (λ s. first_silence k ms h.more.forms.part.lines s) (lead k ms h.more.forms.part.lines)
@@ -182,20 +125,11 @@ module _ {k : Block → ℕ} {w ms o : List ℕ} {left i e : ℕ} {acc : SilentS
         total = omega (arith, h.total, tally_split k ms l);
       }
 
-  pub walk_shut : acc.free ≡ false → IsSilence acc f m
-  walk_shut q =
-      let l = h.more.forms.part.lines in
-      record {
-        says = λ s. shut_silence acc s q ∙ sym (shut_silence acc (line_silence k ms l s) q) ∙ h.through.says (line_silence k ms l s) ∙ h.says s;
-        hit = omega (arith, h.through.hit, h.total);
-        pass = omega (arith, h.through.pass, h.total);
-      }
-
   pub walk_end : e ≤ i → IsSilence acc f m
   unfolding line_silence
   walk_end le =
       record {
         says = λ s. h.through.says s ∙ ap (λ (l : Lines). h.before (line_silence k ms l s)) (sym (no_part le h.more.forms)) ∙ h.says s;
         hit = omega (arith, h.through.hit, h.total);
-        pass = omega (arith, h.through.pass, h.total);
+        pass = λ x e'. omega (arith, h.through.pass x e', h.total);
       }

@@ -1,5 +1,5 @@
 -- Totals of the first form and of the others, by the kind of the record at hand. Assumes nothing.
-use mathlib.Core.Path.{◌≡◌, refl, ap, ◌∙◌}
+use mathlib.Core.Path.{◌≡◌, refl, ap}
 use mathlib.Core.List.{List}
 use Prim.Native.Nat.{ℕ, zero, suc, ◌+◌, ◌-◌, ◌*◌, ◌≤◌, ◌<◌, max}
 use native.Mathlib.Nat.{suc-mul}
@@ -7,9 +7,13 @@ use native.Mathlib.Omega.{arith}
 use lib.ListN.{get_or}
 use Rattle.model.specs.Plan.{Block, Lines, close, leaf_line, call_line, loop_line, if_line}
 use Rattle.model.specs.Total.{tally}
-use Rattle.rows.specs.Rows.{field, after_at, block_at, Rep, Piece}
+use Rattle.std.specs.Prelude.{Some}
+use Rattle.rows.specs.declared.Kind.{Kind}
+use Rattle.rows.specs.declared.Kind.TheVariants.{Leaf, Call, Loop, If}
+use Rattle.rows.specs.Kinds.{IsKind}
+use Rattle.rows.specs.Rows.{field, kind_at, after_at, block_at, Rep, Piece}
 use Rattle.rows.specs.First.{rest}
-use Rattle.rows.proofs.Shape.{LeafAt, CallAt, LoopAt, IfAt, if_at, after, no_lines, body_in, then_in, else_in}
+use Rattle.rows.proofs.Shape.{LeafAt, CallAt, LoopAt, IfAt, call_at, loop_at, if_at, ends, parts, after, no_lines, body_in, then_in, else_in}
 use Rattle.columns.specs.Sums.{lead}
 
 pub tally_split : (k : Block → ℕ) (ts : List ℕ) (l : Lines) → tally k ts l ≡ lead k ts l + tally k ts (rest l)
@@ -66,17 +70,50 @@ round_back zero t h = absurd (omega arith)
 round_back (suc n) t h = let e : suc n - 1 ≡ n = omega arith in rw (e, suc-mul n t) (omega arith)
 
 -- The kinds are 0 to 3.
-low_kind : (w : List ℕ) (v i e : ℕ) (l : Lines) → Rep w v i e l → i < e → (field w i 0 ≡ 3 → ⊥) → field w i 0 < 3
+rep_kind : (w : List ℕ) (v i e : ℕ) (l : Lines) → Rep w v i e l → i < e → field w i 0 ≤ 3
 unfolding Rep
-low_kind w v i e close h lt k = absurd (omega arith)
-low_kind w v i e (leaf_line b r) h lt k = omega arith
-low_kind w v i e (call_line b f r) h lt k = omega arith
-low_kind w v i e (loop_line b n body r) h lt k = omega arith
-low_kind w v i e (if_line b t s r) h lt k = absurd (k h.0.0)
+rep_kind w v i e close h lt = absurd (omega arith)
+rep_kind w v i e (leaf_line b r) h lt = omega arith
+rep_kind w v i e (call_line b f r) h lt = omega arith
+rep_kind w v i e (loop_line b n body r) h lt = omega arith
+rep_kind w v i e (if_line b t s r) h lt = omega arith
 
 module _ {w : List ℕ} {left i e : ℕ} (lt : i < e) (p : Piece w left i e) where
-  pub kind_low : {v : ℕ} → v ≡ field w i 0 → (v ≡ 3 → ⊥) → field w i 0 < 3
-  kind_low hv v3 = low_kind w p.level i e p.part.lines p.part.rep lt (λ x. v3 (hv ∙ x))
+  pub kind_three : kind_at w i ≤ 3
+  kind_three = rep_kind w p.level i e p.part.lines p.part.rep lt
 
-  pub if_three : {v : ℕ} → v ≡ field w i 0 → v ≡ 3 → IfAt w p.heights left p.level i p.part.lines
-  if_three hv v3 = if_at lt p.part hv (λ x. omega (arith, x, v3)) (λ x. omega (arith, x, v3)) (λ x. omega (arith, x, v3))
+  -- A call names a function.
+  pub call_target : kind_at w i ≡ 1 → field w i 4 < 16
+  call_target k = omega (arith, (call_at lt p.part refl k).target)
+
+  pub if_three : kind_at w i ≡ 3 → IfAt w p.heights left p.level i p.part.lines
+  if_three k = if_at lt p.part refl (λ x. omega arith) (λ x. omega arith) (λ x. omega arith)
+
+  -- The parts of a form lie within it, and their brackets may open.
+  pub loop_in : {en : ℕ} → kind_at w i ≡ 2 → en ≡ after_at w i → (1 ≤ left) × (en ≤ e)
+  loop_in k he = ((loop_at lt p.part refl k).opens, omega (arith, ends lt p.part, he))
+
+  pub if_in : {mid en : ℕ} → kind_at w i ≡ 3 → mid ≡ field w i 5 → en ≡ after_at w i → (2 ≤ left) × (i < mid) × (mid ≤ en) × (en ≤ e)
+  if_in k hm he =
+      let h = if_three k in
+      let d = parts hm he h in
+      (h.opens, d.0, d.1, omega (arith, ends lt p.part, he))
+
+-- What a kind is not.
+pub not_call : (k : Kind) {n : ℕ} → IsKind (Some k) n → (k ≡ Call → ⊥) → n ≡ 1 → ⊥
+not_call Leaf h d e = absurd (omega arith)
+not_call Call h d e = d refl
+not_call Loop h d e = absurd (omega arith)
+not_call If h d e = absurd (omega arith)
+
+pub not_loop : (k : Kind) {n : ℕ} → IsKind (Some k) n → (k ≡ Loop → ⊥) → n ≡ 2 → ⊥
+not_loop Leaf h d e = absurd (omega arith)
+not_loop Call h d e = absurd (omega arith)
+not_loop Loop h d e = d refl
+not_loop If h d e = absurd (omega arith)
+
+pub not_if : (k : Kind) {n : ℕ} → IsKind (Some k) n → (k ≡ If → ⊥) → n ≡ 3 → ⊥
+not_if Leaf h d e = absurd (omega arith)
+not_if Call h d e = absurd (omega arith)
+not_if Loop h d e = absurd (omega arith)
+not_if If h d e = d refl

@@ -39,10 +39,8 @@ module _ (k : Block → ℕ) (ts : List ℕ) where
 -- The total of the first form, by kind.
 module _ (k : Block → ℕ) (ts : List ℕ) where
   pub leaf_sum : {w : List ℕ} {v i : ℕ} {ls : Lines} {c : ℕ} → LeafAt w v i ls → k (block_at w i) ≤ 1048576 → c ≡ k (block_at w i)
-      → (c ≤ ceiling) × (c ≡ cap (lead k ts ls))
-  leaf_sum h a hc =
-      let b = leaf_lead k ts h in
-      (omega (arith, a, hc), omega (arith, a, b, hc))
+      → c ≡ cap (lead k ts ls)
+  leaf_sum h a hc = omega (arith, a, leaf_lead k ts h, hc)
 
   pub call_sum : {w hs : List ℕ} {v i : ℕ} {ls : Lines} {c x r : ℕ} → CallAt w hs v i ls → c ≡ k (block_at w i) → x ≡ get_or ts (field w i 4) 0 → r ≡ cap (c + x)
       → r ≡ cap (lead k ts ls)

@@ -15,11 +15,13 @@ use Rattle.rows.specs.First.{rest}
 use Rattle.rows.proofs.Shape.{LeafAt, CallAt, LoopAt, IfAt}
 use Rattle.columns.specs.declared.SilentSum.{SilentSum}
 use Rattle.columns.specs.Sums.{limit, lead}
-use Rattle.columns.specs.Private.{Under, front, later, silence_of, WithinLimit, first_silence, head_at, follow_first}
+use Rattle.std.specs.Prelude.{Option, Some, None}
+use Rattle.columns.specs.Private.{front, later, longer, silence_of, WithinLimit, first_silence, follow_first}
 use Rattle.columns.specs.Stretches.{leaf_stretch, first_stretch, stretch_rule, follow_call, follow_calls}
 use Rattle.columns.specs.Columns.{column_of}
 use Rattle.columns.proofs.Fronts.{leaf_front, call_front, loop_front, if_front}
 use Rattle.columns.proofs.Silences.{silence_split}
+use Rattle.columns.proofs.Sizes.{if_lead}
 
 pick_le : (p : Bool) (x : ℕ) → pick p 0 x ≤ x
 pick_le true x = omega arith
@@ -41,15 +43,12 @@ silence_le k ms (if_line b t e r) s =
       pick_le b.point (k b + max (line_silence k ms t (line_silence k ms r s)) (line_silence k ms e (line_silence k ms r s))),
     )
 
-pub silence_of_le : (q : SilentSum) (m s : ℕ) → q.hit ≤ m → q.pass ≤ m → silence_of q s ≤ m + s
-silence_of_le q m s h l = go q.free
-  where
-    go : (p : Bool) → pick p (max q.hit (q.pass + s)) q.hit ≤ m + s
-    go true = omega arith
-    go false = omega arith
+longer_le : (h : ℕ) (p : Option ℕ) (m s : ℕ) → h ≤ m → ((x : ℕ) → p ≡ Some x → x ≤ m) → longer h p s ≤ m + s
+longer_le h None m s l f = omega arith
+longer_le h (Some x) m s l f = omega (arith, f x refl)
 
-pub head_low : (h : List ℕ) (f : ℕ) {q : SilentSum} → Under limit h → q ≡ head_at h f → WithinLimit q
-head_low h f u e = rw e (record { hit = u (f * 3); pass = u (f * 3 + 1) })
+pub silence_of_le : (q : SilentSum) (s : ℕ) → WithinLimit q → silence_of q s ≤ limit + s
+silence_of_le q s w = longer_le q.hit q.pass limit s w.hit w.pass
 
 -- The silence that stands at the first form, by kind.
 rep_plain : (k : Block → ℕ) (ms w : List ℕ) (v i e : ℕ) (l : Lines) (s : ℕ) → Rep w v i e l → i < e → (field w i 0 ≡ 3 → ⊥)
@@ -61,10 +60,10 @@ rep_plain k ms w v i e (call_line b f r) s h lt d = ap (λ (y : Block). pick y.p
 rep_plain k ms w v i e (loop_line b n body r) s h lt d = ap (λ (y : Block). pick y.point 0 (k b + n * (tally k ms body + k b) + s)) (sym h.0.1)
 rep_plain k ms w v i e (if_line b t f r) s h lt d = absurd (d h.0.0)
 
-pub plain_silence : (k : Block → ℕ) (ms : List ℕ) (s : ℕ) {w : List ℕ} {left i e v y r : ℕ} → i < e → (p : Piece w left i e) → v ≡ field w i 0 → (v ≡ 3 → ⊥)
+pub plain_silence : (k : Block → ℕ) (ms : List ℕ) (s : ℕ) {w : List ℕ} {left i e y r : ℕ} → i < e → (p : Piece w left i e) → (field w i 0 ≡ 3 → ⊥)
     → y ≡ lead k ms p.part.lines → r ≡ pick (block_at w i).point 0 (y + s) → r ≡ first_silence k ms p.part.lines s
-plain_silence k ms s {w} {left} {i} {e} {v} {y} {r} lt p hv v3 hy hr =
-    hr ∙ ap (λ (z : ℕ). pick (block_at w i).point 0 (z + s)) hy ∙ rep_plain k ms w p.level i e p.part.lines s p.part.rep lt (λ a. v3 (hv ∙ a))
+plain_silence k ms s {w} {left} {i} {e} {y} {r} lt p k3 hy hr =
+    hr ∙ ap (λ (z : ℕ). pick (block_at w i).point 0 (z + s)) hy ∙ rep_plain k ms w p.level i e p.part.lines s p.part.rep lt k3
 
 pub if_silence : (k : Block → ℕ) (ms : List ℕ) (s : ℕ) {w hs : List ℕ} {left v i : ℕ} {l : Lines} {c a b m r : ℕ} (h : IfAt w hs left v i l) → c ≡ k (block_at w i)
     → a ≡ line_silence k ms h.then.lines s → b ≡ line_silence k ms h.else.lines s → m ≡ max a b → r ≡ pick (block_at w i).point 0 (c + m) → r ≡ first_silence k ms l s
@@ -173,5 +172,11 @@ unfolding later
 follow_end k ms n l s a a₀ h e = let z : n ≡ 0 = omega arith in rw z at e
 
 -- The larger silence of the two parts of an if, with its own visit, is within the limit.
-pub parts_low : (d b y z s : ℕ) {a c e f m : ℕ} → a ≡ e → c ≡ f → e ≤ y + s → f ≤ z + s → d ≡ b + max y z → d + s ≤ limit → m ≡ max a c → m ≤ limit
-parts_low d b y z s e₁ e₂ e₃ e₄ e₅ e₆ e₇ = omega arith
+pub parts_low : (k : Block → ℕ) (ms : List ℕ) (s : ℕ) {w hs : List ℕ} {left v i : ℕ} {l : Lines} {a b m : ℕ} (h : IfAt w hs left v i l)
+    → a ≡ line_silence k ms h.then.lines s → b ≡ line_silence k ms h.else.lines s → m ≡ max a b → lead k ms l + s ≤ limit → m ≤ limit
+parts_low k ms s {w} {i = i} {l = l} {a} {b} {m} h ha hb hm le =
+    calc (k (block_at w i)) (tally k ms h.then.lines) (tally k ms h.else.lines) a b m (lead k ms l)
+    (omega (arith, ha, silence_le k ms h.then.lines s)) (omega (arith, hb, silence_le k ms h.else.lines s)) hm (if_lead k ms h) le
+  where
+    calc : (c y z a b m d : ℕ) → a ≤ y + s → b ≤ z + s → m ≡ max a b → d ≡ c + max y z → d + s ≤ limit → m ≤ limit
+    calc c y z a b m d e₁ e₂ e₃ e₄ e₅ = omega arith

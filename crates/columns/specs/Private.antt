@@ -1,6 +1,6 @@
 -- What only the private functions promise. Nothing of this stands in the contract of a public one.
 -- Assumes nothing: these are definitions.
-use Rattle.std.specs.Prelude.{List, [], ◌∷◌, ◌++◌, ℕ, ◌+◌, ◌-◌, ◌*◌, ◌≤◌, max, suc, zero, ◌<◌, eqb, get_or, length, ◌≡◌}
+use Rattle.std.specs.Prelude.{List, [], ◌∷◌, ◌++◌, ℕ, ◌+◌, ◌-◌, ◌*◌, ◌≤◌, max, suc, zero, ◌<◌, get_or, length, ◌≡◌, Option, Some, None}
 use Rattle.model.specs.Plan.{Block, C, Lines, close, leaf_line, call_line, loop_line, if_line}
 use Rattle.model.specs.Total.{tally}
 use Rattle.model.specs.Places.{pick}
@@ -10,6 +10,8 @@ use Rattle.columns.specs.Columns.{Rule, column_of, turn_rule, turns, tail_rule, 
 use Rattle.rows.specs.First.{rest}
 use Rattle.model.specs.Static.{line_silence}
 use Rattle.columns.specs.declared.SilentSum.{SilentSum}
+use Rattle.columns.specs.declared.Walk.{Walk}
+use Rattle.columns.specs.declared.Lent.{Lent}
 use Rattle.columns.specs.Stretches.{follow_call, follow_calls}
 
 -- None of the numbers is over m.
@@ -24,17 +26,28 @@ front u (call_line b f r) x = u.value (call_line b f r) x ∷ []
 front u (loop_line b n body r) x = u.value (loop_line b n body r) x ∷ column_of u body (u.inner (loop_line b n body r) x)
 front u (if_line b t e r) x = u.value (if_line b t e r) x ∷ (column_of u t x ++ column_of u e x)
 
--- Lines whose total, with the s that follows them, is within the limit, and the sums of whose rounds stand in o.
+-- Lines that the row holds, whose total, with the s that follows them, is within the limit, and the sums of whose rounds stand in o.
 pub record Sized (k : Block → ℕ) (w ts o : List ℕ) (left i e s : ℕ) : Type 0 where
   pub forms : Piece w left i e
+  pub held : e * 8 ≤ length w
+  pub few : e ≤ 512
   pub small : tally k ts forms.part.lines + s ≤ limit
   pub noted : Contains o i (turns k ts forms.part.lines)
 
 -- The same of the first form, which x follows.
 pub record Ready (k : Block → ℕ) (w ts o : List ℕ) (left i e x : ℕ) : Type 0 where
   pub forms : Piece w left i e
+  pub held : e * 8 ≤ length w
+  pub few : e ≤ 512
   pub small : lead k ts forms.part.lines + x ≤ limit
   pub noted : Contains o i (turns k ts forms.part.lines)
+
+-- The same of what a walk goes by.
+abbrev pub SizedIn : (Block → ℕ) → Walk → ℕ → ℕ → ℕ → ℕ → Type 0
+SizedIn k a left i e s = Sized k a.row.now a.sums.now a.turn.now left i e s
+
+abbrev pub ReadyIn : (Block → ℕ) → Walk → ℕ → ℕ → ℕ → ℕ → Type 0
+ReadyIn k a left i e x = Ready k a.row.now a.sums.now a.turn.now left i e x
 
 -- The first leaf of form number k of the sequence that begins at i.
 unfoldable pub sibling : List ℕ → ℕ → ℕ → ℕ
@@ -58,20 +71,25 @@ pub record Listed (w : List ℕ) (i e n : ℕ) (o : List ℕ) : Type 0 where
   pub room : (k : ℕ) → k < n → i + k ≤ sibling w i k
   pub there : (k : ℕ) → k < n → get_or o (i + k) 0 ≡ sibling w i k
 
+-- The longer of the stretch `hit` and, where no point stops it, of `pass` and the s that follows.
+abbrev pub longer : ℕ → Option ℕ → ℕ → ℕ
+longer hit None s = hit
+longer hit (Some pass) s = max hit (pass + s)
+
 -- The silence q where s follows.
 abbrev pub silence_of : SilentSum → ℕ → ℕ
-silence_of q s = pick q.free (max q.hit (q.pass + s)) q.hit
+silence_of q s = longer q.hit q.pass s
 
 -- The silence q is the function f, and none of its sums is over m.
 pub record IsSilence (q : SilentSum) (f : ℕ → ℕ) (m : ℕ) : Type 0 where
   pub says : (s : ℕ) → silence_of q s ≡ f s
   pub hit : q.hit ≤ m
-  pub pass : q.pass ≤ m
+  pub pass : (x : ℕ) → q.pass ≡ Some x → x ≤ m
 
 -- None of its sums is over the limit.
 pub record WithinLimit (q : SilentSum) : Type 0 where
   pub hit : q.hit ≤ limit
-  pub pass : q.pass ≤ limit
+  pub pass : (x : ℕ) → q.pass ≡ Some x → x ≤ limit
 
 -- The silence at the cost k through the first form, where s follows it; ms are the totals of the functions at k.
 unfoldable pub first_silence : (Block → ℕ) → List ℕ → Lines → ℕ → ℕ
@@ -81,9 +99,13 @@ first_silence k ms (call_line b f rest) s = pick b.point 0 (k b + get_or ms f 0 
 first_silence k ms (loop_line b n body rest) s = pick b.point 0 (k b + n * (tally k ms body + k b) + s)
 first_silence k ms (if_line b then else rest) s = pick b.point 0 (k b + max (line_silence k ms then s) (line_silence k ms else s))
 
--- The silence of the function f, in a row of three numbers for each.
-abbrev pub head_at : List ℕ → ℕ → SilentSum
-head_at h f = record { hit = get_or h (f * 3) 0; pass = get_or h (f * 3 + 1) 0; free = eqb (get_or h (f * 3 + 2) 0) 1 }
+-- The silence of the function f.
+abbrev pub head_at : List SilentSum → ℕ → SilentSum
+head_at h f = get_or h f (record { hit = 0; pass = None })
+
+-- None of their sums is over the limit.
+abbrev pub WithinLimits : List SilentSum → Type 0
+WithinLimits h = (f : ℕ) → WithinLimit (head_at h f)
 
 -- The same after the calls of the first form alone, which x follows.
 unfoldable pub follow_first : (Block → ℕ) → List ℕ → Lines → ℕ → List ℕ → List ℕ
@@ -121,3 +143,16 @@ IfFits w u i m e t x = (a b : ℕ) → Begins u (i + 1) m x a → Begins u m e x
 -- The columns of the function f, whose lines are F f, stand as they are derived, and its total is exact.
 abbrev pub FunctionFits : List ℕ → List ℕ → List ℕ → List ℕ → (ℕ → Lines) → ℕ → Type 0
 FunctionFits ts o u starts F f = AsDerived ts o u (F f) (get_or starts f 0) 0 × (get_or ts f 0 ≡ tally C ts (F f))
+
+-- The same of what is lent, whose lists reach up to e.
+abbrev pub Holds : Lent → ℕ → Type 0
+Holds a e = (e * 8 ≤ length a.row.now) × (e ≤ length a.turn.now) × (e ≤ length a.tail.now)
+
+abbrev pub DerivedIn : Lent → Lines → ℕ → ℕ → Type 0
+DerivedIn a l i e = AsDerived a.sums.now a.turn.now a.tail.now l i e
+
+abbrev pub FirstIn : Lent → Lines → ℕ → ℕ → Type 0
+FirstIn a l i x = AsDerivedFirst a.sums.now a.turn.now a.tail.now l i x
+
+abbrev pub FunctionIn : Lent → List ℕ → (ℕ → Lines) → ℕ → Type 0
+FunctionIn a starts F f = FunctionFits a.sums.now a.turn.now a.tail.now starts F f

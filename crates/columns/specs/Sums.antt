@@ -1,8 +1,9 @@
 -- Totals of forms that lie in a row of numbers. Assumes nothing: these are definitions.
-use Rattle.std.specs.Prelude.{List, ℕ, ◌+◌, ◌*◌, ◌≤◌, max, min, eqb, get_or}
+use Rattle.std.specs.Prelude.{List, ℕ, ◌+◌, ◌*◌, max, min, get_or}
 use Rattle.model.specs.Plan.{Block, C, M, Lines, close, leaf_line, call_line, loop_line, if_line}
 use Rattle.model.specs.Total.{tally}
-use Rattle.model.specs.Places.{pick}
+use Rattle.columns.specs.declared.Cost.{Cost}
+use Rattle.columns.specs.declared.Cost.TheVariants.{Isolated, MaxLoad}
 
 -- 2^40: no total of an accepted plan is over it.
 abbrev pub limit : ℕ
@@ -14,15 +15,12 @@ ceiling = 2199023255552
 
 -- The number n, held at the ceiling. It is over the limit exactly when n is.
 abbrev pub cap : ℕ → ℕ
-cap n = min 2199023255552 n
+cap n = min n 2199023255552
 
--- The fields of a record that hold a cost.
-abbrev pub IsCost : ℕ → Type 0
-IsCost c = (2 ≤ c) × (c ≤ 3)
-
--- The cost that the field c holds: C in field 2, M in field 3.
-abbrev pub cost_in : ℕ → Block → ℕ
-cost_in c = pick (eqb c 2) C M
+-- The cost of a visit that counts.
+abbrev pub cost_in : Cost → Block → ℕ
+cost_in Isolated = C
+cost_in MaxLoad = M
 
 -- The total of the first form alone; ts are the totals of the functions.
 unfoldable pub lead : (Block → ℕ) → List ℕ → Lines → ℕ

@@ -8,12 +8,14 @@ ghost use Prim.Native.Nat.{ℕ, ◌+◌, ◌-◌, ◌*◌, ◌≤◌, ◌<◌};
 ghost use Rattle.std.proofs.lemmas.List.Edits.{sets};
 ghost use Rattle.model.specs.Plan.{C, M};
 ghost use Rattle.model.specs.Total.{tally};
-ghost use Rattle.rows.specs.Rows.{field, block_at, Piece};
-ghost use Rattle.columns.specs.Sums.{limit, ceiling, cap, IsCost, cost_in, lead};
-ghost use Rattle.columns.specs.Private.{Under, front, Sized, Ready, Kept, Listed, silence_of, IsSilence, WithinLimit, first_silence, head_at};
-ghost use Rattle.columns.specs.Private.{follow_first, AsDerived, AsDerivedFirst, Begins, LoopFits, IfFits, FunctionFits};
+ghost use Rattle.rows.specs.Rows.{field, kind_at, block_at, Piece};
+ghost use Rattle.rows.specs.Kinds.{IsKind};
+ghost use Rattle.columns.specs.Sums.{limit, ceiling, cap, cost_in, lead};
+ghost use Rattle.columns.specs.Private.{Under, front, SizedIn, ReadyIn, Kept, Listed, silence_of, IsSilence, WithinLimit, first_silence};
+ghost use Rattle.columns.specs.Private.{head_at, WithinLimits};
+ghost use Rattle.columns.specs.Private.{follow_first, Holds, DerivedIn, FirstIn, Begins, LoopFits, IfFits, FunctionIn};
 ghost use Rattle.columns.specs.Columns.{column_of, turn_rule, turns, tail_rule};
-ghost use Rattle.model.specs.Places.{pick, bit};
+ghost use Rattle.model.specs.Places.{pick};
 ghost use Rattle.model.specs.Static.{line_silence};
 ghost use Rattle.columns.specs.Stretches.{leaf_stretch, stretch_rule, follow_calls};
 ghost use Rattle.columns.specs.Whole.{Measured, Summed, SummedBoth, stretches_written, tails_written};
@@ -22,38 +24,52 @@ ghost use Rattle.rows.specs.Plans.{PlanOf, lines_of};
 ghost use Rattle.columns.specs.Local.{AllDerived};
 
 use rows::{
-    AFTER, CALL, CEILING, DETAIL, IF, INNER_BRACKETS, ISOLATED, KIND, LEAF, LIMIT, LOOP,
-    MAX_FUNCTIONS, MAX_LEAVES, MAX_LOAD, OTHER, POINT, after, get, index, larger,
+    AFTER, CEILING, DETAIL, INNER_BRACKETS, ISOLATED, Kind, LIMIT, MAX_FUNCTIONS, MAX_LEAVES,
+    MAX_LOAD, OTHER, POINT, after, get, index, kind_of,
 };
 
-// The cost of the record i, in this field of it.
-fn cost(row: &[u64], i: usize, column: usize) -> u64
-    requires { (i * 8 + 8 ≤ length row.now) × IsCost column }
-    ensures { result ≡ cost_in column (block_at row.now i) }
-{
-    get(row, i, column)
+// The cost of a visit that counts.
+#[derive(Clone, Copy, Debug, PartialEq, Eq)]
+pub enum Cost {
+    Isolated,
+    MaxLoad,
 }
 
-// The number x, held at the ceiling.
-fn clip(x: u64) -> u64
-    ensures { result ≡ cap x }
-{
-    if x < CEILING { x } else { CEILING }
+impl Cost {
+    // This cost of the record i.
+    fn of(self, row: &[u64], i: usize) -> u64
+        requires { i * 8 + 8 ≤ length row.now }
+        ensures { result ≡ cost_in self (block_at row.now i) }
+    {
+        match self {
+            Cost::Isolated => get(row, i, ISOLATED),
+            Cost::MaxLoad => get(row, i, MAX_LOAD),
+        }
+    }
 }
 
-// A loop: its condition, then body and condition b times.
+// The kind of the form at i, whose number stands for one.
+fn form_kind(row: &[u64], i: usize) -> Kind
+    requires { (i * 8 < length row.now) × (kind_at row.now i ≤ 3) }
+    ensures { IsKind (Some result) (kind_at row.now i) }
+{
+    kind_of(row, i).unwrap()
+}
+
+// A loop: its condition, then body and condition b times, held at the ceiling.
 fn looped(c: u64, b: u64, body: u64) -> u64
     requires { (c ≤ 1048576) × (b ≤ 65535) × (body ≤ ceiling) }
     ensures { result ≡ cap (c + b * (body + c)) }
 {
-    clip(c + b * (body + c))
+    (c + b * (body + c)).min(CEILING)
 }
 
 // The total of the form at i, the first of those from i up to `to`, held at the ceiling. Writes the sums of the rounds of its loops.
+// It goes by no `Walk`: the sums of rounds, which a walk only reads, are written here.
 #[cycle(sum_block_sum_form)]
 fn sum_form(
     row: &[u64],
-    column: usize,
+    cost: Cost,
     i: usize,
     to: usize,
     left: usize,
@@ -61,60 +77,58 @@ fn sum_form(
     turn: &mut [u64; MAX_LEAVES],
 ) -> u64
     requires i_lt_to { i < to }
-    requires to_in_bounds { (to * 8 ≤ length row.now) × (to ≤ 512) × Under ceiling sums.now × IsCost column }
+    requires to_in_bounds { (to * 8 ≤ length row.now) × (to ≤ 512) × Under ceiling sums.now }
     requires piece { Piece row.now left i to }
     ensures upper_bound { result ≤ ceiling }
-    ensures value { (p : Piece row.now left i to) → result ≡ cap (lead (cost_in column) sums.now p.part.lines) }
+    ensures value { (p : Piece row.now left i to) → result ≡ cap (lead (cost_in cost) sums.now p.part.lines) }
     ensures turn_after { (p : Piece row.now left i to)
-        → turn.new ≡ sets turn.old i (front (turn_rule (cost_in column) sums.now) p.part.lines 0) }
+        → turn.new ≡ sets turn.old i (front (turn_rule (cost_in cost) sums.now) p.part.lines 0) }
 {
-    let kind = get(row, i, KIND);
-    let c = cost(row, i, column);
-    if kind == LOOP {
-        let after = index(row, i, AFTER);
-        let body = sum_block(row, column, i + 1, after, left - 1, sums, turn);
-        turn[i] = c + body;
-        return looped(c, get(row, i, DETAIL), body);
-    }
+    let c = cost.of(row, i);
     turn[i] = 0;
-    if kind == IF {
-        let after = index(row, i, AFTER);
-        let other = index(row, i, OTHER);
-        let rest = left - 2;
-        let a = sum_block(row, column, i + 1, other, rest, sums, turn);
-        let b = sum_block(row, column, other, after, rest, sums, turn);
-        return clip(c + larger(a, b));
+    match form_kind(row, i) {
+        Kind::Loop => {
+            let after = index(row, i, AFTER);
+            let body = sum_block(row, cost, i + 1, after, left - 1, sums, turn);
+            turn[i] = c + body;
+            looped(c, get(row, i, DETAIL), body)
+        }
+        Kind::If => {
+            let after = index(row, i, AFTER);
+            let other = index(row, i, OTHER);
+            let rest = left - 2;
+            let a = sum_block(row, cost, i + 1, other, rest, sums, turn);
+            let b = sum_block(row, cost, other, after, rest, sums, turn);
+            (c + a.max(b)).min(CEILING)
+        }
+        Kind::Call => (c + sums[index(row, i, DETAIL)]).min(CEILING),
+        Kind::Leaf => c,
     }
-    if kind == CALL {
-        let f = index(row, i, DETAIL);
-        return clip(c + sums[f]);
-    }
-    c
 }
 
 // The total of the forms from `from` up to `to`, held at the ceiling. Writes the sums of the rounds of their loops.
 #[cycle(sum_block_sum_form)]
 fn sum_block(
     row: &[u64],
-    column: usize,
+    cost: Cost,
     from: usize,
     to: usize,
     left: usize,
     sums: &[u64; MAX_FUNCTIONS],
     turn: &mut [u64; MAX_LEAVES],
 ) -> u64
-    requires to_in_bounds { (to * 8 ≤ length row.now) × (to ≤ 512) × Under ceiling sums.now × IsCost column }
+    requires to_in_bounds { (to * 8 ≤ length row.now) × (to ≤ 512) × Under ceiling sums.now }
     requires piece { Piece row.now left from to }
     ensures upper_bound { result ≤ ceiling }
-    ensures value { (p : Piece row.now left from to) → result ≡ cap (tally (cost_in column) sums.now p.part.lines) }
+    ensures value { (p : Piece row.now left from to) → result ≡ cap (tally (cost_in cost) sums.now p.part.lines) }
     ensures turn_after { (p : Piece row.now left from to)
-        → turn.new ≡ sets turn.old from (turns (cost_in column) sums.now p.part.lines) }
+        → turn.new ≡ sets turn.old from (turns (cost_in cost) sums.now p.part.lines) }
 {
     let mut acc: u64 = 0;
     let mut i = from;
     while i < to {
-        let x = sum_form(row, column, i, to, left, sums, turn);
-        acc = clip(acc + x);
+        let x = sum_form(row, cost, i, to, left, sums, turn);
+        acc = (acc + x).min(CEILING);
         i = after(row, i);
     }
     acc
@@ -122,7 +136,7 @@ fn sum_block(
 
 // Lists the first leaf of each form from `from` up to `to`, in text order, from seq[from] on, and returns how many there are.
 fn list(row: &[u64], from: usize, to: usize, seq: &mut [usize; MAX_LEAVES]) -> usize
-    requires to_in_bounds { (to * 8 ≤ length row.now) × (to ≤ 512) × (length seq.old ≡ 512) }
+    requires to_in_bounds { (to * 8 ≤ length row.now) × (to ≤ 512) }
     requires by_index { (left : ℕ) × Piece row.now left from to }
     ensures listed { Listed row.now from to result seq.new }
     ensures kept { Kept from seq.old seq.new }
@@ -137,81 +151,64 @@ fn list(row: &[u64], from: usize, to: usize, seq: &mut [usize; MAX_LEAVES]) -> u
     n
 }
 
+// What a walk goes by and never changes: the row, the functions' totals at one cost, and the sums of the loops' rounds.
+#[derive(Clone, Copy)]
+struct Walk<'a> {
+    row: &'a [u64],
+    sums: &'a [u64; MAX_FUNCTIONS],
+    turn: &'a [u64; MAX_LEAVES],
+}
+
 // The total of the leaf, call or loop at i, the first of those from i up to `to`.
-fn weight(
-    row: &[u64],
-    column: usize,
-    i: usize,
-    to: usize,
-    left: usize,
-    sums: &[u64; MAX_FUNCTIONS],
-    turn: &[u64; MAX_LEAVES],
-) -> u64
-    requires i_lt_to { (i < to) × (to * 8 ≤ length row.now) × (to ≤ 512) × (field row.now i 0 < 3) × IsCost column }
-    requires ready { Ready (cost_in column) row.now sums.now turn.now left i to 0 }
-    ensures { (p : Ready (cost_in column) row.now sums.now turn.now left i to 0)
-        → result ≡ lead (cost_in column) sums.now p.forms.part.lines }
+fn weight(walk: &Walk, cost: Cost, i: usize, to: usize, left: usize) -> u64
+    requires i_lt_to { (i < to) × (field walk.now.row.now i 0 < 3) }
+    requires ready { ReadyIn (cost_in cost) walk.now left i to 0 }
+    ensures { (p : ReadyIn (cost_in cost) walk.now left i to 0)
+        → result ≡ lead (cost_in cost) walk.now.sums.now p.forms.part.lines }
 {
-    let kind = get(row, i, KIND);
-    let c = cost(row, i, column);
-    if kind == LEAF {
-        return c;
+    let c = cost.of(walk.row, i);
+    match form_kind(walk.row, i) {
+        Kind::Call => c + walk.sums[index(walk.row, i, DETAIL)],
+        Kind::Loop => c + get(walk.row, i, DETAIL) * walk.turn[i],
+        _ => c,
     }
-    if kind == CALL {
-        let f = index(row, i, DETAIL);
-        return c + sums[f];
-    }
-    c + get(row, i, DETAIL) * turn[i]
 }
 
 // Writes the tail of each leaf of the form at i, the first of those from i up to `to`, where e follows the form; returns the tail of i.
 #[cycle(tail_block_tail_form)]
 fn tail_form(
-    row: &[u64],
+    walk: &Walk,
     i: usize,
     to: usize,
     left: usize,
-    sums: &[u64; MAX_FUNCTIONS],
-    turn: &[u64; MAX_LEAVES],
     e: u64,
     seq: &mut [usize; MAX_LEAVES],
     out: &mut [u64; MAX_LEAVES],
 ) -> u64
     requires i_lt_to { i < to }
-    requires to_in_bounds { (to * 8 ≤ length row.now) × (to ≤ 512) × (length seq.old ≡ 512) }
-    requires ready { Ready C row.now sums.now turn.now left i to e }
-    ensures value { (p : Ready C row.now sums.now turn.now left i to e)
-        → result ≡ lead C sums.now p.forms.part.lines + e }
-    ensures out_after { (p : Ready C row.now sums.now turn.now left i to e)
-        → out.new ≡ sets out.old i (front (tail_rule sums.now) p.forms.part.lines e) }
+    requires ready { ReadyIn C walk.now left i to e }
+    ensures value { (p : ReadyIn C walk.now left i to e)
+        → result ≡ lead C walk.now.sums.now p.forms.part.lines + e }
+    ensures out_after { (p : ReadyIn C walk.now left i to e)
+        → out.new ≡ sets out.old i (front (tail_rule walk.now.sums.now) p.forms.part.lines e) }
     ensures kept { Kept (i + 1) seq.old seq.new }
 {
-    let kind = get(row, i, KIND);
-    if kind == IF {
-        let after = index(row, i, AFTER);
-        let other = index(row, i, OTHER);
+    let kind = form_kind(walk.row, i);
+    if let Kind::If = kind {
+        let after = index(walk.row, i, AFTER);
+        let other = index(walk.row, i, OTHER);
         let rest = left - 2;
-        let a = tail_block(row, i + 1, other, rest, sums, turn, e, seq, out);
-        let b = tail_block(row, other, after, rest, sums, turn, e, seq, out);
-        let t = get(row, i, ISOLATED) + larger(a, b);
+        let a = tail_block(walk, i + 1, other, rest, e, seq, out);
+        let b = tail_block(walk, other, after, rest, e, seq, out);
+        let t = get(walk.row, i, ISOLATED) + a.max(b);
         out[i] = t;
         return t;
     }
-    let t = weight(row, ISOLATED, i, to, left, sums, turn) + e;
+    let t = weight(walk, Cost::Isolated, i, to, left) + e;
     out[i] = t;
-    if kind == LOOP {
-        let after = index(row, i, AFTER);
-        tail_block(
-            row,
-            i + 1,
-            after,
-            left - 1,
-            sums,
-            turn,
-            t - turn[i],
-            seq,
-            out,
-        );
+    if let Kind::Loop = kind {
+        let after = index(walk.row, i, AFTER);
+        tail_block(walk, i + 1, after, left - 1, t - walk.turn[i], seq, out);
     }
     t
 }
@@ -219,193 +216,134 @@ fn tail_form(
 // Writes the tail of each leaf from `from` up to `to`, where e follows in their function; returns the tail at their start.
 #[cycle(tail_block_tail_form)]
 fn tail_block(
-    row: &[u64],
+    walk: &Walk,
     from: usize,
     to: usize,
     left: usize,
-    sums: &[u64; MAX_FUNCTIONS],
-    turn: &[u64; MAX_LEAVES],
     e: u64,
     seq: &mut [usize; MAX_LEAVES],
     out: &mut [u64; MAX_LEAVES],
 ) -> u64
-    requires to_in_bounds { (to * 8 ≤ length row.now) × (to ≤ 512) × (length seq.old ≡ 512) }
-    requires sized { Sized C row.now sums.now turn.now left from to e }
-    ensures value { (p : Sized C row.now sums.now turn.now left from to e)
-        → result ≡ tally C sums.now p.forms.part.lines + e }
-    ensures out_after { (p : Sized C row.now sums.now turn.now left from to e)
-        → out.new ≡ sets out.old from (column_of (tail_rule sums.now) p.forms.part.lines e) }
+    requires sized { SizedIn C walk.now left from to e }
+    ensures value { (p : SizedIn C walk.now left from to e)
+        → result ≡ tally C walk.now.sums.now p.forms.part.lines + e }
+    ensures out_after { (p : SizedIn C walk.now left from to e)
+        → out.new ≡ sets out.old from (column_of (tail_rule walk.now.sums.now) p.forms.part.lines e) }
     ensures kept { Kept from seq.old seq.new }
 {
-    let mut n = list(row, from, to, seq);
+    let n = list(walk.row, from, to, seq);
     let mut t = e;
-    while 0 < n {
-        n -= 1;
-        let i = seq[from + n];
-        t = tail_form(row, i, to, left, sums, turn, t, seq, out);
+    for k in (0..n).rev() {
+        t = tail_form(walk, seq[from + k], to, left, t, seq, out);
     }
     t
 }
 
-// A silent stretch as a function of what follows: `hit` at a point inside; `pass` and what follows, if `free`.
+// A silent stretch as a function of what follows: `hit` at a point inside; `pass` and what follows, where no point stops it.
 #[derive(Clone, Copy)]
 struct SilentSum {
     hit: u64,
-    pass: u64,
-    free: bool,
+    pass: Option<u64>,
 }
 
-// The stretch where s follows.
-fn apply(q: SilentSum, s: u64) -> u64
-    requires { WithinLimit q × (s ≤ limit) }
-    ensures { result ≡ silence_of q s }
-{
-    if q.free {
-        larger(q.hit, q.pass + s)
-    } else {
-        q.hit
-    }
-}
+// The silence of no form.
+const SILENT: SilentSum = SilentSum {
+    hit: 0,
+    pass: Some(0),
+};
 
-// The silence x, and then y.
-fn onto(x: SilentSum, y: SilentSum) -> SilentSum
-    requires { WithinLimit x × WithinLimit y }
-    ensures { (f : ℕ → ℕ) (g : ℕ → ℕ) (a : ℕ) (b : ℕ) → IsSilence x f a → IsSilence y g b → IsSilence result (λ s. f (g s)) (a + b) }
-{
-    if x.free {
-        let hit = larger(x.hit, x.pass + y.hit);
-        let pass = x.pass + y.pass;
-        let free = y.free;
-        SilentSum { hit, pass, free }
-    } else {
-        x
-    }
-}
-
-// A visit of m, and then the longer of x and y.
-fn either(m: u64, x: SilentSum, y: SilentSum) -> SilentSum
-    requires { (m ≤ 1048576) × WithinLimit x × WithinLimit y }
-    ensures { (f : ℕ → ℕ) (g : ℕ → ℕ) (a : ℕ) (b : ℕ) → IsSilence x f a → IsSilence y g b
-        → IsSilence result (λ s. m + Prim.Native.Nat.max (f s) (g s)) (m + Prim.Native.Nat.max a b) }
-{
-    let hit = m + larger(x.hit, y.hit);
-    if x.free {
-        if y.free {
-            let pass = m + larger(x.pass, y.pass);
-            return SilentSum {
-                hit,
-                pass,
-                free: true,
-            };
+impl SilentSum {
+    // The stretch where s follows.
+    fn before(self, s: u64) -> u64
+        requires { WithinLimit self × (s ≤ limit) }
+        ensures { result ≡ silence_of self s }
+    {
+        match self.pass {
+            Some(pass) => self.hit.max(pass + s),
+            None => self.hit,
         }
-        let pass = m + x.pass;
-        return SilentSum {
-            hit,
-            pass,
-            free: true,
-        };
     }
-    let pass = m + y.pass;
-    let free = y.free;
-    SilentSum { hit, pass, free }
+
+    // This silence, and then y.
+    fn then(self, y: SilentSum) -> SilentSum
+        requires { WithinLimit self × WithinLimit y }
+        ensures { (f : ℕ → ℕ) (g : ℕ → ℕ) (a : ℕ) (b : ℕ) → IsSilence self f a → IsSilence y g b → IsSilence result (λ s. f (g s)) (a + b) }
+    {
+        match self.pass {
+            Some(pass) => SilentSum {
+                hit: self.hit.max(pass + y.hit),
+                pass: y.pass.map(|p| pass + p),
+            },
+            None => self,
+        }
+    }
+
+    // A visit of m, and then the longer of this silence and y.
+    fn or(self, y: SilentSum, m: u64) -> SilentSum
+        requires { (m ≤ 1048576) × WithinLimit self × WithinLimit y }
+        ensures { (f : ℕ → ℕ) (g : ℕ → ℕ) (a : ℕ) (b : ℕ) → IsSilence self f a → IsSilence y g b
+            → IsSilence result (λ s. m + Prim.Native.Nat.max (f s) (g s)) (m + Prim.Native.Nat.max a b) }
+    {
+        SilentSum {
+            hit: m + self.hit.max(y.hit),
+            pass: self.pass.max(y.pass).map(|pass| m + pass),
+        }
+    }
 }
 
 // The silence of the form at i, the first of those from i up to `to`.
 #[cycle(silence_block_silence_form)]
-fn silence_form(
-    row: &[u64],
-    column: usize,
-    i: usize,
-    to: usize,
-    left: usize,
-    sums: &[u64; MAX_FUNCTIONS],
-    turn: &[u64; MAX_LEAVES],
-) -> SilentSum
+fn silence_form(walk: &Walk, cost: Cost, i: usize, to: usize, left: usize) -> SilentSum
     requires i_lt_to { i < to }
-    requires to_in_bounds { (to * 8 ≤ length row.now) × (to ≤ 512) × IsCost column }
-    requires ready { Ready (cost_in column) row.now sums.now turn.now left i to 0 }
-    ensures { (p : Ready (cost_in column) row.now sums.now turn.now left i to 0)
-        → IsSilence result (λ s. first_silence (cost_in column) sums.now p.forms.part.lines s) (lead (cost_in column)
-        sums.now p.forms.part.lines) }
+    requires ready { ReadyIn (cost_in cost) walk.now left i to 0 }
+    ensures { (p : ReadyIn (cost_in cost) walk.now left i to 0)
+        → IsSilence result (λ s. first_silence (cost_in cost) walk.now.sums.now p.forms.part.lines s) (lead (cost_in cost)
+        walk.now.sums.now p.forms.part.lines) }
 {
-    if get(row, i, POINT) == 1 {
-        return SilentSum {
-            hit: 0,
-            pass: 0,
-            free: false,
-        };
+    if get(walk.row, i, POINT) == 1 {
+        return SilentSum { hit: 0, pass: None };
     }
-    let kind = get(row, i, KIND);
-    if kind == IF {
-        let after = index(row, i, AFTER);
-        let other = index(row, i, OTHER);
-        let x = silence_block(row, column, i + 1, other, left - 2, sums, turn);
-        let y = silence_block(row, column, other, after, left - 2, sums, turn);
-        return either(cost(row, i, column), x, y);
+    if let Kind::If = form_kind(walk.row, i) {
+        let after = index(walk.row, i, AFTER);
+        let other = index(walk.row, i, OTHER);
+        let rest = left - 2;
+        let x = silence_block(walk, cost, i + 1, other, rest);
+        let y = silence_block(walk, cost, other, after, rest);
+        return x.or(y, cost.of(walk.row, i));
     }
-    let pass = weight(row, column, i, to, left, sums, turn);
     SilentSum {
         hit: 0,
-        pass,
-        free: true,
+        pass: Some(weight(walk, cost, i, to, left)),
     }
 }
 
 // The silence of the forms from `from` up to `to`.
 #[cycle(silence_block_silence_form)]
-fn silence_block(
-    row: &[u64],
-    column: usize,
-    from: usize,
-    to: usize,
-    left: usize,
-    sums: &[u64; MAX_FUNCTIONS],
-    turn: &[u64; MAX_LEAVES],
-) -> SilentSum
-    requires to_in_bounds { (to * 8 ≤ length row.now) × (to ≤ 512) × IsCost column }
-    requires sized { Sized (cost_in column) row.now sums.now turn.now left from to 0 }
-    ensures { (p : Sized (cost_in column) row.now sums.now turn.now left from to 0)
-        → IsSilence result (λ s. line_silence (cost_in column) sums.now p.forms.part.lines s) (tally (cost_in column)
-        sums.now p.forms.part.lines) }
+fn silence_block(walk: &Walk, cost: Cost, from: usize, to: usize, left: usize) -> SilentSum
+    requires sized { SizedIn (cost_in cost) walk.now left from to 0 }
+    ensures { (p : SizedIn (cost_in cost) walk.now left from to 0)
+        → IsSilence result (λ s. line_silence (cost_in cost) walk.now.sums.now p.forms.part.lines s) (tally (cost_in cost)
+        walk.now.sums.now p.forms.part.lines) }
 {
-    let mut acc = SilentSum {
-        hit: 0,
-        pass: 0,
-        free: true,
-    };
+    let mut acc = SILENT;
     let mut i = from;
-    while i < to {
-        let free = acc.free;
-        if !free {
-            return acc;
-        }
-        acc = onto(acc, silence_form(row, column, i, to, left, sums, turn));
-        i = index(row, i, AFTER);
+    while i < to && acc.pass.is_some() {
+        acc = acc.then(silence_form(walk, cost, i, to, left));
+        i = index(walk.row, i, AFTER);
     }
     acc
 }
 
-// The silence of the function f, in a row of three numbers for each.
-fn head(heads: &[u64; 48], f: usize) -> SilentSum
-    requires { f < 16 }
-    ensures { result ≡ head_at heads.now f }
-{
-    let hit = heads[f * 3];
-    let pass = heads[f * 3 + 1];
-    let free = heads[f * 3 + 2] == 1;
-    SilentSum { hit, pass, free }
-}
-
 // Writes the stretch of the record i, where s follows its visit; 0 if it is no point.
-fn put_stretch(row: &[u64], column: usize, i: usize, s: u64, out: &mut [u64; MAX_LEAVES])
-    requires { (i * 8 + 8 ≤ length row.now) × (cost_in column (block_at row.now i) ≤ 1048576) × (s ≤ ceiling) × IsCost column × (i < 512) }
-    ensures { out.new ≡ set out.old i (leaf_stretch (cost_in column) (block_at row.now i) s) }
+fn put_stretch(row: &[u64], cost: Cost, i: usize, s: u64, out: &mut [u64; MAX_LEAVES])
+    requires { (i * 8 + 8 ≤ length row.now) × (cost_in cost (block_at row.now i) ≤ 1048576) × (s ≤ ceiling) × (i < 512) }
+    ensures { out.new ≡ set out.old i (leaf_stretch (cost_in cost) (block_at row.now i) s) }
 {
-    if get(row, i, POINT) == 1 {
-        out[i] = cost(row, i, column) + s;
+    out[i] = if get(row, i, POINT) == 1 {
+        cost.of(row, i) + s
     } else {
-        out[i] = 0;
-    }
+        0
+    };
 }
 
 // What is silent before the record i, where t would be, were it no point.
@@ -420,182 +358,154 @@ fn silent_before(row: &[u64], i: usize, t: u64) -> u64
 // Where those forms end, and how many brackets may open in them, only the contract asks.
 fn stretch_flat(
     row: &[u64],
-    column: usize,
+    cost: Cost,
     i: usize,
     to: usize,
     left: usize,
-    heads: &[u64; 48],
+    heads: &[SilentSum; MAX_FUNCTIONS],
     s: u64,
     out: &mut [u64; MAX_LEAVES],
     follows: &mut [u64; MAX_FUNCTIONS],
 )
-    requires i_lt_to { (i < to) × (to * 8 ≤ length row.now) × (to ≤ 512) × (field row.now i 0 < 2) × IsCost column }
-    requires under { Under limit heads.now × (s ≤ limit) }
+    requires i_lt_to { (i < to) × (to * 8 ≤ length row.now) × (to ≤ 512) × (field row.now i 0 < 2) }
+    requires under { WithinLimits heads.now × (s ≤ limit) }
     requires piece { Piece row.now left i to }
     ensures by_index { (ms : List ℕ) (p : Piece row.now left i to) → out.new ≡ sets out.old i
-        (front (stretch_rule (cost_in column) ms (λ f x. silence_of (head_at heads.now f) x)) p.part.lines s) }
+        (front (stretch_rule (cost_in cost) ms (λ f x. silence_of (head_at heads.now f) x)) p.part.lines s) }
     ensures by_index_2 { (ms : List ℕ) (p : Piece row.now left i to)
-        → follows.new ≡ follow_first (cost_in column) ms p.part.lines s follows.old }
+        → follows.new ≡ follow_first (cost_in cost) ms p.part.lines s follows.old }
 {
-    if get(row, i, KIND) == LEAF {
-        put_stretch(row, column, i, s, out);
-        return;
+    match form_kind(row, i) {
+        Kind::Call => {
+            let f = index(row, i, DETAIL);
+            follows[f] = follows[f].max(s);
+            put_stretch(row, cost, i, heads[f].before(s), out);
+        }
+        _ => put_stretch(row, cost, i, s, out),
     }
-    let f = index(row, i, DETAIL);
-    let q = head(heads, f);
-    follows[f] = larger(follows[f], s);
-    put_stretch(row, column, i, apply(q, s), out);
 }
 
 // Writes the stretch of each leaf of the if at i, the first form of those from i up to `to`, which s follows, and notes what follows the functions
 // that it calls; returns the silence from i on.
 #[cycle(stretch_block_stretch_form_stretch_if)]
 fn stretch_if(
-    row: &[u64],
-    column: usize,
+    walk: &Walk,
+    cost: Cost,
     i: usize,
     to: usize,
     left: usize,
-    sums: &[u64; MAX_FUNCTIONS],
-    turn: &[u64; MAX_LEAVES],
-    heads: &[u64; 48],
+    heads: &[SilentSum; MAX_FUNCTIONS],
     s: u64,
     seq: &mut [usize; MAX_LEAVES],
     out: &mut [u64; MAX_LEAVES],
     follows: &mut [u64; MAX_FUNCTIONS],
 ) -> u64
-    requires i_lt_to { (i < to) × (field row.now i 0 ≡ 3) }
-    requires to_in_bounds { (to * 8 ≤ length row.now) × (to ≤ 512) × (length seq.old ≡ 512) × Under limit heads.now × IsCost column }
-    requires ready { Ready (cost_in column) row.now sums.now turn.now left i to s }
-    ensures value { (p : Ready (cost_in column) row.now sums.now turn.now left i to s)
-        → result ≡ first_silence (cost_in column) sums.now p.forms.part.lines s }
-    ensures out_after { (p : Ready (cost_in column) row.now sums.now turn.now left i to s)
+    requires i_lt_to { (i < to) × (field walk.now.row.now i 0 ≡ 3) }
+    requires low { WithinLimits heads.now }
+    requires ready { ReadyIn (cost_in cost) walk.now left i to s }
+    ensures value { (p : ReadyIn (cost_in cost) walk.now left i to s)
+        → result ≡ first_silence (cost_in cost) walk.now.sums.now p.forms.part.lines s }
+    ensures out_after { (p : ReadyIn (cost_in cost) walk.now left i to s)
         → out.new ≡ sets out.old i
-        (front (stretch_rule (cost_in column) sums.now (λ f x. silence_of (head_at heads.now f) x)) p.forms.part.lines s) }
-    ensures follows_after { (p : Ready (cost_in column) row.now sums.now turn.now left i to s)
-        → follows.new ≡ follow_first (cost_in column) sums.now p.forms.part.lines s follows.old }
+        (front (stretch_rule (cost_in cost) walk.now.sums.now (λ f x. silence_of (head_at heads.now f) x)) p.forms.part.lines s) }
+    ensures follows_after { (p : ReadyIn (cost_in cost) walk.now left i to s)
+        → follows.new ≡ follow_first (cost_in cost) walk.now.sums.now p.forms.part.lines s follows.old }
     ensures kept { Kept (i + 1) seq.old seq.new }
 {
-    let after = index(row, i, AFTER);
-    let other = index(row, i, OTHER);
+    let after = index(walk.row, i, AFTER);
+    let other = index(walk.row, i, OTHER);
     let rest = left - 2;
-    let a = stretch_block(
-        row,
-        column,
-        i + 1,
-        other,
-        rest,
-        sums,
-        turn,
-        heads,
-        s,
-        seq,
-        out,
-        follows,
-    );
-    let b = stretch_block(
-        row, column, other, after, rest, sums, turn, heads, s, seq, out, follows,
-    );
-    let x = larger(a, b);
-    put_stretch(row, column, i, x, out);
-    silent_before(row, i, cost(row, i, column) + x)
+    let a = stretch_block(walk, cost, i + 1, other, rest, heads, s, seq, out, follows);
+    let b = stretch_block(walk, cost, other, after, rest, heads, s, seq, out, follows);
+    let x = a.max(b);
+    put_stretch(walk.row, cost, i, x, out);
+    silent_before(walk.row, i, cost.of(walk.row, i) + x)
 }
 
 // Writes the stretch of each leaf of the form at i, the first of those from i up to `to`, which s follows, and notes what follows the functions
 // that it calls; returns the silence from i on.
 #[cycle(stretch_block_stretch_form_stretch_if)]
 fn stretch_form(
-    row: &[u64],
-    column: usize,
+    walk: &Walk,
+    cost: Cost,
     i: usize,
     to: usize,
     left: usize,
-    sums: &[u64; MAX_FUNCTIONS],
-    turn: &[u64; MAX_LEAVES],
-    heads: &[u64; 48],
+    heads: &[SilentSum; MAX_FUNCTIONS],
     s: u64,
     seq: &mut [usize; MAX_LEAVES],
     out: &mut [u64; MAX_LEAVES],
     follows: &mut [u64; MAX_FUNCTIONS],
 ) -> u64
     requires i_lt_to { i < to }
-    requires to_in_bounds { (to * 8 ≤ length row.now) × (to ≤ 512) × (length seq.old ≡ 512) × Under limit heads.now × IsCost column }
-    requires ready { Ready (cost_in column) row.now sums.now turn.now left i to s }
-    ensures value { (p : Ready (cost_in column) row.now sums.now turn.now left i to s)
-        → result ≡ first_silence (cost_in column) sums.now p.forms.part.lines s }
-    ensures out_after { (p : Ready (cost_in column) row.now sums.now turn.now left i to s)
+    requires low { WithinLimits heads.now }
+    requires ready { ReadyIn (cost_in cost) walk.now left i to s }
+    ensures value { (p : ReadyIn (cost_in cost) walk.now left i to s)
+        → result ≡ first_silence (cost_in cost) walk.now.sums.now p.forms.part.lines s }
+    ensures out_after { (p : ReadyIn (cost_in cost) walk.now left i to s)
         → out.new ≡ sets out.old i
-        (front (stretch_rule (cost_in column) sums.now (λ f x. silence_of (head_at heads.now f) x)) p.forms.part.lines s) }
-    ensures follows_after { (p : Ready (cost_in column) row.now sums.now turn.now left i to s)
-        → follows.new ≡ follow_first (cost_in column) sums.now p.forms.part.lines s follows.old }
+        (front (stretch_rule (cost_in cost) walk.now.sums.now (λ f x. silence_of (head_at heads.now f) x)) p.forms.part.lines s) }
+    ensures follows_after { (p : ReadyIn (cost_in cost) walk.now left i to s)
+        → follows.new ≡ follow_first (cost_in cost) walk.now.sums.now p.forms.part.lines s follows.old }
     ensures kept { Kept (i + 1) seq.old seq.new }
 {
-    let kind = get(row, i, KIND);
-    if kind == IF {
-        return stretch_if(
-            row, column, i, to, left, sums, turn, heads, s, seq, out, follows,
-        );
+    let kind = form_kind(walk.row, i);
+    if let Kind::If = kind {
+        return stretch_if(walk, cost, i, to, left, heads, s, seq, out, follows);
     }
-    let t = silent_before(row, i, weight(row, column, i, to, left, sums, turn) + s);
-    if kind == LOOP {
-        let after = index(row, i, AFTER);
+    let t = silent_before(walk.row, i, weight(walk, cost, i, to, left) + s);
+    if let Kind::Loop = kind {
+        let after = index(walk.row, i, AFTER);
         let b = stretch_block(
-            row,
-            column,
+            walk,
+            cost,
             i + 1,
             after,
             left - 1,
-            sums,
-            turn,
             heads,
             0,
             seq,
             out,
             follows,
         );
-        put_stretch(row, column, i, larger(s, b), out);
+        put_stretch(walk.row, cost, i, s.max(b), out);
         return t;
     }
-    stretch_flat(row, column, i, to, left, heads, s, out, follows);
+    stretch_flat(walk.row, cost, i, to, left, heads, s, out, follows);
     t
 }
 
 // Writes the stretch of each leaf from `from` up to `to`, which s follows, and notes what follows the functions that they call; returns the
-// silence from `from` on.
+// silence from `from` on. Not one function with `tail_block`: the two share this loop alone, and a closure for its body would have to lend `seq` on.
 #[cycle(stretch_block_stretch_form_stretch_if)]
 fn stretch_block(
-    row: &[u64],
-    column: usize,
+    walk: &Walk,
+    cost: Cost,
     from: usize,
     to: usize,
     left: usize,
-    sums: &[u64; MAX_FUNCTIONS],
-    turn: &[u64; MAX_LEAVES],
-    heads: &[u64; 48],
+    heads: &[SilentSum; MAX_FUNCTIONS],
     s: u64,
     seq: &mut [usize; MAX_LEAVES],
     out: &mut [u64; MAX_LEAVES],
     follows: &mut [u64; MAX_FUNCTIONS],
 ) -> u64
-    requires to_in_bounds { (to * 8 ≤ length row.now) × (to ≤ 512) × (length seq.old ≡ 512) × Under limit heads.now × IsCost column }
-    requires sized { Sized (cost_in column) row.now sums.now turn.now left from to s }
-    ensures value { (p : Sized (cost_in column) row.now sums.now turn.now left from to s)
-        → result ≡ line_silence (cost_in column) sums.now p.forms.part.lines s }
-    ensures out_after { (p : Sized (cost_in column) row.now sums.now turn.now left from to s)
+    requires low { WithinLimits heads.now }
+    requires sized { SizedIn (cost_in cost) walk.now left from to s }
+    ensures value { (p : SizedIn (cost_in cost) walk.now left from to s)
+        → result ≡ line_silence (cost_in cost) walk.now.sums.now p.forms.part.lines s }
+    ensures out_after { (p : SizedIn (cost_in cost) walk.now left from to s)
         → out.new ≡ sets out.old from
-        (column_of (stretch_rule (cost_in column) sums.now (λ f x. silence_of (head_at heads.now f) x)) p.forms.part.lines s) }
-    ensures follows_after { (p : Sized (cost_in column) row.now sums.now turn.now left from to s)
-        → follows.new ≡ follow_calls (cost_in column) sums.now p.forms.part.lines s follows.old }
+        (column_of (stretch_rule (cost_in cost) walk.now.sums.now (λ f x. silence_of (head_at heads.now f) x)) p.forms.part.lines s) }
+    ensures follows_after { (p : SizedIn (cost_in cost) walk.now left from to s)
+        → follows.new ≡ follow_calls (cost_in cost) walk.now.sums.now p.forms.part.lines s follows.old }
     ensures kept { Kept from seq.old seq.new }
 {
-    let mut n = list(row, from, to, seq);
+    let n = list(walk.row, from, to, seq);
     let mut t = s;
-    while 0 < n {
-        n -= 1;
-        let i = seq[from + n];
-        t = stretch_form(
-            row, column, i, to, left, sums, turn, heads, t, seq, out, follows,
-        );
+    for k in (0..n).rev() {
+        let i = seq[from + k];
+        t = stretch_form(walk, cost, i, to, left, heads, t, seq, out, follows);
     }
     t
 }
@@ -605,143 +515,91 @@ pub fn measure(
     row: &[u64],
     starts: &[usize],
     n: usize,
-    column: usize,
+    cost: Cost,
     turn: &mut [u64; MAX_LEAVES],
 ) -> [u64; MAX_FUNCTIONS]
-    requires n_in_bounds { (n < length starts.now) × (n ≤ 16) × (length turn.old ≡ 512) × IsCost column }
+    requires n_in_bounds { (n < length starts.now) × (n ≤ 16) × (length turn.old ≡ 512) }
     requires plan_of { PlanOf row.now starts.now n }
     ensures measured { (v : PlanOf row.now starts.now n)
-        → Measured (cost_in column) (lines_of v) starts.now n result turn.new }
+        → Measured (cost_in cost) (lines_of v) starts.now n result turn.new }
     ensures by_index { ((f : ℕ) → n ≤ f → get_or result f 0 ≡ 0) × (length turn.new ≡ 512) }
 {
     let mut totals: [u64; MAX_FUNCTIONS] = [0; MAX_FUNCTIONS];
-    let mut f = 0;
-    while f < n {
-        let t = sum_block(
+    for f in 0..n {
+        totals[f] = sum_block(
             row,
-            column,
+            cost,
             starts[f],
             starts[f + 1],
             INNER_BRACKETS,
             &totals,
             turn,
         );
-        totals[f] = t;
-        f += 1;
     }
     totals
 }
 
 // Writes the tail of every leaf of the n functions.
-fn tail_all(
-    row: &[u64],
-    starts: &[usize],
-    n: usize,
-    sums: &[u64; MAX_FUNCTIONS],
-    turn: &[u64; MAX_LEAVES],
-    out: &mut [u64; MAX_LEAVES],
-)
+fn tail_all(walk: &Walk, starts: &[usize], n: usize, out: &mut [u64; MAX_LEAVES])
     requires n_in_bounds { (n < length starts.now) × (n ≤ 16) }
-    requires summed { Summed C row.now starts.now n sums.now turn.now }
-    ensures { (v : Summed C row.now starts.now n sums.now turn.now)
-        → out.new ≡ tails_written sums.now (lines_of v.plan) starts.now n out.old }
+    requires summed { Summed C walk.now.row.now starts.now n walk.now.sums.now walk.now.turn.now }
+    ensures { (v : Summed C walk.now.row.now starts.now n walk.now.sums.now walk.now.turn.now)
+        → out.new ≡ tails_written walk.now.sums.now (lines_of v.plan) starts.now n out.old }
 {
     let mut seq: [usize; MAX_LEAVES] = [0; MAX_LEAVES];
-    let mut f = 0;
-    while f < n {
+    for f in 0..n {
         tail_block(
-            row,
+            walk,
             starts[f],
             starts[f + 1],
             INNER_BRACKETS,
-            sums,
-            turn,
             0,
             &mut seq,
             out,
         );
-        f += 1;
     }
-}
-
-// Keeps the silence of the function f.
-fn keep(heads: &mut [u64; 48], f: usize, q: SilentSum)
-    requires { f < 16 }
-    ensures { heads.new ≡ sets heads.old (f * 3) (q.hit ∷ q.pass ∷ bit q.free ∷ []) }
-{
-    let mut free: u64 = 0;
-    if q.free {
-        free = 1;
-    }
-    heads[f * 3] = q.hit;
-    heads[f * 3 + 1] = q.pass;
-    heads[f * 3 + 2] = free;
 }
 
 // The silence of each of the n functions.
-fn silence_all(
-    row: &[u64],
-    starts: &[usize],
-    n: usize,
-    column: usize,
-    sums: &[u64; MAX_FUNCTIONS],
-    turn: &[u64; MAX_LEAVES],
-) -> [u64; 48]
-    requires n_in_bounds { (n < length starts.now) × (n ≤ 16) × IsCost column }
-    requires summed { Summed (cost_in column) row.now starts.now n sums.now turn.now }
-    ensures under { Under limit result }
-    ensures s_value { (v : Summed (cost_in column) row.now starts.now n sums.now turn.now) (f : ℕ) (s : ℕ) → f < n
-        → silence_of (head_at result f) s ≡ line_silence (cost_in column) sums.now (lines_of v.plan f) s }
+fn silence_all(walk: &Walk, starts: &[usize], n: usize, cost: Cost) -> [SilentSum; MAX_FUNCTIONS]
+    requires n_in_bounds { (n < length starts.now) × (n ≤ 16) }
+    requires summed { Summed (cost_in cost) walk.now.row.now starts.now n walk.now.sums.now walk.now.turn.now }
+    ensures under { WithinLimits result }
+    ensures s_value { (v : Summed (cost_in cost) walk.now.row.now starts.now n walk.now.sums.now walk.now.turn.now) (f : ℕ) (s : ℕ) → f < n
+        → silence_of (head_at result f) s ≡ line_silence (cost_in cost) walk.now.sums.now (lines_of v.plan f) s }
 {
-    let mut heads: [u64; 48] = [0; 48];
-    let mut f = 0;
-    while f < n {
-        let q = silence_block(
-            row,
-            column,
-            starts[f],
-            starts[f + 1],
-            INNER_BRACKETS,
-            sums,
-            turn,
-        );
-        keep(&mut heads, f, q);
-        f += 1;
+    let mut heads: [SilentSum; MAX_FUNCTIONS] = [SILENT; MAX_FUNCTIONS];
+    for f in 0..n {
+        heads[f] = silence_block(walk, cost, starts[f], starts[f + 1], INNER_BRACKETS);
     }
     heads
 }
 
 // Writes the stretch of every leaf of the n functions, from the last function to the first.
 fn stretch_all(
-    row: &[u64],
+    walk: &Walk,
     starts: &[usize],
     n: usize,
-    column: usize,
-    sums: &[u64; MAX_FUNCTIONS],
-    turn: &[u64; MAX_LEAVES],
-    heads: &[u64; 48],
+    cost: Cost,
+    heads: &[SilentSum; MAX_FUNCTIONS],
     out: &mut [u64; MAX_LEAVES],
 )
-    requires n_in_bounds { (n < length starts.now) × (n ≤ 16) × Under limit heads.now × IsCost column }
-    requires summed { Summed (cost_in column) row.now starts.now n sums.now turn.now }
-    ensures { (v : Summed (cost_in column) row.now starts.now n sums.now turn.now)
-        → out.new ≡ stretches_written (cost_in column) sums.now
+    requires n_in_bounds { (n < length starts.now) × (n ≤ 16) × WithinLimits heads.now }
+    requires summed { Summed (cost_in cost) walk.now.row.now starts.now n walk.now.sums.now walk.now.turn.now }
+    ensures { (v : Summed (cost_in cost) walk.now.row.now starts.now n walk.now.sums.now walk.now.turn.now)
+        → out.new ≡ stretches_written (cost_in cost) walk.now.sums.now
         (λ f x. silence_of (head_at heads.now f) x) (lines_of v.plan) starts.now n n out.old }
 {
     let mut seq: [usize; MAX_LEAVES] = [0; MAX_LEAVES];
     let mut follows: [u64; MAX_FUNCTIONS] = [0; MAX_FUNCTIONS];
-    let mut f = n;
-    while 0 < f {
-        f -= 1;
+    for f in (0..n).rev() {
         let s = follows[f];
         stretch_block(
-            row,
-            column,
+            walk,
+            cost,
             starts[f],
             starts[f + 1],
             INNER_BRACKETS,
-            sums,
-            turn,
             heads,
             s,
             &mut seq,
@@ -757,28 +615,29 @@ pub fn stretches(
     row: &[u64],
     starts: &[usize],
     n: usize,
-    column: usize,
+    cost: Cost,
     sums: &[u64; MAX_FUNCTIONS],
     turn: &[u64; MAX_LEAVES],
     stretch: &mut [u64; MAX_LEAVES],
 ) -> u64
-    requires le_n { (1 ≤ n) × (n < length starts.now) × (n ≤ 16) × IsCost column }
-    requires summed { Summed (cost_in column) row.now starts.now n sums.now turn.now }
-    ensures value { (v : Summed (cost_in column) row.now starts.now n sums.now turn.now)
-        → result ≡ line_silence (cost_in column) sums.now (lines_of v.plan (n - 1)) 0 }
-    ensures stretch_after { (v : Summed (cost_in column) row.now starts.now n sums.now turn.now)
-        → stretch.new ≡ stretches_written (cost_in column) sums.now
-        (λ f s. line_silence (cost_in column) sums.now (lines_of v.plan f) s)
+    requires le_n { (1 ≤ n) × (n < length starts.now) × (n ≤ 16) }
+    requires summed { Summed (cost_in cost) row.now starts.now n sums.now turn.now }
+    ensures value { (v : Summed (cost_in cost) row.now starts.now n sums.now turn.now)
+        → result ≡ line_silence (cost_in cost) sums.now (lines_of v.plan (n - 1)) 0 }
+    ensures stretch_after { (v : Summed (cost_in cost) row.now starts.now n sums.now turn.now)
+        → stretch.new ≡ stretches_written (cost_in cost) sums.now
+        (λ f s. line_silence (cost_in cost) sums.now (lines_of v.plan f) s)
         (lines_of v.plan) starts.now n n stretch.old }
 {
-    let heads = silence_all(row, starts, n, column, sums, turn);
-    stretch_all(row, starts, n, column, sums, turn, &heads, stretch);
-    let q = head(&heads, n - 1);
-    apply(q, 0)
+    let walk = Walk { row, sums, turn };
+    let heads = silence_all(&walk, starts, n, cost);
+    stretch_all(&walk, starts, n, cost, &heads, stretch);
+    heads[n - 1].before(0)
 }
 
 // Writes the tail and the stretch of every leaf of the n functions, and returns the stretch of the release. Given are the functions' totals at
-// both costs, and the sums of their loops' rounds: `turn` at C, `max_load_turn` at M.
+// both costs, and the sums of their loops' rounds: `turn` at C, `max_load_turn` at M. Kept beside `stretches`, which it calls: a lent table is checked by that
+// alone.
 pub fn derive(
     row: &[u64],
     starts: &[usize],
@@ -804,31 +663,30 @@ pub fn derive(
         (λ f s. line_silence M max_load.now (lines_of v.plan f) s)
         (lines_of v.plan) starts.now n n stretch.old }
 {
-    tail_all(row, starts, n, isolated, turn, tail);
-    stretches(row, starts, n, MAX_LOAD, max_load, max_load_turn, stretch)
+    let walk = Walk {
+        row,
+        sums: isolated,
+        turn,
+    };
+    tail_all(&walk, starts, n, tail);
+    stretches(
+        row,
+        starts,
+        n,
+        Cost::MaxLoad,
+        max_load,
+        max_load_turn,
+        stretch,
+    )
 }
 
-// Whether two numbers are the same.
-fn equal(x: u64, y: u64) -> bool
-    ensures { Says result (x ≡ y) }
-{
-    if x != y {
-        return false;
-    }
-    true
-}
-
-// Whether the tail t is not below what follows its form, and not over the limit.
-fn within(x: u64, t: u64) -> bool
-    ensures { Says result ((x ≤ t) × (t ≤ limit)) }
-{
-    if t < x {
-        return false;
-    }
-    if LIMIT < t {
-        return false;
-    }
-    true
+// What is lent to be checked: the row, the functions' isolated totals, the sums of the loops' rounds, and the tails.
+#[derive(Clone, Copy)]
+struct Lent<'a> {
+    row: &'a [u64],
+    sums: &'a [u64; MAX_FUNCTIONS],
+    turn: &'a [u64],
+    tail: &'a [u64],
 }
 
 // The number at the start of the forms from `from` up to `to`, which e follows.
@@ -853,15 +711,13 @@ fn flat_fits(
     ensures { (p : Piece row.now left i to) → Says result (d ≡ lead C sums.now p.part.lines) }
 {
     let c = get(row, i, ISOLATED);
-    if get(row, i, KIND) == LEAF {
-        return equal(d, c);
+    match form_kind(row, i) {
+        Kind::Call => {
+            let total = sums[index(row, i, DETAIL)];
+            total <= d && d - total == c
+        }
+        _ => d == c,
     }
-    let f = index(row, i, DETAIL);
-    let y = sums[f];
-    if d < y {
-        return false;
-    }
-    equal(d - y, c)
 }
 
 // Whether the tail t of the loop at i is its total and the x that follows it, if u is the sum of one of its rounds, and what its body begins with fits t.
@@ -870,14 +726,8 @@ fn loop_fits(row: &[u64], i: usize, after: usize, tail: &[u64], t: u64, u: u64, 
     requires x_le_t { (x ≤ t) × (t ≤ limit) }
     ensures { Says result (LoopFits row.now tail.now i after t u x) }
 {
-    if t < u {
-        return false;
-    }
     let c = get(row, i, ISOLATED);
-    if t - x != c + get(row, i, DETAIL) * u {
-        return false;
-    }
-    equal(t - c, start(tail, i + 1, after, t - u))
+    u <= t && t - x == c + get(row, i, DETAIL) * u && t - c == start(tail, i + 1, after, t - u)
 }
 
 // Whether the tail t of the if at i is its own visit and the larger of what its two parts begin with, where x follows them.
@@ -886,84 +736,55 @@ fn if_fits(row: &[u64], i: usize, other: usize, after: usize, tail: &[u64], t: u
     ensures { Says result (IfFits row.now tail.now i other after t x) }
 {
     let c = get(row, i, ISOLATED);
-    if t < c {
-        return false;
-    }
-    equal(
-        t - c,
-        larger(start(tail, i + 1, other, x), start(tail, other, after, x)),
-    )
+    c <= t && t - c == start(tail, i + 1, other, x).max(start(tail, other, after, x))
 }
 
 // Whether the lent numbers of the form at i, the first of those from i up to `to`, are the derived ones, where x follows the form.
 #[cycle(block_fits_form_fits)]
-fn form_fits(
-    row: &[u64],
-    i: usize,
-    to: usize,
-    left: usize,
-    sums: &[u64; MAX_FUNCTIONS],
-    turn: &[u64],
-    tail: &[u64],
-    x: u64,
-) -> bool
-    requires i_lt_to { (i < to) × (to * 8 ≤ length row.now) × (to ≤ length turn.now) × (to ≤ length tail.now) }
-    requires piece { Piece row.now left i to }
-    ensures { (p : Piece row.now left i to)
-        → Says result (AsDerivedFirst sums.now turn.now tail.now p.part.lines i x) }
+fn form_fits(lent: &Lent, i: usize, to: usize, left: usize, x: u64) -> bool
+    requires i_lt_to { i < to }
+    requires held { Holds lent.now to }
+    requires piece { Piece lent.now.row.now left i to }
+    ensures { (p : Piece lent.now.row.now left i to)
+        → Says result (FirstIn lent.now p.part.lines i x) }
 {
-    let t = tail[i];
-    let u = turn[i];
-    if !within(x, t) {
+    let t = lent.tail[i];
+    let u = lent.turn[i];
+    if t < x || LIMIT < t {
         return false;
     }
-    let kind = get(row, i, KIND);
-    let after = index(row, i, AFTER);
-    if kind == LOOP {
-        if !loop_fits(row, i, after, tail, t, u, x) {
-            return false;
+    let after = index(lent.row, i, AFTER);
+    match form_kind(lent.row, i) {
+        Kind::Loop => {
+            loop_fits(lent.row, i, after, lent.tail, t, u, x)
+                && block_fits(lent, i + 1, after, left - 1, t - u)
         }
-        return block_fits(row, i + 1, after, left - 1, sums, turn, tail, t - u);
-    }
-    if u != 0 {
-        return false;
-    }
-    if kind == IF {
-        let other = index(row, i, OTHER);
-        if !if_fits(row, i, other, after, tail, t, x) {
-            return false;
+        Kind::If => {
+            let other = index(lent.row, i, OTHER);
+            let rest = left - 2;
+            if u != 0 || !if_fits(lent.row, i, other, after, lent.tail, t, x) {
+                return false;
+            }
+            block_fits(lent, i + 1, other, rest, x) && block_fits(lent, other, after, rest, x)
         }
-        let rest = left - 2;
-        if !block_fits(row, i + 1, other, rest, sums, turn, tail, x) {
-            return false;
-        }
-        return block_fits(row, other, after, rest, sums, turn, tail, x);
+        _ => u == 0 && flat_fits(lent.row, i, to, left, lent.sums, t - x),
     }
-    flat_fits(row, i, to, left, sums, t - x)
 }
 
 // Whether the lent numbers of the forms from `from` up to `to`, which e follows in their function, are the derived ones.
 #[cycle(block_fits_form_fits)]
-fn block_fits(
-    row: &[u64],
-    from: usize,
-    to: usize,
-    left: usize,
-    sums: &[u64; MAX_FUNCTIONS],
-    turn: &[u64],
-    tail: &[u64],
-    e: u64,
-) -> bool
-    requires to_in_bounds { (to * 8 ≤ length row.now) × (to ≤ length turn.now) × (to ≤ length tail.now) × (e ≤ limit) }
-    requires piece { Piece row.now left from to }
-    ensures { (p : Piece row.now left from to)
-        → Says result (AsDerived sums.now turn.now tail.now p.part.lines from e) }
+fn block_fits(lent: &Lent, from: usize, to: usize, left: usize, e: u64) -> bool
+    requires held { Holds lent.now to }
+    requires low { e ≤ limit }
+    requires piece { Piece lent.now.row.now left from to }
+    ensures { (p : Piece lent.now.row.now left from to)
+        → Says result (DerivedIn lent.now p.part.lines from e) }
 {
     let mut i = from;
     while i < to {
-        let next = after(row, i);
-        let x = start(tail, next, to, e);
-        if !form_fits(row, i, to, left, sums, turn, tail, x) {
+        let next = after(lent.row, i);
+        let x = start(lent.tail, next, to, e);
+        if !form_fits(lent, i, to, left, x) {
             return false;
         }
         i = next;
@@ -976,38 +797,20 @@ fn settled(sums: &[u64; MAX_FUNCTIONS], n: usize) -> bool
     requires { n ≤ 16 }
     ensures { Says result ((f : ℕ) → n ≤ f → f < 16 → get_or sums.now f 0 ≡ 0) }
 {
-    let mut f = n;
-    while f < MAX_FUNCTIONS {
-        if sums[f] != 0 {
-            return false;
-        }
-        f += 1;
-    }
-    true
+    sums[n..].iter().all(|total| *total == 0)
 }
 
 // Whether the lent isolated total of the function f of n, and its turns and tails, are the derived ones and its total is not over the limit.
-fn function_fits(
-    row: &[u64],
-    starts: &[usize],
-    n: usize,
-    f: usize,
-    sums: &[u64; MAX_FUNCTIONS],
-    turn: &[u64],
-    tail: &[u64],
-) -> bool
+fn function_fits(lent: &Lent, starts: &[usize], n: usize, f: usize) -> bool
     requires f_lt_n { (f < n) × (n < length starts.now) × (n ≤ 16) }
-    requires n_in_bounds { (get_or starts.now n 0 ≤ length turn.now) × (get_or starts.now n 0 ≤ length tail.now) }
-    requires plan_of { PlanOf row.now starts.now n }
-    ensures { (v : PlanOf row.now starts.now n)
-        → Says result (FunctionFits sums.now turn.now tail.now starts.now (lines_of v) f) }
+    requires n_in_bounds { (get_or starts.now n 0 ≤ length lent.now.turn.now) × (get_or starts.now n 0 ≤ length lent.now.tail.now) }
+    requires plan_of { PlanOf lent.now.row.now starts.now n }
+    ensures { (v : PlanOf lent.now.row.now starts.now n)
+        → Says result (FunctionIn lent.now starts.now (lines_of v) f) }
 {
     let from = starts[f];
     let to = starts[f + 1];
-    if !block_fits(row, from, to, INNER_BRACKETS, sums, turn, tail, 0) {
-        return false;
-    }
-    equal(sums[f], start(tail, from, to, 0))
+    block_fits(lent, from, to, INNER_BRACKETS, 0) && lent.sums[f] == start(lent.tail, from, to, 0)
 }
 
 // Whether lent isolated totals of the n functions, and lent columns of turns and tails, are the derived ones and no total is over the limit. Nothing is
@@ -1025,21 +828,20 @@ pub fn tails_agree(
     ensures { (v : PlanOf row.now starts.now n)
         → Says result (AllDerived (lines_of v) starts.now n sums.now turn.now tail.now) }
 {
-    if turn.len() < starts[n] {
+    if turn.len() < starts[n] || tail.len() < starts[n] || !settled(sums, n) {
         return false;
     }
-    if tail.len() < starts[n] {
-        return false;
-    }
-    if !settled(sums, n) {
-        return false;
-    }
-    let mut f = 0;
-    while f < n {
-        if !function_fits(row, starts, n, f, sums, turn, tail) {
+    let lent = Lent {
+        row,
+        sums,
+        turn,
+        tail,
+    };
+    // Kept a `for`: with `(0..n).all(..)` the proof does not find what the closure's call ensures.
+    for f in 0..n {
+        if !function_fits(&lent, starts, n, f) {
             return false;
         }
-        f += 1;
     }
     true
 }

@@ -8,6 +8,7 @@ use Prim.Native.Nat.{ℕ, ◌+◌, ◌-◌, ◌≤◌}
 use native.Mathlib.Omega.{arith}
 use lib.Dec.{leb, ltb}
 use lib.ListN.{length, take, drop, length-replicate}
+use Rattle.model.specs.declared.Refusal.TheVariants.{Unfit, Backward, Astray}
 use Rattle.model.specs.Plan.{C, Plan, all_leaves}
 use Rattle.model.specs.Forms.{main}
 use Rattle.model.specs.Total.{total}
@@ -168,15 +169,15 @@ module _ (p : Plan) (a : Accepted p) where
   keeps_running s ls st (Report n t) =
       let tie : Tied s (running_at s ls) = (ls, st, refl) in
       keeps_pick s (is_point (all_leaves p.functions) n) _ _
-      (keeps_pick s (ltb t s.reading) (refuse (running_at s ls) 16) _ tie (keeps_found s ls st (running_at s ls) tie n t (next_levels p (place_of s ls) n) refl)) tie
+      (keeps_pick s (ltb t s.reading) (refuse (running_at s ls) Backward) _ tie (keeps_found s ls st (running_at s ls) tie n t (next_levels p (place_of s ls) n) refl)) tie
   keeps_running s ls st (End t) =
       let tie : Tied s (running_at s ls) = (ls, st, refl) in
-      keeps_pick s (ltb t s.reading) (refuse (running_at s ls) 16) _ tie
-      (keeps_pick s (can_close p (place_of s ls)) (record { state = idle; answer = Closed (ending s.others) (late p t) }) (refuse (running_at s ls) 17) refl tie)
+      keeps_pick s (ltb t s.reading) (refuse (running_at s ls) Backward) _ tie
+      (keeps_pick s (can_close p (place_of s ls)) (record { state = idle; answer = Closed (ending s.others) (late p t) }) (refuse (running_at s ls) Astray) refl tie)
 
   keeps_idle : (s : State) (c : Call) → s.running ≡ false → Keeps s (respond p idle c)
   unfolding respond
-  keeps_idle s Release e = keeps_pick s (leb (total C (main p) + p.switch) p.deadline) (decided p at_release 0 Running) (refuse idle 13) (written_release s 0 _) e
+  keeps_idle s Release e = keeps_pick s (leb (total C (main p) + p.switch) p.deadline) (decided p at_release 0 Running) (refuse idle Unfit) (written_release s 0 _) e
   keeps_idle s (Report n t) e = e
   keeps_idle s (End t) e = e
 

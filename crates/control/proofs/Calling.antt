@@ -1,11 +1,12 @@
 -- The calls on lent slices, by whether these are the table of an accepted plan and whether a release is open. Assumes nothing.
-use mathlib.Core.Bool.{true, false}
+use mathlib.Core.Bool.{Bool, true, false}
 use mathlib.Core.List.{List}
 use mathlib.Core.Option.{Option, none, some}
 use mathlib.Core.Path.{◌≡◌, refl, ap, sym, ◌∙◌}
 use Prim.Native.Nat.{ℕ, ◌*◌, ◌≤◌}
 use native.Mathlib.Omega.{arith}
 use lib.ListN.{length, take}
+use Rattle.model.specs.declared.Refusal.TheVariants.{Broken, Busy, Idle}
 use Rattle.model.specs.Calls.{refuse}
 use Rattle.model.specs.Plan.{Plan}
 use Rattle.model.specs.Acceptance.{sizes}
@@ -33,15 +34,15 @@ not_standing p s h = by (standing p s) refl
     by (some ls) e = absurd (h (ls, e))
 
 -- Calls that are refused whatever the plan: 14 where no release is open, 12 where one is.
-pub idle_report : (p : Plan) (s : State) (n t : ℕ) {r : Step} → r ≡ as_step (refuse s 14) → r ≡ as_step (reply p s idle (Report n t))
+pub idle_report : (p : Plan) (s : State) (n t : ℕ) {r : Step} → r ≡ as_step (refuse s Idle) → r ≡ as_step (reply p s idle (Report n t))
 unfolding respond
 idle_report p s n t z = z
 
-pub idle_end : (p : Plan) (s : State) (t : ℕ) {r : Step} → r ≡ as_step (refuse s 14) → r ≡ as_step (reply p s idle (End t))
+pub idle_end : (p : Plan) (s : State) (t : ℕ) {r : Step} → r ≡ as_step (refuse s Idle) → r ≡ as_step (reply p s idle (End t))
 unfolding respond
 idle_end p s t z = z
 
-pub busy : (p : Plan) (s : State) (ls : Levels) {r : Step} → r ≡ as_step (refuse s 12) → r ≡ as_step (reply p s (running_at s ls) Release)
+pub busy : (p : Plan) (s : State) (ls : Levels) {r : Step} → r ≡ as_step (refuse s Busy) → r ≡ as_step (reply p s (running_at s ls) Release)
 unfolding respond
 busy p s ls z = z
 
@@ -50,11 +51,11 @@ module _ (row turns tails stretches : List ℕ) (h : Head) where
   t = table_at row turns tails stretches h
 
   -- A table that the check finds bad.
-  pub bad_table : good t ≡ false → (s : State) (c : Call) → call_on t s c ≡ refuse s 11
+  pub bad_table : good t ≡ false → (s : State) (c : Call) → call_on t s c ≡ refuse s Broken
   unfolding call_on
   bad_table e s c = by (plan_of t) refl e
     where
-      by : (o : Option Plan) → plan_of t ≡ o → found o ≡ false → on_plan s c o ≡ refuse s 11
+      by : (o : Option Plan) → plan_of t ≡ o → found o ≡ false → on_plan s c o ≡ refuse s Broken
       by none z e = refl
       by (some p) z e = absurd (let y : ◌≡◌ {A = ℕ} 0 1 = cc in omega arith)
 
@@ -81,6 +82,10 @@ module _ (row turns tails stretches : List ℕ) (h : Head) where
             };
             plan_is = z;
           }
+
+-- One whose check said so.
+pub owned : {row turns tails stretches : List ℕ} {h : Head} {b : Bool} → b ≡ good (table_at row turns tails stretches h) → b ≡ true → Owned row turns tails stretches h
+owned {row} {turns} {tails} {stretches} {h} e y = good_table row turns tails stretches h (sym e ∙ y)
 
 module _ {row turns tails stretches : List ℕ} {h : Head} (o : Owned row turns tails stretches h) where
   abbrev of : Plan
@@ -117,7 +122,7 @@ module _ {row turns tails stretches : List ℕ} {h : Head} (o : Owned row turns 
     pub on_idle : s.running ≡ false → r ≡ as_step (reply of s idle c) → r ≡ as_step (call_on (table_at row turns tails stretches h) s c)
     on_idle e z = z ∙ ap (λ x. as_step x) (sym (on_table s c ∙ ap (λ b. on_state of s c (read_state of s b)) e))
 
-    pub on_broken : s.running ≡ true → (GoodState of s → ⊥) → r ≡ as_step (refuse s 11) → r ≡ as_step (call_on (table_at row turns tails stretches h) s c)
+    pub on_broken : s.running ≡ true → (GoodState of s → ⊥) → r ≡ as_step (refuse s Broken) → r ≡ as_step (call_on (table_at row turns tails stretches h) s c)
     on_broken e b z = z ∙ ap (λ x. as_step x) (sym (found_running s c none e (not_standing of s b)))
 
     pub on_running : s.running ≡ true → (ls : Levels) → standing of s ≡ some ls → r ≡ as_step (reply of s (running_at s ls) c) →

@@ -8,6 +8,7 @@ use native.Mathlib.Omega.{arith}
 use lib.Dec.{ltb}
 use lib.ListN.{length, get_or}
 use borrow.Author.Tests.{lt-ltb, le-ltb}
+use Rattle.model.specs.declared.Refusal.TheVariants.{Backward, Astray}
 use Rattle.model.specs.Calls.{refuse}
 use Rattle.model.specs.Plan.{Plan}
 use Rattle.model.specs.Forms.{done}
@@ -57,11 +58,11 @@ module _ {row : List ℕ} {h : Head} (q : Rowed row h) (s : State) where
 
   -- What is answered: 16, 17, or the end.
   module _ (t : ℕ) (ls : Levels) where
-    pub too_early : {r : Step} → t < s.reading → r ≡ as_step (refuse s 16) → r ≡ as_step (reply of s (running_at s ls) (End t))
+    pub too_early : {r : Step} → t < s.reading → r ≡ as_step (refuse s Backward) → r ≡ as_step (reply of s (running_at s ls) (End t))
     unfolding respond
     too_early b z = rw (lt-ltb t s.reading b) z
 
-    pub no_end : {r : Step} → s.reading ≤ t → can_close of (place_of s ls) ≡ false → r ≡ as_step (refuse s 17) → r ≡ as_step (reply of s (running_at s ls) (End t))
+    pub no_end : {r : Step} → s.reading ≤ t → can_close of (place_of s ls) ≡ false → r ≡ as_step (refuse s Astray) → r ≡ as_step (reply of s (running_at s ls) (End t))
     unfolding respond
     no_end b m z = rw (le-ltb t s.reading b, m) z
 

@@ -12,6 +12,7 @@ use borrow.Author.Tests.{le-ltb, le-leb, lt-leb}
 use mir.Syntax.{w64}
 use mir.Val.{SFits, to_z, of_z}
 use mir.ValLaws.{to_z-of_z}
+use Rattle.model.specs.declared.Refusal.TheVariants.{Unfit}
 use Rattle.model.specs.Plan.{C, Plan}
 use Rattle.model.specs.Forms.{done, main}
 use Rattle.model.specs.Places.{no_more}
@@ -110,7 +111,7 @@ module _ {row : List ℕ} {h : Head} (q : Rowed row h) (s : State) where
       le-leb (total C (main p) + p.switch) p.deadline
       (omega (arith, ap (λ k. k.deadline) q.head.is, ap (λ k. k.total) q.head.is, ap (λ k. k.switch) q.head.is))
 
-  pub release_unfit : h.deadline < h.total + h.switch → {r : Step} → r ≡ as_step (refuse s 13) → r ≡ as_step (reply p s idle Release)
+  pub release_unfit : h.deadline < h.total + h.switch → {r : Step} → r ≡ as_step (refuse s Unfit) → r ≡ as_step (reply p s idle Release)
   unfolding respond
   release_unfit lt e = rw (unfit lt) e
 

@@ -1,7 +1,7 @@
 -- A refused call keeps the state, whatever table and state are. Assumes nothing.
 use mathlib.Core.Option.{Option, none, some}
 use mathlib.Core.Path.{◌≡◌, refl, subst, sym}
-use Prim.Native.Nat.{ℕ}
+use Rattle.model.specs.declared.Refusal.{Refusal}
 use Rattle.model.specs.Plan.{Plan}
 use Rattle.model.specs.declared.Call.{Call}
 use Rattle.model.specs.declared.Answer.TheVariants.{Refused}
@@ -14,7 +14,7 @@ use Rattle.control.specs.Calls.{read_state, left, on_state, on_plan, call_on}
 
 -- A reply that refuses leaves the state.
 abbrev Keeps : State → Reply State → Type 0
-Keeps s r = (k : ℕ) → r.answer ≡ Refused k → r.state ≡ s
+Keeps s r = (k : Refusal) → r.answer ≡ Refused k → r.state ≡ s
 
 state_keeps : (p : Plan) (s : State) (c : Call) (o : Option places.State) → Keeps s (on_state p s c o)
 state_keeps p s c none = λ k e. refl
@@ -24,6 +24,6 @@ plan_keeps : (s : State) (c : Call) (o : Option Plan) → Keeps s (on_plan s c o
 plan_keeps s c none = λ k e. refl
 plan_keeps s c (some p) = state_keeps p s c (read_state p s s.running)
 
-pub refused_keeps : (t : Table) (s : State) (c : Call) (k : ℕ) → (call_on t s c).answer ≡ Refused k → (call_on t s c).state ≡ s
+pub refused_keeps : (t : Table) (s : State) (c : Call) (k : Refusal) → (call_on t s c).answer ≡ Refused k → (call_on t s c).state ≡ s
 unfolding call_on
 refused_keeps t s c = plan_keeps s c (plan_of t)

@@ -8,6 +8,9 @@ use Prim.Native.Nat.{ℕ, ◌+◌, ◌-◌, ◌*◌, ◌≤◌, ◌<◌}
 use native.Mathlib.Omega.{arith}
 use lib.ListN.{length, get_or, drop}
 use borrow.Author.Tests.{lt-ltb, le-ltb}
+use Rattle.std.specs.Prelude.{Option as RustOption}
+use Rattle.std.specs.Prelude.{Some}
+use Rattle.model.specs.declared.Refusal.TheVariants.{Stranger, Backward, Astray}
 use Rattle.model.specs.Calls.{refuse}
 use Rattle.model.specs.Plan.{C, M, Plan, all_leaves}
 use Rattle.model.specs.Forms.{Forms, done, main}
@@ -86,27 +89,27 @@ next_onward : (p : Plan) (s : State) (ls : Levels) (n : ℕ) → 1 ≤ length ls
 next_onward p s [] n h = absurd (omega arith)
 next_onward p s (g ∷ ks) n h = refl
 
-module _ {row : List ℕ} {h : Head} (q : Rowed row h) (s : State) (n : ℕ) (x : Place) where
+module _ {row : List ℕ} {h : Head} (q : Rowed row h) (s : State) (n : ℕ) (x : RustOption Place) where
   abbrev Found : Levels → Type 0
-  Found ls = NextStack row (main q.head.plan) (next_levels q.head.plan (place_of s ls) n) s.leaves s.earlier n x.leaves x.earlier x.level
+  Found ls = NextStack row (main q.head.plan) (next_levels q.head.plan (place_of s ls) n) s.leaves s.earlier n x
 
   -- At a first report, by what `first_place` ensures.
   pub first_found : s.level ≡ 0 →
-      ((t : FunctionTable row h.bounds h.functions) → NextStack row (get_or t.funs (h.functions - 1) done) (onto [] (seek (get_or t.funs (h.functions - 1) done) n)) s.leaves s.earlier n x.leaves x.earlier x.level) →
+      ((t : FunctionTable row h.bounds h.functions) → NextStack row (get_or t.funs (h.functions - 1) done) (onto [] (seek (get_or t.funs (h.functions - 1) done) n)) s.leaves s.earlier n x) →
       (ls : Levels) → standing q.head.plan s ≡ some ls → Found ls
   first_found z e ls k =
       let y = none_open ls (stands_depth q.head.plan q.head.accepted s ls k ∙ z) in
       subst Found (sym y)
-      (first_place_is q.head.plan q.head.accepted (laid_here q) s.leaves s.earlier n x.leaves x.earlier x.level (rw (count_here q) at e))
+      (first_place_is q.head.plan q.head.accepted (laid_here q) s.leaves s.earlier n x (rw (count_here q) at e))
 
   -- Behind a report, by what `next_place` ensures.
   pub later_found : 1 ≤ s.level → {y : Place} → y ≡ spot s →
-      ((t : Decoded row h.bounds h.functions y.leaves y.earlier y.level) → NextStack row (get_or t.table.funs (h.functions - 1) done) (onward_at t.levels n) y.leaves y.earlier n x.leaves x.earlier x.level) →
+      ((t : Decoded row h.bounds h.functions y.leaves y.earlier y.level) → NextStack row (get_or t.table.funs (h.functions - 1) done) (onward_at t.levels n) y.leaves y.earlier n x) →
       (ls : Levels) → standing q.head.plan s ≡ some ls → Found ls
   later_found one z e ls k =
       let (g, u) = stands_decode q.head.plan q.head.accepted s ls one k in
       let o = next_onward q.head.plan s ls n (omega (arith, stands_depth q.head.plan q.head.accepted s ls k)) in
-      rw o (next_place_is q.head.plan q.head.accepted (laid_here q) s.leaves s.earlier s.level ls one g u n x.leaves x.earlier x.level (rw (z, count_here q) at e))
+      rw o (next_place_is q.head.plan q.head.accepted (laid_here q) s.leaves s.earlier s.level ls one g u n x (rw (z, count_here q) at e))
 
 -- What `next_place` asks for.
 module _ {row : List ℕ} {h : Head} (q : Rowed row h) (s : State) where
@@ -245,15 +248,15 @@ module _ {row turns tails stretches : List ℕ} {h : Head} (q : WholeTable row t
       (omega (arith, x, z), omega (arith, x, fine.formed.few_leaves), ap (λ c. get_or c n 0) q.stretches_are ∙ stretch_at of fine n e)
 
   module _ (t : ℕ) (ls : Levels) {r : Step} where
-    pub stranger : is_point (all_leaves of.functions) n ≡ false → r ≡ as_step (refuse s 15) → r ≡ as_step (reply of s (running_at s ls) (Report n t))
+    pub stranger : is_point (all_leaves of.functions) n ≡ false → r ≡ as_step (refuse s Stranger) → r ≡ as_step (reply of s (running_at s ls) (Report n t))
     unfolding respond
     stranger e z = rw e z
 
-    pub backward : is_point (all_leaves of.functions) n ≡ true → t < s.reading → r ≡ as_step (refuse s 16) → r ≡ as_step (reply of s (running_at s ls) (Report n t))
+    pub backward : is_point (all_leaves of.functions) n ≡ true → t < s.reading → r ≡ as_step (refuse s Backward) → r ≡ as_step (reply of s (running_at s ls) (Report n t))
     unfolding respond
     backward e b z = rw (e, lt-ltb t s.reading b) z
 
-    pub astray : is_point (all_leaves of.functions) n ≡ true → s.reading ≤ t → next_levels of (place_of s ls) n ≡ none → r ≡ as_step (refuse s 17) →
+    pub astray : is_point (all_leaves of.functions) n ≡ true → s.reading ≤ t → next_levels of (place_of s ls) n ≡ none → r ≡ as_step (refuse s Astray) →
         r ≡ as_step (reply of s (running_at s ls) (Report n t))
     unfolding respond
     astray e b i z = rw (e, le-ltb t s.reading b, i) z
@@ -263,14 +266,8 @@ module _ {row turns tails stretches : List ℕ} {h : Head} (q : WholeTable row t
     unfolding respond
     onwards e b new i z = rw (e, le-ltb t s.reading b, i) z
 
-  -- What comes next: nothing, or a new place.
-  module _ (ls : Levels) (x : Place) (f : NextStack row (main of) (next_levels of (place_of s ls) n) s.leaves s.earlier n x.leaves x.earlier x.level) where
-    pub none_next : x.level ≡ 0 → next_levels of (place_of s ls) n ≡ none
-    none_next e = elim f [ inl y ↦ y.1 | inr y ↦ absurd (omega (arith, y.least)) ]
-
-    pub some_next : (x.level ≡ 0 → ⊥) → Stacked row (main of) (next_levels of (place_of s ls) n) s.leaves s.earlier n x.leaves x.earlier x.level
-    some_next e = elim f [ inl y ↦ absurd (e y.0) | inr y ↦ y ]
-
-    abbrev pub arriving : is_point (all_leaves of.functions) n ≡ true → standing of s ≡ some ls → (x.level ≡ 0 → ⊥) → Arriving row turns tails h s x (get_or stretches n 0)
-    arriving e k y =
-        record { lent = q.lent; levels = ls; stands = k; point = n; new = some_next y; stretch_is = (stretch_there e).2 }
+  -- A place comes next.
+  module _ (ls : Levels) (x : Place) (f : NextStack row (main of) (next_levels of (place_of s ls) n) s.leaves s.earlier n (Some x)) where
+    abbrev pub arriving : is_point (all_leaves of.functions) n ≡ true → standing of s ≡ some ls → Arriving row turns tails h s x (get_or stretches n 0)
+    arriving e k =
+        record { lent = q.lent; levels = ls; stands = k; point = n; new = f; stretch_is = (stretch_there e).2 }

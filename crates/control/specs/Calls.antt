@@ -1,13 +1,12 @@
 -- The calls on a table (01, 'Calls'): from the table, the state and the call alone, the answer and every later field of the state. The plan is read off the
 -- table, the place off the state, the controller over places answers, and the state that it leaves is written in numbers.
 -- Assumes nothing: these are definitions.
-use Rattle.std.specs.Prelude.{Bool, true, false, [], ◌∷◌, ℕ, eqb, get_or}
+use Rattle.std.specs.Prelude.{Bool, true, false, [], ◌∷◌, get_or}
 use Rattle.std.proofs.Math.Option.{Option, none, some}
-use Rattle.model.specs.Places.{pick}
+use Rattle.model.specs.declared.Refusal.TheVariants.{Broken}
 use Rattle.model.specs.Plan.{Plan}
 use Rattle.model.specs.Stack.{Levels}
 use Rattle.model.specs.declared.Call.{Call}
-use Rattle.model.specs.declared.Call.TheVariants.{Release, Report, End}
 use Rattle.model.specs.declared.Answer.{Answer}
 use Rattle.model.specs.declared.Answer.TheVariants.{Refused, Decided, Closed}
 use Rattle.model.specs.Calls.{Reply, Controller, refuse}
@@ -56,11 +55,11 @@ abbrev pub reply : Plan → State → places.State → Call → Reply State
 reply p s x c = in_numbers p s (respond p x c)
 
 abbrev pub on_state : Plan → State → Call → Option places.State → Reply State
-on_state p s c none = refuse s 11
+on_state p s c none = refuse s Broken
 on_state p s c (some x) = reply p s x c
 
 abbrev pub on_plan : State → Call → Option Plan → Reply State
-on_plan s c none = refuse s 11
+on_plan s c none = refuse s Broken
 on_plan s c (some p) = on_state p s c (read_state p s s.running)
 
 -- A call on a table: 11 where the table is that of no accepted plan, or the state stands nowhere.
@@ -74,7 +73,3 @@ as_step r = record { answer = r.answer; state = r.state }
 -- The controller of a table.
 abbrev pub controller_of : Table → Controller State
 controller_of t = record { fresh = fresh; respond = call_on t }
-
--- The call of a number: 0 release, 1 report, else end.
-abbrev pub call_of : ℕ → ℕ → ℕ → Call
-call_of k point reading = pick (eqb k 0) Release (pick (eqb k 1) (Report point reading) (End reading))

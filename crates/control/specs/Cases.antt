@@ -2,6 +2,7 @@
 -- state on its table with their answers, each worked out by hand from the documents' sentences.
 -- Assumes nothing: these are definitions.
 use Rattle.std.specs.Prelude.{false, List, [], ◌∷◌, ◌≡◌, ℕ, pos, negsuc}
+use Rattle.model.specs.declared.Refusal.TheVariants.{Unfit, Astray}
 use Rattle.model.specs.Plan.{Plan}
 use Rattle.model.specs.Acceptance.{Accepted}
 use Rattle.model.specs.declared.Call.TheVariants.{Release, Report, End}
@@ -49,7 +50,7 @@ unfoldable pub cases : List Case
 cases =
     -- m1: remaining at the loop's visits 1 to 4 is 44, 32, 20, 8; m4: a fifth visit gives 17; m5: visit 4 at 76 goes on
     on_A ((Release gets Decided Go 49 (pos 47) false) ∷ (Report 0 0 gets Decided Go 49 (pos 38) false) ∷ (Report 1 9 gets Decided Go 44 (pos 19) false) ∷
-    (Report 1 33 gets Decided Go 32 (pos 7) false) ∷ (Report 1 50 gets Decided Go 20 (pos 2) false) ∷ (Report 1 76 gets Decided Go 8 (pos 0) false) ∷ (Report 1 76 gets Refused 17) ∷ []) ∷
+    (Report 1 33 gets Decided Go 32 (pos 7) false) ∷ (Report 1 50 gets Decided Go 20 (pos 2) false) ∷ (Report 1 76 gets Decided Go 8 (pos 0) false) ∷ (Report 1 76 gets Refused Astray) ∷ []) ∷
     -- m2: visit 1 goes on at reading 28, and suspends at 29
     on_A ((Release gets Decided Go 49 (pos 47) false) ∷ (Report 0 0 gets Decided Go 49 (pos 38) false) ∷ (Report 1 28 gets Decided Go 44 (pos 0) false) ∷ []) ∷
     on_A ((Release gets Decided Go 49 (pos 47) false) ∷ (Report 0 0 gets Decided Go 49 (pos 38) false) ∷ (Report 1 29 gets Decided Suspend 44 (negsuc 0) false) ∷ []) ∷
@@ -62,10 +63,10 @@ cases =
     on_B ((Release gets Decided Go 15 (pos 180) false) ∷ (Report 1 0 gets Decided Go 15 (pos 167) false) ∷ (Report 4 0 gets Decided Go 4 (pos 189) false) ∷
     (Report 0 0 gets Decided Go 3 (pos 196) false) ∷ (End 9 gets Closed Ended false) ∷ []) ∷
     -- m8: 1, 0 gives 17; m9: after 1, 2, 0 remaining is 7
-    on_B ((Release gets Decided Go 15 (pos 180) false) ∷ (Report 1 0 gets Decided Go 15 (pos 167) false) ∷ (Report 0 0 gets Refused 17) ∷
+    on_B ((Release gets Decided Go 15 (pos 180) false) ∷ (Report 1 0 gets Decided Go 15 (pos 167) false) ∷ (Report 0 0 gets Refused Astray) ∷
     (Report 2 0 gets Decided Go 8 (pos 185) false) ∷ (Report 0 0 gets Decided Go 7 (pos 184) false) ∷ []) ∷
     -- m10: D 9, release gives 13; m11: D 10 and D 18, go; m12: D 19, go
-    on_smallest 9 (Refused 13) ∷ on_smallest 10 (Decided Go 7 (pos 1) false) ∷ on_smallest 18 (Decided Go 7 (pos 9) false) ∷
+    on_smallest 9 (Refused Unfit) ∷ on_smallest 10 (Decided Go 7 (pos 1) false) ∷ on_smallest 18 (Decided Go 7 (pos 9) false) ∷
     on_smallest 19 (Decided Go 7 (pos 10) false) ∷ []
 
 -- A case holds: its plan is accepted, its table has these totals and stretches, and the calls on it answer so.

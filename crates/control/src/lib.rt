@@ -9,22 +9,22 @@ ghost use Rattle.model.specs.Stack.{Levels};
 ghost use Rattle.model.specs.declared.Call.TheVariants.{Release, Report, End};
 ghost use Rattle.model.specs.Calls.{others_by_word, refuse};
 ghost use Rattle.model.specs.Decisions.{reserve, margin, word};
-ghost use Rattle.model.specs.Controller.{idle, next_levels, can_close, ending};
+ghost use Rattle.model.specs.Controller.{idle, next_levels, can_close};
 ghost use Rattle.rows.specs.Rows.{point_at};
 ghost use Rattle.rows.specs.Answers.{Says};
 ghost use Rattle.place.specs.Stack.{NextStack};
 ghost use Rattle.table.specs.Table.{table_at, good};
 ghost use Rattle.control.specs.State.{fresh, standing};
-ghost use Rattle.control.specs.Calls.{place_of, running_at, reply, call_on, as_step, call_of};
+ghost use Rattle.control.specs.Calls.{place_of, running_at, reply, call_on, as_step};
 ghost use Rattle.control.specs.Private.{terms, weighing, opened, arrived, Headed, Rowed, Lent, WholeTable, spot, GoodState, GoodOnRow};
 ghost use Rattle.control.specs.Private.{GoodOnTable, Arriving};
 
-use model::{Answer, Call, Ending, Others, Outlook, Word};
+use model::{Answer, Call, Ending, Others, Outlook, Refusal, Word};
 use place::{
     Place, can_end, first_end, first_place, last_point, next_place, next_times, no_point, place_ok,
     times_ok, zero_above,
 };
-use rows::{POINT, STRIDE, less};
+use rows::{POINT, STRIDE};
 use table::{Head, check};
 
 // The running state: whether a release is open, what the others do, the last accepted reading, the level of the last point (0: none was
@@ -55,27 +55,6 @@ struct Weighing {
     others: Others,
 }
 
-// Refusals by their numbers: the table is that of no accepted plan, or the running state stands nowhere.
-const BROKEN: u64 = 11;
-
-// A release is open already.
-const BUSY: u64 = 12;
-
-// The sum of total and switch cost is over D.
-const UNFIT: u64 = 13;
-
-// No release is open.
-const IDLE: u64 = 14;
-
-// The number is no point of the plan.
-const STRANGER: u64 = 15;
-
-// The reading is below the last accepted one.
-const BACKWARD: u64 = 16;
-
-// No run has these reports in this order.
-const ASTRAY: u64 = 17;
-
 // 2^62: a margin is held at its negative.
 const FLOOR: u64 = 4611686018427387904;
 
@@ -99,9 +78,11 @@ fn less_reserve(left: u64, switch: u64, outlook: Outlook) -> u64
     ensures { result ≡ left - reserve (terms 0 switch) outlook }
 {
     if outlook.last {
-        return left;
+        left
+    } else {
+        left.saturating_sub(outlook.remaining)
+            .saturating_sub(switch)
     }
-    less(less(left, outlook.remaining), switch)
 }
 
 // The margin, held at -2^62: what is left of D and 2^62 together, less 2^62.
@@ -110,17 +91,17 @@ fn margin_of(deadline: u64, switch: u64, outlook: Outlook, reading: u64) -> i64
     ensures { result ≡ margin (terms deadline switch) outlook reading }
 {
     let free = less_reserve(deadline + FLOOR, switch, outlook);
-    let left = less(less(free, outlook.stretch), reading);
+    let left = free.saturating_sub(outlook.stretch).saturating_sub(reading);
     left as i64 - FLOOR as i64
 }
 
 // A refused call: the state keeps every value.
-fn refusal(state: State, number: u64) -> Step
-    ensures { result ≡ as_step (refuse state number) }
+fn refuse(state: State, refusal: Refusal) -> Step
+    ensures { result ≡ as_step (refuse state refusal) }
 {
     Step {
-        answer: Answer::Refused(number),
-        state: state,
+        answer: Answer::Refused(refusal),
+        state,
     }
 }
 
@@ -130,7 +111,8 @@ fn word_of(margin: i64, others: Others) -> Word
 {
     match others {
         Others::Suspended => Word::Stay,
-        Others::Running => if margin < 0 { Word::Suspend } else { Word::Go },
+        Others::Running if margin < 0 => Word::Suspend,
+        Others::Running => Word::Go,
     }
 }
 
@@ -139,9 +121,8 @@ fn others_by(word: Word, others: Others) -> Others
     ensures { result ≡ others_by_word word others }
 {
     match word {
-        Word::Go => others,
         Word::Suspend => Others::Suspended,
-        Word::Stay => others,
+        Word::Go | Word::Stay => others,
     }
 }
 
@@ -151,10 +132,9 @@ fn weigh(head: Head, outlook: Outlook, reading: u64, others: Others) -> Weighing
     ensures { (q : Headed head) → result ≡ weighing q.plan outlook reading others }
 {
     let margin = margin_of(head.deadline, head.switch, outlook, reading);
-    let late = head.deadline < reading;
     let word = word_of(margin, others);
     Weighing {
-        answer: Answer::Decided(word, outlook.remaining, margin, late),
+        answer: Answer::Decided(word, outlook.remaining, margin, head.deadline < reading),
         others: others_by(word, others),
     }
 }
@@ -167,12 +147,9 @@ fn open_at(total: u64, others: Others) -> State
     times[0] = total;
     State {
         running: true,
-        others: others,
-        reading: 0,
-        level: 0,
-        leaves: [0; 33],
-        earlier: [0; 33],
-        times: times,
+        others,
+        times,
+        ..fresh()
     }
 }
 
@@ -181,37 +158,37 @@ fn start(row: &[u64], head: Head, state: State) -> Step
     requires { Rowed row.now head }
     ensures { (q : Rowed row.now head) → result ≡ as_step (reply q.head.plan state idle Release) }
 {
-    let total = head.total;
-    if head.deadline < total + head.switch {
-        return refusal(state, UNFIT);
+    if head.deadline < head.total + head.switch {
+        return refuse(state, Refusal::Unfit);
     }
-    let bounds = head.bounds;
-    let last = no_point(row, &bounds, head.functions);
     let outlook = Outlook {
-        remaining: total,
+        remaining: head.total,
         stretch: head.stretch,
-        last: last,
+        last: no_point(row, &head.bounds, head.functions),
     };
-    let w = weigh(head, outlook, 0, Others::Running);
-    let answer = w.answer;
-    let others = w.others;
-    let after = open_at(total, others);
+    let weighing = weigh(head, outlook, 0, Others::Running);
     Step {
-        answer: answer,
-        state: after,
+        answer: weighing.answer,
+        state: open_at(head.total, weighing.others),
     }
 }
 
-// Where a running state stands, as crate `place` has it.
-fn spot_of(state: State) -> Place
-    ensures { result ≡ spot state }
-{
-    let leaves = state.leaves;
-    let earlier = state.earlier;
-    Place {
-        level: state.level as usize,
-        leaves: leaves,
-        earlier: earlier,
+impl From<State> for Place {
+    ghost from_gives = { λ state place. place ≡ spot state };
+
+    // Gives where a running state stands.
+    fn from(state: State) -> Place {
+        let State {
+            level,
+            leaves,
+            earlier,
+            ..
+        } = state;
+        Place {
+            level: level as usize,
+            leaves,
+            earlier,
+        }
     }
 }
 
@@ -220,24 +197,21 @@ fn stands(row: &[u64], turns: &[u64], tails: &[u64], head: Head, state: State) -
     requires { Lent row.now turns.now tails.now head }
     ensures { (q : Lent row.now turns.now tails.now head) → Says result (GoodState q.rowed.head.plan state) }
 {
-    let times = state.times;
     if state.level == 0 {
-        if times[0] != head.total {
-            return false;
-        }
-        return zero_above(times, 0);
+        return state.times[0] == head.total && zero_above(state.times, 0);
     }
-    let place = spot_of(state);
-    let bounds = head.bounds;
-    let totals = head.totals;
-    let n = head.functions;
-    if !place_ok(row, &bounds, n, place) {
-        return false;
-    }
-    if !zero_above(times, place.level) {
-        return false;
-    }
-    times_ok(row, n, tails, turns, &totals, place, times)
+    let place = Place::from(state);
+    place_ok(row, &head.bounds, head.functions, place)
+        && zero_above(state.times, place.level)
+        && times_ok(
+            row,
+            head.functions,
+            tails,
+            turns,
+            &head.totals,
+            place,
+            state.times,
+        )
 }
 
 // Whether the record of this number is there and is a point's.
@@ -245,33 +219,29 @@ fn is_point(row: &[u64], number: u64) -> bool
     ensures { Says result ((number * 8 + 8 ≤ length row.now) × (point_at row.now number ≡ 1)) }
 {
     let x = number as usize;
-    if row.len() / STRIDE <= x {
-        return false;
-    }
-    if rows::get(row, x, POINT) == 1 {
-        true
-    } else {
-        false
-    }
+    x < row.len() / STRIDE && rows::get(row, x, POINT) == 1
 }
 
-// The place of a good state when the point x is reported next; where x cannot come next, level 0 and zeros in both arrays.
-fn next(row: &[u64], head: Head, state: State, x: usize) -> Place
+// The place of a good state when the point x is reported next; none where x cannot come next.
+fn next(row: &[u64], head: Head, state: State, x: usize) -> Option<Place>
     requires x_value { point_at row.now x ≡ 1 }
     requires good_on_row { GoodOnRow row.now head state }
     ensures { (q : Rowed row.now head) (ls : Levels) → standing q.head.plan state ≡ some ls
         → NextStack row.now (main q.head.plan) (next_levels q.head.plan (place_of state ls) x)
-        state.leaves state.earlier x result.leaves result.earlier result.level }
+        state.leaves state.earlier x result }
 {
-    let bounds = head.bounds;
-    let n = head.functions;
+    let place = Place::from(state);
     if state.level == 0 {
-        let leaves = state.leaves;
-        let earlier = state.earlier;
-        return first_place(row, &bounds, n, leaves, earlier, x);
+        return first_place(
+            row,
+            &head.bounds,
+            head.functions,
+            state.leaves,
+            state.earlier,
+            x,
+        );
     }
-    let place = spot_of(state);
-    next_place(row, &bounds, n, place, x)
+    next_place(row, &head.bounds, head.functions, place, x)
 }
 
 // The decision at the report of a point, and the state moved on to its place.
@@ -289,35 +259,29 @@ fn arrive(
     ensures { (k : Arriving row.now turns.now tails.now head state place stretch)
         → result ≡ as_step (arrived k.lent.rowed.head.plan state k.point k.new.levels reading) }
 {
-    let totals = head.totals;
-    let bounds = head.bounds;
-    let level = place.level;
-    let old = state.times;
-    let times = next_times(row, tails, turns, &totals, place, old);
-    let last = last_point(row, &bounds, head.functions, place);
+    let times = next_times(row, tails, turns, &head.totals, place, state.times);
     let outlook = Outlook {
-        remaining: times[level],
-        stretch: stretch,
-        last: last,
+        remaining: times[place.level],
+        stretch,
+        last: last_point(row, &head.bounds, head.functions, place),
     };
-    let before = state.others;
-    let w = weigh(head, outlook, reading, before);
-    let answer = w.answer;
-    let others = w.others;
-    let leaves = place.leaves;
-    let earlier = place.earlier;
-    let moved = State {
-        running: true,
-        others: others,
-        reading: reading,
-        level: level as u64,
-        leaves: leaves,
-        earlier: earlier,
-        times: times,
-    };
+    let weighing = weigh(head, outlook, reading, state.others);
+    let Place {
+        level,
+        leaves,
+        earlier,
+    } = place;
     Step {
-        answer: answer,
-        state: moved,
+        answer: weighing.answer,
+        state: State {
+            running: true,
+            others: weighing.others,
+            reading,
+            level: level as u64,
+            leaves,
+            earlier,
+            times,
+        },
     }
 }
 
@@ -338,16 +302,15 @@ fn reported_at(
         → result ≡ as_step (reply q.lent.rowed.head.plan state (running_at state ls) (Report point reading)) }
 {
     if !is_point(row, point) {
-        return refusal(state, STRANGER);
+        return refuse(state, Refusal::Stranger);
     }
     if reading < state.reading {
-        return refusal(state, BACKWARD);
+        return refuse(state, Refusal::Backward);
     }
     let x = point as usize;
-    let place = next(row, head, state, x);
-    if place.level == 0 {
-        return refusal(state, ASTRAY);
-    }
+    let Some(place) = next(row, head, state, x) else {
+        return refuse(state, Refusal::Astray);
+    };
     arrive(row, turns, tails, head, state, place, stretches[x], reading)
 }
 
@@ -357,22 +320,10 @@ fn may_close(row: &[u64], head: Head, state: State) -> bool
     ensures { (q : Rowed row.now head) (ls : Levels) → standing q.head.plan state ≡ some ls
         → result ≡ can_close q.head.plan (place_of state ls) }
 {
-    let bounds = head.bounds;
-    let n = head.functions;
     if state.level == 0 {
-        return first_end(row, &bounds, n);
-    }
-    let place = spot_of(state);
-    can_end(row, &bounds, n, place)
-}
-
-// The end: resume if the others were suspended, ended if not.
-fn ending_of(others: Others) -> Ending
-    ensures { result ≡ ending others }
-{
-    match others {
-        Others::Running => Ending::Ended,
-        Others::Suspended => Ending::Resume,
+        first_end(row, &head.bounds, head.functions)
+    } else {
+        can_end(row, &head.bounds, head.functions, Place::from(state))
     }
 }
 
@@ -383,18 +334,14 @@ fn closed_at(row: &[u64], head: Head, state: State, reading: u64) -> Step
         → result ≡ as_step (reply q.head.plan state (running_at state ls) (End reading)) }
 {
     if reading < state.reading {
-        return refusal(state, BACKWARD);
+        return refuse(state, Refusal::Backward);
     }
     if !may_close(row, head, state) {
-        return refusal(state, ASTRAY);
+        return refuse(state, Refusal::Astray);
     }
-    let late = head.deadline < reading;
-    let others = state.others;
-    let ending = ending_of(others);
-    let after = fresh();
     Step {
-        answer: Answer::Closed(ending, late),
-        state: after,
+        answer: Answer::Closed(Ending::from(state.others), head.deadline < reading),
+        state: fresh(),
     }
 }
 
@@ -405,8 +352,7 @@ fn idle_call(row: &[u64], head: Head, state: State, call: Call) -> Step
 {
     match call {
         Call::Release => start(row, head, state),
-        Call::Report(_, _) => refusal(state, IDLE),
-        Call::End(_) => refusal(state, IDLE),
+        Call::Report(_, _) | Call::End(_) => refuse(state, Refusal::Idle),
     }
 }
 
@@ -425,7 +371,7 @@ fn running_call(
         → standing q.lent.rowed.head.plan state ≡ some ls → result ≡ as_step (reply q.lent.rowed.head.plan state (running_at state ls) call) }
 {
     match call {
-        Call::Release => refusal(state, BUSY),
+        Call::Release => refuse(state, Refusal::Busy),
         Call::Report(point, reading) => reported_at(
             row, turns, tails, stretches, head, state, point, reading,
         ),
@@ -449,25 +395,19 @@ pub fn checked_call(
     ensures { result ≡ as_step (call_on (table_at row.now turns.now tails.now stretches.now head) state call) }
 {
     if !checked {
-        return refusal(state, BROKEN);
+        return refuse(state, Refusal::Broken);
     }
-    let n = head.leaves;
-    let size = n * STRIDE;
+    let row = &row[..head.leaves * STRIDE];
     if !state.running {
-        return idle_call(&row[..size], head, state, call);
+        return idle_call(row, head, state, call);
     }
-    if !stands(&row[..size], &turns[..n], &tails[..n], head, state) {
-        return refusal(state, BROKEN);
+    let turns = &turns[..head.leaves];
+    let tails = &tails[..head.leaves];
+    if !stands(row, turns, tails, head, state) {
+        return refuse(state, Refusal::Broken);
     }
-    running_call(
-        &row[..size],
-        &turns[..n],
-        &tails[..n],
-        &stretches[..n],
-        head,
-        state,
-        call,
-    )
+    let stretches = &stretches[..head.leaves];
+    running_call(row, turns, tails, stretches, head, state, call)
 }
 
 // A call on a table.
@@ -484,24 +424,4 @@ pub fn call(
 {
     let checked = check(row, turns, tails, stretches, head);
     checked_call(checked, row, turns, tails, stretches, head, state, call)
-}
-
-// The calls by number, for callers that hold them as numbers.
-pub const RELEASE: u64 = 0;
-
-pub const REPORT: u64 = 1;
-
-pub const END: u64 = 2;
-
-// The call of a number: a release, a report of a point with a reading, or else an end with a reading.
-pub fn call_from(kind: u64, point: u64, reading: u64) -> Call
-    ensures { result ≡ call_of kind point reading }
-{
-    if kind == RELEASE {
-        return Call::Release;
-    }
-    if kind == REPORT {
-        return Call::Report(point, reading);
-    }
-    Call::End(reading)
 }

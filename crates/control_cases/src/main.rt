@@ -2,15 +2,12 @@
 // hand beside each list of calls, and stands in the file stdout.
 #![tactic(auto)]
 
-use control::{call, call_from, fresh};
-use model::Answer;
+use control::{call, fresh};
+use model::{Answer, Call};
 use print::{SIZE, answer_line};
 use rows::{MAX_LEAVES, ROW};
 use std::io;
-use table::{Head, no_head, read};
-
-// The most calls of a list. A call in a list is three numbers: its kind (0 release, 1 report, 2 end), the point, and the reading.
-const CALLS: usize = 7;
+use table::{Head, read};
 
 // Prints an answer.
 fn show(rt: &impl Print, answer: Answer) -> io::Result<()> {
@@ -19,7 +16,7 @@ fn show(rt: &impl Print, answer: Answer) -> io::Result<()> {
     rt.write_all(&out[..size])
 }
 
-// Plays a list of at most seven calls on a table from a fresh state, and prints the answers.
+// Plays a list of calls on a table from a fresh state, and prints the answers.
 fn play_on(
     rt: &impl Print,
     row: &[u64; ROW],
@@ -27,49 +24,44 @@ fn play_on(
     tails: &[u64; MAX_LEAVES],
     stretches: &[u64; MAX_LEAVES],
     head: Head,
-    calls: &[u64],
+    calls: &[Call],
 ) -> io::Result<()> {
     let mut state = fresh();
-    for k in 0..CALLS {
-        let i = k * 3;
-        if i + 2 < calls.len() {
-            let next = call_from(calls[i], calls[i + 1], calls[i + 2]);
-            let step = call(row, turns, tails, stretches, head, state, next);
-            let answer = step.answer;
-            show(rt, answer)?;
-            state = step.state;
-        }
+    for &next in calls {
+        let step = call(row, turns, tails, stretches, head, state, next);
+        show(rt, step.answer)?;
+        state = step.state;
     }
     Ok(())
 }
 
 // Reads a plan, and plays a list of calls on its table.
-fn play(rt: &impl Print, text: &[u8], calls: &[u64]) -> io::Result<()> {
+fn play(rt: &impl Print, text: &[u8], calls: &[Call]) -> io::Result<()> {
     let mut row = [0; ROW];
     let mut turns = [0; MAX_LEAVES];
     let mut tails = [0; MAX_LEAVES];
     let mut stretches = [0; MAX_LEAVES];
-    let verdict = read(
+    if let Ok(head) = read(
         text,
         MAX_LEAVES,
         &mut row,
         &mut turns,
         &mut tails,
         &mut stretches,
-        no_head(),
-    );
-    let head = verdict.head;
-    play_on(rt, &row, &turns, &tails, &stretches, head, calls)
+    ) {
+        play_on(rt, &row, &turns, &tails, &stretches, head, calls)?;
+    }
+    Ok(())
 }
 
 // Plays the release of a plan.
 fn release(rt: &impl Print, text: &[u8]) -> io::Result<()> {
-    play(rt, text, &[0, 0, 0])
+    play(rt, text, &[Call::Release])
 }
 
 // Plan A: D 100, T 4; stretches 0 (release), 9 and 24. The margin is 100 less reading, remaining, stretch and 4; at the fourth visit of the loop, behind
 // which no point can come, 100 less reading and 24.
-fn plan_a(rt: &impl Print, calls: &[u64]) -> io::Result<()> {
+fn plan_a(rt: &impl Print, calls: &[Call]) -> io::Result<()> {
     play(
         rt,
         b"(task 100 4\n(fun\n(leaf p 5 9)\n(loop p 3 2 4\n(leaf s 10 20)\n)\n(leaf s 6 8)\n)\n)\n",
@@ -78,7 +70,7 @@ fn plan_a(rt: &impl Print, calls: &[u64]) -> io::Result<()> {
 }
 
 // Plan B: D 200, T 5; stretches 0 (release), 4, 13, 2 and 2 of the points 0, 1, 2 and 4. No point can come behind 1, 4, 0.
-fn plan_b(rt: &impl Print, calls: &[u64]) -> io::Result<()> {
+fn plan_b(rt: &impl Print, calls: &[Call]) -> io::Result<()> {
     play(
         rt,
         b"(task 200 5\n(fun\n(leaf p 3 4)\n)\n(fun\n(if p 2 3\n(then\n(call p 0 1 2)\n)\n(else\n(leaf s 9 10)\n)\n)\n(call p 0 1 2)\n)\n)\n",
@@ -92,7 +84,13 @@ fn rounds_of_a(rt: &impl Print) -> io::Result<()> {
     plan_a(
         rt,
         &[
-            0, 0, 0, 1, 0, 0, 1, 1, 9, 1, 1, 33, 1, 1, 50, 1, 1, 76, 1, 1, 76,
+            Call::Release,
+            Call::Report(0, 0),
+            Call::Report(1, 9),
+            Call::Report(1, 33),
+            Call::Report(1, 50),
+            Call::Report(1, 76),
+            Call::Report(1, 76),
         ],
     )
 }
@@ -100,9 +98,15 @@ fn rounds_of_a(rt: &impl Print) -> io::Result<()> {
 // Plays the loop's first visit at the last reading that goes on, and one tick later.
 fn edge_of_a(rt: &impl Print) -> io::Result<()> {
     // m2: at 28 go 44 0.
-    plan_a(rt, &[0, 0, 0, 1, 0, 0, 1, 1, 28])?;
+    plan_a(
+        rt,
+        &[Call::Release, Call::Report(0, 0), Call::Report(1, 28)],
+    )?;
     // And at 29 suspend 44 -1.
-    plan_a(rt, &[0, 0, 0, 1, 0, 0, 1, 1, 29])
+    plan_a(
+        rt,
+        &[Call::Release, Call::Report(0, 0), Call::Report(1, 29)],
+    )
 }
 
 // Plays runs that suspend the others.
@@ -111,13 +115,26 @@ fn suspensions_of_a(rt: &impl Print) -> io::Result<()> {
     plan_a(
         rt,
         &[
-            0, 0, 0, 1, 0, 0, 1, 1, 9, 1, 1, 33, 1, 1, 57, 1, 1, 73, 2, 0, 81,
+            Call::Release,
+            Call::Report(0, 0),
+            Call::Report(1, 9),
+            Call::Report(1, 33),
+            Call::Report(1, 57),
+            Call::Report(1, 73),
+            Call::End(81),
         ],
     )?;
     // m5: visit 4 at 77 gives suspend 8 -1.
     plan_a(
         rt,
-        &[0, 0, 0, 1, 0, 0, 1, 1, 9, 1, 1, 33, 1, 1, 50, 1, 1, 77],
+        &[
+            Call::Release,
+            Call::Report(0, 0),
+            Call::Report(1, 9),
+            Call::Report(1, 33),
+            Call::Report(1, 50),
+            Call::Report(1, 77),
+        ],
     )
 }
 
@@ -131,9 +148,27 @@ fn cases_of_a(rt: &impl Print) -> io::Result<()> {
 // m6 to m9.
 fn cases_of_b(rt: &impl Print) -> io::Result<()> {
     // m6 to m9: go 15 180, go 15 167, go 4 189, go 3 196, ended.
-    plan_b(rt, &[0, 0, 0, 1, 1, 0, 1, 4, 0, 1, 0, 0, 2, 0, 9])?;
+    plan_b(
+        rt,
+        &[
+            Call::Release,
+            Call::Report(1, 0),
+            Call::Report(4, 0),
+            Call::Report(0, 0),
+            Call::End(9),
+        ],
+    )?;
     // m8 and m9: go 15 180, go 15 167, then point 0 is 17, then go 8 185 and go 7 184.
-    plan_b(rt, &[0, 0, 0, 1, 1, 0, 1, 0, 0, 1, 2, 0, 1, 0, 0])
+    plan_b(
+        rt,
+        &[
+            Call::Release,
+            Call::Report(1, 0),
+            Call::Report(0, 0),
+            Call::Report(2, 0),
+            Call::Report(0, 0),
+        ],
+    )
 }
 
 // m10 to m12.

@@ -7,6 +7,8 @@ use Prim.Native.Nat.{ℕ, ◌+◌}
 use native.Mathlib.Omega.{arith}
 use lib.Dec.{leb, ltb}
 use borrow.Author.Tests.{ltb-true, ltb-false, lt-ltb, le-ltb}
+use Rattle.model.specs.declared.Refusal.{Refusal}
+use Rattle.model.specs.declared.Refusal.TheVariants.{Broken, Busy, Unfit, Idle, Stranger, Backward, Astray}
 use Rattle.model.specs.Plan.{C, Plan, all_leaves}
 use Rattle.model.specs.Forms.{main}
 use Rattle.model.specs.Total.{total}
@@ -42,12 +44,12 @@ use Rattle.demands.proofs.Onward.{can_report, can_end}
 -- ANSWERS
 
 -- An answer that is a refusal is no acceptance.
-pub not_both : (x : Answer) (k : ℕ) → x ≡ Refused k → Accepts x → ⊥
+pub not_both : (x : Answer) (k : Refusal) → x ≡ Refused k → Accepts x → ⊥
 not_both x k e q = subst Accepts e q
 
--- A refusal has one number.
-pub same_number : {k m : ℕ} → Refused k ≡ Refused m → k ≡ m
-same_number e = cc
+-- A refusal is one.
+pub same_refusal : {k m : Refusal} → Refused k ≡ Refused m → k ≡ m
+same_refusal e = cc
 
 -- TESTS OF A CALL
 
@@ -67,22 +69,22 @@ levels_found p a s ls e = timed_some p a s (levels_of p (stack_of s)) ls e
 
 -- The call is accepted; or the rules refuse it by a number, this is its answer, and the state is as it was.
 abbrev Fate : Memory → State → Call → Reply State → Type 0
-Fate m s c r = Accepts r.answer ⊎ ((k : ℕ) × Refuses m s c k × (r ≡ refuse s k))
+Fate m s c r = Accepts r.answer ⊎ ((k : Refusal) × Refuses m s c k × (r ≡ refuse s k))
 
 -- The call is refused by k.
-turned : {m : Memory} {s : State} {c : Call} (k : ℕ) → Refuses m s c k → Fate m s c (refuse s k)
+turned : {m : Memory} {s : State} {c : Call} (k : Refusal) → Refuses m s c k → Fate m s c (refuse s k)
 turned k w = inr (k, w, refl)
 
 -- A call on an idle state.
 idle_fate : (m : Memory) (s : State) (p : Plan) → TableOf p m → s.running ≡ false → (c : Call) → Fate m s c (reply p s idle c)
 unfolding respond
-idle_fate m s p o e (Report n r) = turned 14 (idle_report o e)
-idle_fate m s p o e (End r) = turned 14 (idle_end o e)
+idle_fate m s p o e (Report n r) = turned Idle (idle_report o e)
+idle_fate m s p o e (End r) = turned Idle (idle_end o e)
 idle_fate m s p o e Release = by (leb (total C (main p) + p.switch) p.deadline) refl
   where
-    by : (b : Bool) → leb (total C (main p) + p.switch) p.deadline ≡ b → Fate m s Release (in_numbers p s (pick b (decided p at_release 0 Running) (refuse idle 13)))
+    by : (b : Bool) → leb (total C (main p) + p.switch) p.deadline ≡ b → Fate m s Release (in_numbers p s (pick b (decided p at_release 0 Running) (refuse idle Unfit)))
     by true i = inl tt
-    by false i = turned 13 (unfit o e (failed _ (fit_exactly p) i))
+    by false i = turned Unfit (unfit o e (failed _ (fit_exactly p) i))
 
 -- A report, an end and any call on a state that stands at levels.
 module _ (m : Memory) (s : State) (p : Plan) (u : Underway p m s) (ls : Levels) (e : standing p s ≡ some ls) where
@@ -97,27 +99,27 @@ module _ (m : Memory) (s : State) (p : Plan) (u : Underway p m s) (ls : Levels) 
   report_fate n r = by (is_point (all_leaves p.functions) n) refl (ltb r s.reading) refl (next_levels p (place_of s ls) n) refl
     where
       by : (i : Bool) → is_point (all_leaves p.functions) n ≡ i → (j : Bool) → ltb r s.reading ≡ j → (o : Option Levels) → next_levels p (place_of s ls) n ≡ o →
-          Fate m s (Report n r) (in_numbers p s (pick i (pick j (refuse x 16) (reached p x n r s.others o)) (refuse x 15)))
+          Fate m s (Report n r) (in_numbers p s (pick i (pick j (refuse x Backward) (reached p x n r s.others o)) (refuse x Stranger)))
       by true a false b (some ls') z = inl tt
       by true a false b none z =
-          turned 17 (astray_report u (is_point_of p n a) (ltb-false r s.reading b)
+          turned Astray (astray_report u (is_point_of p n a) (ltb-false r s.reading b)
           (λ w. let (ls', q) = (can_report p u.table.accepted s ls n levels).1 w in let i : ◌≡◌ {A = ℕ} 0 1 = cc in omega arith))
-      by true a true b o z = turned 16 (backward_report u (is_point_of p n a) (ltb-true r s.reading b))
-      by false a j b o z = turned 15 (stranger u (failed _ (point_test p n) a))
+      by true a true b o z = turned Backward (backward_report u (is_point_of p n a) (ltb-true r s.reading b))
+      by false a j b o z = turned Stranger (stranger u (failed _ (point_test p n) a))
 
   end_fate : (r : ℕ) → Fate m s (End r) (reply p s (running_at s ls) (End r))
   unfolding respond
   end_fate r = by (ltb r s.reading) refl (can_close p (place_of s ls)) refl
     where
       by : (j : Bool) → ltb r s.reading ≡ j → (i : Bool) → can_close p (place_of s ls) ≡ i →
-          Fate m s (End r) (in_numbers p s (pick j (refuse x 16) (pick i (record { state = idle; answer = Closed (ending s.others) (late p r) }) (refuse x 17))))
-      by true b i z = turned 16 (backward_end u (ltb-true r s.reading b))
+          Fate m s (End r) (in_numbers p s (pick j (refuse x Backward) (pick i (record { state = idle; answer = Closed (ending s.others) (late p r) }) (refuse x Astray))))
+      by true b i z = turned Backward (backward_end u (ltb-true r s.reading b))
       by false b true z = inl tt
-      by false b false z = turned 17 (astray_end u (ltb-false r s.reading b) (failed _ (can_end p u.table.accepted s ls levels) z))
+      by false b false z = turned Astray (astray_end u (ltb-false r s.reading b) (failed _ (can_end p u.table.accepted s ls levels) z))
 
   running_fate : (c : Call) → Fate m s c (reply p s (running_at s ls) c)
   unfolding respond
-  running_fate Release = turned 12 (busy u)
+  running_fate Release = turned Busy (busy u)
   running_fate (Report n r) = report_fate n r
   running_fate (End r) = end_fate r
 
@@ -128,7 +130,7 @@ phase_fate m s c p o true e = by (standing p s) refl
   where
     by : (q : Option Levels) → standing p s ≡ q → Fate m s c (on_state p s c (found_at s q))
     by none i =
-        turned 11 (nowhere o e (λ w. let (ls, q) = (stands_test p o.accepted s).1 w in let z : ◌≡◌ {A = ℕ} 0 1 = cc in omega arith))
+        turned Broken (nowhere o e (λ w. let (ls, q) = (stands_test p o.accepted s).1 w in let z : ◌≡◌ {A = ℕ} 0 1 = cc in omega arith))
     by (some ls) i = running_fate m s p (record { table = o; running = e; stands = (stands_test p o.accepted s).0 (ls, i) }) ls i c
 
 -- The plan of a table.
@@ -144,7 +146,7 @@ unfolding call_on
 fate m s c = by (plan_of (table_held m)) refl
   where
     by : (o : Option Plan) → plan_of (table_held m) ≡ o → Fate m s c (on_plan s c o)
-    by none e = turned 11 (no_plan (λ p o. let q = plan_found m p o in let z : ◌≡◌ {A = ℕ} 0 1 = cc in omega arith))
+    by none e = turned Broken (no_plan (λ p o. let q = plan_found m p o in let z : ◌≡◌ {A = ℕ} 0 1 = cc in omega arith))
     by (some p) e = phase_fate m s c p (found_plan m p e) s.running refl
 
 -- FROM THE RULES TO THE CALL
@@ -186,7 +188,7 @@ no_levels p a s ls e n f = by (next_levels p (place_of s ls) n) refl
     by (some ls') i = absurd (f ((can_report p a s ls n (levels_found p a s ls e)).0 (ls', i)))
 
 -- A call that the rules refuse by k is refused by k and keeps the state.
-rule_call : (m : Memory) (s : State) (c : Call) (k : ℕ) → Refuses m s c k → call_on (table_held m) s c ≡ refuse s k
+rule_call : (m : Memory) (s : State) (c : Call) (k : Refusal) → Refuses m s c k → call_on (table_held m) s c ≡ refuse s k
 unfolding respond
 rule_call m s c k (no_plan f) = unfold call_on in ap (on_plan s c) (no_plan_found m f)
 rule_call m s c k (nowhere {p = p} o e f) = on_table m s c p o true e ∙ ap (λ q. on_state p s c (found_at s q)) (levels_missing p o.accepted s f)
@@ -208,17 +210,17 @@ rule_call m s c k (astray_end {p = p} {r = r} u h f) =
 -- THE RULES, EXACTLY
 
 -- A call is refused by k exactly when the rules refuse it by k.
-pub refused_exactly : (m : Memory) (s : State) (c : Call) (k : ℕ) → ((call_on (table_held m) s c).answer ≡ Refused k) ↔ Refuses m s c k
+pub refused_exactly : (m : Memory) (s : State) (c : Call) (k : Refusal) → ((call_on (table_held m) s c).answer ≡ Refused k) ↔ Refuses m s c k
 refused_exactly m s c k = ((λ e. by e (fate m s c)), λ w. ap (λ r. r.answer) (rule_call m s c k w))
   where
     by : (call_on (table_held m) s c).answer ≡ Refused k → Fate m s c (call_on (table_held m) s c) → Refuses m s c k
     by e (inl q) = absurd (not_both (call_on (table_held m) s c).answer k e q)
-    by e (inr (i, w, q)) = subst (Refuses m s c) (same_number (sym (ap (λ r. r.answer) q) ∙ e)) w
+    by e (inr (i, w, q)) = subst (Refuses m s c) (same_refusal (sym (ap (λ r. r.answer) q) ∙ e)) w
 
 -- A call is accepted exactly when the rules refuse it by no number.
-pub accepted_exactly : (m : Memory) (s : State) (c : Call) → Accepts (call_on (table_held m) s c).answer ↔ ((k : ℕ) → ¬ Refuses m s c k)
+pub accepted_exactly : (m : Memory) (s : State) (c : Call) → Accepts (call_on (table_held m) s c).answer ↔ ((k : Refusal) → ¬ Refuses m s c k)
 accepted_exactly m s c = ((λ q k w. not_both (call_on (table_held m) s c).answer k ((refused_exactly m s c k).1 w) q), λ f. by f (fate m s c))
   where
-    by : ((k : ℕ) → ¬ Refuses m s c k) → Fate m s c (call_on (table_held m) s c) → Accepts (call_on (table_held m) s c).answer
+    by : ((k : Refusal) → ¬ Refuses m s c k) → Fate m s c (call_on (table_held m) s c) → Accepts (call_on (table_held m) s c).answer
     by f (inl q) = q
     by f (inr (i, w, q)) = absurd (f i w)

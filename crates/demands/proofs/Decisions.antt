@@ -10,6 +10,8 @@ use Rattle.model.specs.Plan.{Plan}
 use Rattle.model.specs.Forms.{main}
 use Rattle.model.specs.Remaining.{Reported, Complete}
 use Rattle.model.specs.Places.{pick, Traceable}
+use Rattle.model.specs.declared.Refusal.{Refusal}
+use Rattle.model.specs.declared.Refusal.TheVariants.{Backward, Astray}
 use Rattle.model.specs.declared.Call.{Call}
 use Rattle.model.specs.declared.Call.TheVariants.{Release, Report, End}
 use Rattle.model.specs.declared.Answer.{Answer}
@@ -71,10 +73,10 @@ end_reply p x last others r q = by (ltb r last) (can_close p x) q
     closes : Reply places.State
     closes = record { state = idle; answer = Closed (ending others) (late p r) }
 
-    kept : ℕ → Reply places.State
+    kept : Refusal → Reply places.State
     kept k = refuse (running x last others) k
 
-    by : (i j : Bool) → Accepts (pick i (kept 16) (pick j closes (kept 17))).answer → pick i (kept 16) (pick j closes (kept 17)) ≡ closes
+    by : (i j : Bool) → Accepts (pick i (kept Backward) (pick j closes (kept Astray))).answer → pick i (kept Backward) (pick j closes (kept Astray)) ≡ closes
     by true j q = absurd q
     by false true q = refl
     by false false q = absurd q

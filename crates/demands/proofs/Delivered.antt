@@ -2,10 +2,10 @@
 -- to stand for the controller's. So on the table of an accepted plan they answer as the controller over places does, and keep the deadline.
 use mathlib.Core.List.{List, [], ◌∷◌}
 use mathlib.Core.Path.{◌≡◌, refl, ap, sym, ◌∙◌, subst}
-use Prim.Native.Nat.{ℕ}
 use Rattle.model.specs.Plan.{Plan}
 use Rattle.model.specs.declared.Call.{Call}
 use Rattle.model.specs.declared.Answer.{Answer}
+use Rattle.model.specs.declared.Refusal.{Refusal}
 use Rattle.model.specs.declared.Answer.TheVariants.{Refused, Decided, Closed}
 use Rattle.model.specs.Calls.{Accepts, Reply}
 use Rattle.model.specs.Decisions.{Fit}
@@ -42,7 +42,7 @@ module _ (m : Memory) where
   answer_held s c = call_answer m.row m.head s c
 
   -- A refused call leaves every number of the lent state.
-  pub refused_keeps : (s : State) (c : Call) (k : ℕ) → ((delivered m).respond s c).answer ≡ Refused k → ((delivered m).respond s c).state ≡ s
+  pub refused_keeps : (s : State) (c : Call) (k : Refusal) → ((delivered m).respond s c).answer ≡ Refused k → ((delivered m).respond s c).state ≡ s
   unfolding called
   refused_keeps s c k e = ap (λ a. pick (refusing a) s (lent (reply s c).state)) (sym (answer_held s c) ∙ e)
 

@@ -9,6 +9,9 @@ use Prim.Native.Nat.{ℕ, ◌+◌, ◌<◌}
 use native.Mathlib.Omega.{arith}
 use native.Mathlib.Decide.{dec_le}
 use lib.Dec.{leb}
+use Rattle.model.specs.declared.Refusal.{Refusal}
+use Rattle.model.specs.Refusals.{number_of}
+use Rattle.model.specs.declared.Refusal.TheVariants.{Broken, Unfit, Idle}
 use Rattle.model.specs.Plan.{Block, C, Plan, all_leaves}
 use Rattle.model.specs.Forms.{main}
 use Rattle.model.specs.Total.{total}
@@ -47,11 +50,11 @@ use Rattle.demands.proofs.Delivered.{answer_held, refused_keeps, accepted_leaves
 -- ANY MEMORY AND STATE
 
 -- A delivered call is refused by k exactly when the rules refuse it by k, and accepted exactly when they refuse it by no number.
-pub refused_exactly : (m : Memory) (s : State) (c : Call) (k : ℕ) → (((delivered m).respond s c).answer ≡ Refused k) ↔ Refuses m (state_of s) c k
+pub refused_exactly : (m : Memory) (s : State) (c : Call) (k : Refusal) → (((delivered m).respond s c).answer ≡ Refused k) ↔ Refuses m (state_of s) c k
 refused_exactly m s c k = subst (λ a. (a ≡ Refused k) ↔ Refuses m (state_of s) c k) (sym (answer_held m s c)) (calls.refused_exactly m (state_of s) c k)
 
-pub accepted_exactly : (m : Memory) (s : State) (c : Call) → Accepts ((delivered m).respond s c).answer ↔ ((k : ℕ) → ¬ Refuses m (state_of s) c k)
-accepted_exactly m s c = subst (λ a. Accepts a ↔ ((k : ℕ) → ¬ Refuses m (state_of s) c k)) (sym (answer_held m s c)) (calls.accepted_exactly m (state_of s) c)
+pub accepted_exactly : (m : Memory) (s : State) (c : Call) → Accepts ((delivered m).respond s c).answer ↔ ((k : Refusal) → ¬ Refuses m (state_of s) c k)
+accepted_exactly m s c = subst (λ a. Accepts a ↔ ((k : Refusal) → ¬ Refuses m (state_of s) c k)) (sym (answer_held m s c)) (calls.accepted_exactly m (state_of s) c)
 
 -- Lent states that read the same are answered the same.
 pub alike_answered : (m : Memory) (s t : State) → state_of s ≡ state_of t → (c : Call) → ((delivered m).respond s c).answer ≡ ((delivered m).respond t c).answer
@@ -63,8 +66,8 @@ unfolding call_on respond
 released_alike t s e = by (plan_of t)
   where
     picked : (p : Plan) (b : Bool) (x : Reply places.State) → ((k : control.State) → left p k x.state x.answer ≡ left p fresh x.state x.answer) →
-        Accepts (in_numbers p s (pick b x (refuse idle 13))).answer →
-        in_numbers p s (pick b x (refuse idle 13)) ≡ in_numbers p fresh (pick b x (refuse idle 13))
+        Accepts (in_numbers p s (pick b x (refuse idle Unfit))).answer →
+        in_numbers p s (pick b x (refuse idle Unfit)) ≡ in_numbers p fresh (pick b x (refuse idle Unfit))
     picked p true x f q = λ i. record { state = f s i; answer = x.answer }
     picked p false x f q = absurd q
 
@@ -90,13 +93,13 @@ idle_released m s e q =
 
 -- A call on an idle state is refused by 11 exactly where no accepted text, read into whatever memory, leaves this one.
 pub broken_exactly : (m : Memory) (s : State) → (state_of s).running ≡ false → (c : Call) →
-    (((delivered m).respond s c).answer ≡ Refused 11) ↔ ((text : List ℕ) (before : Memory) (p : Plan) → ReadAs text before p → ¬ (after_read text before ≡ m))
+    (((delivered m).respond s c).answer ≡ Refused Broken) ↔ ((text : List ℕ) (before : Memory) (p : Plan) → ReadAs text before p → ¬ (after_read text before ≡ m))
 broken_exactly m s e c = (
-  (λ q text before p r i. by refl ((refused_exactly m s c 11).0 q) (p, subst (TableOf p) i (read_holds text before p r))),
-  λ f. (refused_exactly m s c 11).1 (no_plan (λ p o. f (print p) m p (own_text p m o) o.unchanged)),
+  (λ q text before p r i. by refl ((refused_exactly m s c Broken).0 q) (p, subst (TableOf p) i (read_holds text before p r))),
+  λ f. (refused_exactly m s c Broken).1 (no_plan (λ p o. f (print p) m p (own_text p m o) o.unchanged)),
 )
   where
-    by : {c : Call} {k : ℕ} → k ≡ 11 → Refuses m (state_of s) c k → ¬ ((p : Plan) × TableOf p m)
+    by : {c : Call} {k : Refusal} → number_of k ≡ 11 → Refuses m (state_of s) c k → ¬ ((p : Plan) × TableOf p m)
     by i (no_plan f) (p, o) = f p o
     by i (nowhere u r f) w = let z : ◌≡◌ {A = ℕ} 0 1 = cc in omega arith
     by i (busy u) w = omega arith
@@ -111,10 +114,10 @@ broken_exactly m s e c = (
 
 -- On the table of an accepted plan a running state is refused by 11 exactly when no run stands where it stands.
 pub nowhere_exactly : (p : Plan) (m : Memory) → TableOf p m → (s : State) → (state_of s).running ≡ true → (c : Call) →
-    (((delivered m).respond s c).answer ≡ Refused 11) ↔ ¬ StandsSomewhere p (state_of s)
-nowhere_exactly p m o s e c = ((λ q. by refl ((refused_exactly m s c 11).0 q)), λ f. (refused_exactly m s c 11).1 (nowhere o e f))
+    (((delivered m).respond s c).answer ≡ Refused Broken) ↔ ¬ StandsSomewhere p (state_of s)
+nowhere_exactly p m o s e c = ((λ q. by refl ((refused_exactly m s c Broken).0 q)), λ f. (refused_exactly m s c Broken).1 (nowhere o e f))
   where
-    by : {c : Call} {k : ℕ} → k ≡ 11 → Refuses m (state_of s) c k → ¬ StandsSomewhere p (state_of s)
+    by : {c : Call} {k : Refusal} → number_of k ≡ 11 → Refuses m (state_of s) c k → ¬ StandsSomewhere p (state_of s)
     by i (no_plan f) = absurd (f p o)
     by i (nowhere {p = q} u r f) = subst (λ x. ¬ StandsSomewhere x (state_of s)) (one_plan q p m u o) f
     by i (busy u) = absurd (omega arith)
@@ -144,7 +147,7 @@ module _ (p : Plan) (m : Memory) (o : TableOf p m) where
   behind : (s : State) (c : Call) → (Accepts (answer s c) → Known ((delivered m).respond s c).state) → Known s → Known ((delivered m).respond s c).state
   behind s c f x = by (fate m (state_of s) c)
     where
-      by : Accepts (call_on (table_held m) (state_of s) c).answer ⊎ ((k : ℕ) × Refuses m (state_of s) c k × (call_on (table_held m) (state_of s) c ≡ refuse (state_of s) k)) → Known ((delivered m).respond s c).state
+      by : Accepts (call_on (table_held m) (state_of s) c).answer ⊎ ((k : Refusal) × Refuses m (state_of s) c k × (call_on (table_held m) (state_of s) c ≡ refuse (state_of s) k)) → Known ((delivered m).respond s c).state
       by (inl q) = f (subst Accepts (sym (answer_held m s c)) q)
       by (inr (k, w, e)) = subst Known (sym (refused_keeps m s c k ((refused_exactly m s c k).1 w))) x
 
@@ -156,8 +159,8 @@ module _ (p : Plan) (m : Memory) (o : TableOf p m) where
   -- A call on a fresh state.
   from_fresh : (c : Call) → Known ((delivered m).respond zeros c).state
   from_fresh Release = behind zeros Release (λ q. inr ([], _, since.released q)) (inl refl)
-  from_fresh (Report n r) = inl (refused_keeps m zeros (Report n r) 14 ((refused_exactly m zeros (Report n r) 14).1 (idle_report o refl)))
-  from_fresh (End r) = inl (refused_keeps m zeros (End r) 14 ((refused_exactly m zeros (End r) 14).1 (idle_end o refl)))
+  from_fresh (Report n r) = inl (refused_keeps m zeros (Report n r) Idle ((refused_exactly m zeros (Report n r) Idle).1 (idle_report o refl)))
+  from_fresh (End r) = inl (refused_keeps m zeros (End r) Idle ((refused_exactly m zeros (End r) Idle).1 (idle_end o refl)))
 
   -- A call on a state behind a history.
   from_known : (s : State) (h : List ℕ) (ds : List Decision) → Since (delivered m) s h ds → (c : Call) → Known ((delivered m).respond s c).state
@@ -177,32 +180,32 @@ module _ (p : Plan) (m : Memory) (o : TableOf p m) where
   -- THE CALLS THAT THE RULES REFUSE
 
   -- The rules refuse the call by some number.
-  abbrev pub Refusal : State → Call → Type 0
-  Refusal s c = (k : ℕ) × Refuses m (state_of s) c k
+  abbrev pub SomeRefusal : State → Call → Type 0
+  SomeRefusal s c = (k : Refusal) × Refuses m (state_of s) c k
 
   -- A call that is not accepted is refused by some number.
-  refusal_of : (s : State) (c : Call) → ¬ Accepts (answer s c) → Refusal s c
+  refusal_of : (s : State) (c : Call) → ¬ Accepts (answer s c) → SomeRefusal s c
   refusal_of s c f = by (fate m (state_of s) c)
     where
-      by : Accepts (call_on (table_held m) (state_of s) c).answer ⊎ ((k : ℕ) × Refuses m (state_of s) c k × (call_on (table_held m) (state_of s) c ≡ refuse (state_of s) k)) → Refusal s c
+      by : Accepts (call_on (table_held m) (state_of s) c).answer ⊎ ((k : Refusal) × Refuses m (state_of s) c k × (call_on (table_held m) (state_of s) c ≡ refuse (state_of s) k)) → SomeRefusal s c
       by (inl q) = absurd (f (subst Accepts (sym (answer_held m s c)) q))
       by (inr (k, w, e)) = (k, w)
 
   -- And the other way round.
-  not_accepted : (s : State) (c : Call) → Refusal s c → ¬ Accepts (answer s c)
+  not_accepted : (s : State) (c : Call) → SomeRefusal s c → ¬ Accepts (answer s c)
   not_accepted s c (k, w) q = (accepted_exactly m s c).0 q k w
 
   -- From a fresh state, where total + T is within D.
-  pub refusable_fresh : Fit p → (c : Call) → Refusal zeros c ↔ Refusable p timed.closed c
+  pub refusable_fresh : Fit p → (c : Call) → SomeRefusal zeros c ↔ Refusable p timed.closed c
   unfolding Refusable
   refusable_fresh f Release = ((λ x. not_accepted zeros Release x ((decisions.release_exactly p m o).1 f)), λ u. absurd u)
-  refusable_fresh f (Report n r) = ((λ x. tt), λ u. (14, idle_report o refl))
-  refusable_fresh f (End r) = ((λ x. tt), λ u. (14, idle_end o refl))
+  refusable_fresh f (Report n r) = ((λ x. tt), λ u. (Idle, idle_report o refl))
+  refusable_fresh f (End r) = ((λ x. tt), λ u. (Idle, idle_end o refl))
 
   -- Behind a history.
   module _ {s : State} {h : List ℕ} {ds : List Decision} (w : Since (delivered m) s h ds) where
     -- Why a report is refused, and that it is.
-    report_why : (n r : ℕ) → Refusal s (Report n r) → ¬ PointOf p n ⊎ ((r < last_reading ds) ⊎ ¬ Reported (main p) (h ++ (n ∷ [])))
+    report_why : (n r : ℕ) → SomeRefusal s (Report n r) → ¬ PointOf p n ⊎ ((r < last_reading ds) ⊎ ¬ Reported (main p) (h ++ (n ∷ [])))
     report_why n r x = by (is_point (all_leaves p.functions) n) (point_test p n)
       where
         by : (b : Bool) → (b ≡ true) ↔ PointOf p n → ¬ PointOf p n ⊎ ((r < last_reading ds) ⊎ ¬ Reported (main p) (h ++ (n ∷ [])))
@@ -219,7 +222,7 @@ module _ (p : Plan) (m : Memory) (o : TableOf p m) where
     report_not n r (inr (inr f)) q = f ((decisions.report_exactly p m o w n r).0 q).2
 
     -- Why an end is refused, and that it is.
-    end_why : (r : ℕ) → Refusal s (End r) → (r < last_reading ds) ⊎ ¬ Complete (main p) h
+    end_why : (r : ℕ) → SomeRefusal s (End r) → (r < last_reading ds) ⊎ ¬ Complete (main p) h
     end_why r x =
         elim (dec_le (last_reading ds) r) [
           | yes y ↦ inr (λ q. not_accepted s (End r) x ((decisions.end_exactly p m o w r).1 (y, q)))
@@ -232,7 +235,7 @@ module _ (p : Plan) (m : Memory) (o : TableOf p m) where
 
     -- These are the calls that a list of demand 3 may hold while the release is open.
     pub refusable_open : (clock : ℕ) (to_come : List Block) (c : Call) →
-        Refusal s c ↔ Refusable p (opened (record { clock = clock; to_come = to_come; history = h; decisions = ds })) c
+        SomeRefusal s c ↔ Refusable p (opened (record { clock = clock; to_come = to_come; history = h; decisions = ds })) c
     unfolding Refusable
     refusable_open clock to_come Release = ((λ x. tt), λ u. refusal_of s Release (decisions.none_released p m o w))
     refusable_open clock to_come (Report n r) = (report_why n r, λ u. refusal_of s (Report n r) (report_not n r u))

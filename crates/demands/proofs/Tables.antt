@@ -1,4 +1,5 @@
 -- What the delivered reading answers and leaves. Lent memory holds the table of a plan, as the rules say it, exactly where the table in it is the plan's.
+use Rattle.std.specs.Prelude.{Ok, Err}
 use mathlib.Core.List.{List, map}
 use mathlib.Core.Logic.{◌↔◌}
 use mathlib.Core.Path.{◌≡◌, refl, ap, sym, ◌∙◌, subst}
@@ -6,6 +7,7 @@ use Prim.Native.Nat.{ℕ, ◌≤◌}
 use native.Mathlib.Omega.{arith}
 use lib.ListN.{length, get_or, take, drop}
 use lib.Seq.{drop_at, get_or-take}
+use Rattle.model.specs.declared.Refusal.{Refusal}
 use Rattle.model.specs.Plan.{Plan, M}
 use Rattle.model.specs.Forms.{main}
 use Rattle.model.specs.Total.{Total, MaxLoadTotal}
@@ -14,17 +16,16 @@ use Rattle.model.specs.Timed.{PointOf}
 use Rattle.model.specs.Acceptance.{sizes, Accepted}
 use Rattle.model.proofs.Blocks.{point_of_is}
 use Rattle.model.proofs.Theorems as model
+use Rattle.reader.specs.declared.RefusedAt.{RefusedAt}
 use Rattle.reader.specs.Outcome.{Outcome, plan, refused}
-use Rattle.reader.specs.declared.Answer.TheVariants as reading
 use Rattle.reader.specs.Print.{print}
-use Rattle.table.specs.declared.Head.{Head}
 use Rattle.table.specs.Table.{Table, table_of}
-use Rattle.table.specs.Reading.{verdict, verdict_of}
+use Rattle.table.specs.Reading.{verdict, head_after}
 use Rattle.table.proofs.Theorems as table
 use Rattle.rolsipay.specs.declared.Leaf.{Leaf}
 use Rattle.control.proofs.Tabled.{point_marked, stretch_at}
 use Rattle.rolsipay.specs.Lent.{leaves_from, table_in}
-use Rattle.rolsipay.specs.Reading.{row_after}
+use Rattle.rolsipay.specs.Reading.{answer_of, row_after}
 use Rattle.rolsipay.proofs.Spreading.{length_leaves}
 use Rattle.rolsipay.proofs.Theorems.{read_back, read_again, take_map, column_held}
 use Rattle.demands.specs.Delivered.{Memory, read_answer, after_read, ReadAs}
@@ -38,7 +39,7 @@ table_held m = table_in m.row m.head
 
 -- What reading leaves, by what it finds.
 left : Outcome → Memory → Memory
-left o m = record { row = row_after o m.row; head = (verdict_of o m.head).head }
+left o m = record { row = row_after o m.row; head = head_after o m.head }
 
 left_as : (text : List ℕ) (m : Memory) (p : Plan) → ReadAs text m p → after_read text m ≡ left (plan p) m
 unfolding left
@@ -72,30 +73,31 @@ read_holds text m p e =
 
 -- WHAT READING ANSWERS
 
--- The answer tells the verdict: a refusal its number and line, an acceptance that there is a plan.
-refusal_told : (o : Outcome) (h : Head) (k j : ℕ) → (verdict_of o h).answer ≡ reading.Refused k j → o ≡ refused k j
-refusal_told (plan p) h k j e = let z : ◌≡◌ {A = ℕ} 0 1 = cc in absurd (omega arith)
-refusal_told (refused k' j') h k j e = let x : k' ≡ k = cc in let y : j' ≡ j = cc in rw (x, y) refl
+-- The answer tells the verdict: a refusal and its line, an acceptance that there is a plan.
+refusal_told : (o : Outcome) (k : Refusal) (j : ℕ) → answer_of o ≡ Err (record { refusal = k; line = j }) → o ≡ refused k j
+refusal_told (plan p) k j e = cc
+refusal_told (refused k' j') k j e =
+    let q : ◌≡◌ {A = RefusedAt} (record { refusal = k'; line = j' }) (record { refusal = k; line = j }) = cc in ap (λ r. refused r.refusal r.line) q
 
-plan_told : (o : Outcome) (h : Head) → (verdict_of o h).answer ≡ reading.Accepted → (p : Plan) × (o ≡ plan p)
-plan_told (plan p) h e = (p, refl)
-plan_told (refused k j) h e = let z : ◌≡◌ {A = ℕ} 0 1 = cc in absurd (omega arith)
+plan_told : (o : Outcome) → answer_of o ≡ Ok tt → (p : Plan) × (o ≡ plan p)
+plan_told (plan p) e = (p, refl)
+plan_told (refused k j) e = cc
 
 -- It is refused by k at line j exactly when the rules say so.
-pub text_refused : (text : List ℕ) (m : Memory) (k j : ℕ) → (read_answer text m ≡ reading.Refused k j) ↔ Ruled (length m.row) text k j
+pub text_refused : (text : List ℕ) (m : Memory) (k : Refusal) (j : ℕ) → (read_answer text m ≡ Err (record { refusal = k; line = j })) ↔ Ruled (length m.row) text k j
 text_refused text m k j = (
-  (λ e. (text_exactly (length m.row) text k j).0 (refusal_told (verdict (length m.row) text) m.head k j e)),
-  λ w. ap (λ o. (verdict_of o m.head).answer) ((text_exactly (length m.row) text k j).1 w),
+  (λ e. (text_exactly (length m.row) text k j).0 (refusal_told (verdict (length m.row) text) k j e)),
+  λ w. ap answer_of ((text_exactly (length m.row) text k j).1 w),
 )
 
 -- It is accepted exactly when it is read as a plan.
-pub text_accepted : (text : List ℕ) (m : Memory) → (read_answer text m ≡ reading.Accepted) ↔ ((p : Plan) × ReadAs text m p)
-text_accepted text m = (plan_told (verdict (length m.row) text) m.head, λ (p, e). ap (λ o. (verdict_of o m.head).answer) e)
+pub text_accepted : (text : List ℕ) (m : Memory) → (read_answer text m ≡ Ok tt) ↔ ((p : Plan) × ReadAs text m p)
+text_accepted text m = (plan_told (verdict (length m.row) text), λ (p, e). ap answer_of e)
 
 -- A refusal leaves the memory.
-pub refused_leaves : (text : List ℕ) (m : Memory) (k j : ℕ) → read_answer text m ≡ reading.Refused k j → after_read text m ≡ m
+pub refused_leaves : (text : List ℕ) (m : Memory) (k : Refusal) (j : ℕ) → read_answer text m ≡ Err (record { refusal = k; line = j }) → after_read text m ≡ m
 unfolding left
-refused_leaves text m k j e = ap (λ o. left o m) (refusal_told (verdict (length m.row) text) m.head k j e)
+refused_leaves text m k j e = ap (λ o. left o m) (refusal_told (verdict (length m.row) text) k j e)
 
 -- An accepted plan leaves the records past its last leaf.
 pub later_records : (text : List ℕ) (m : Memory) (p : Plan) → ReadAs text m p → drop (sizes p.functions) (after_read text m).row ≡ drop (sizes p.functions) m.row

@@ -9,6 +9,8 @@ use native.Mathlib.Decide.{dec_le}
 use lib.Dec.{leb}
 use lib.ListN.{length}
 use borrow.Author.Tests.{leb-false, lt-leb}
+use Rattle.model.specs.declared.Refusal.{Refusal}
+use Rattle.model.specs.declared.Refusal.TheVariants.{Oversize, Unseen, Uncalled, Long}
 use Rattle.model.specs.Plan.{C, M, Plan}
 use Rattle.model.specs.Forms.{main}
 use Rattle.model.specs.Runs.{Run, visits, sum}
@@ -28,13 +30,13 @@ use Rattle.demands.proofs.Tests.{failed, fails}
 -- FROM THE RULES TO THE READER
 
 -- A text over 65,536 bytes is refused by 1.
-outcome_long : (capacity : ℕ) (text : List ℕ) → 65536 < length text → outcome capacity text ≡ refused 1 0
+outcome_long : (capacity : ℕ) (text : List ℕ) → 65536 < length text → outcome capacity text ≡ refused Oversize 0
 unfolding outcome
 outcome_long capacity text h = rw (lt-leb (length text) 65536 h)
 
 -- What the tests for rules 8, 9 and 10 say, in this order.
 abbrev Tests : Plan → Bool → Bool → Bool → Outcome
-Tests p seen called short = pick seen (pick called (pick short (plan p) (refused 10 0)) (refused 9 0)) (refused 8 0)
+Tests p seen called short = pick seen (pick called (pick short (plan p) (refused Long 0)) (refused Uncalled 0)) (refused Unseen 0)
 
 -- Behind the lines of a plan that keeps rules 3 to 7 and 19 these tests decide.
 read_outcome : (capacity : ℕ) (text : List ℕ) (p : Plan) → Read capacity text p → verdict capacity text ≡ judged p
@@ -53,7 +55,7 @@ not_short p r (inr h) =
     by false e = refl
 
 -- What the rules refuse the reader refuses.
-ruled_verdict : (capacity : ℕ) (text : List ℕ) (k j : ℕ) → Ruled capacity text k j → verdict capacity text ≡ refused k j
+ruled_verdict : (capacity : ℕ) (text : List ℕ) (k : Refusal) (j : ℕ) → Ruled capacity text k j → verdict capacity text ≡ refused k j
 ruled_verdict capacity text k j (oversize h) = rw (outcome_long capacity text h)
 ruled_verdict capacity text k j (line_refused h x) = ap (λ o. after_lines o) ((refusals.refused_exactly capacity text k j h).1 x)
 ruled_verdict capacity text k j (unseen {p = p} r f) =
@@ -96,7 +98,7 @@ judged_ruled capacity text p r =
     by false d y h z i = unseen r (failed _ (seen_all_exactly [] p.functions) d)
 
 -- A refusal by the reader is by 1, of an oversize text, or by one of 2 to 7 and 19.
-reader_ruled : (capacity : ℕ) (text : List ℕ) (k j : ℕ) → outcome capacity text ≡ refused k j → Ruled capacity text k j
+reader_ruled : (capacity : ℕ) (text : List ℕ) (k : Refusal) (j : ℕ) → outcome capacity text ≡ refused k j → Ruled capacity text k j
 reader_ruled capacity text k j e =
     elim (dec_le (length text) 65536) [
       | yes h ↦ line_refused h ((refusals.refused_exactly capacity text k j h).0 e)
@@ -113,6 +115,6 @@ outcome_ruled capacity text (plan p) e =
     judged_ruled capacity text p (record { text_is = x; formed = f; fits = h })
 
 -- A text is refused by k at line j exactly when the rules say so.
-pub text_exactly : (capacity : ℕ) (text : List ℕ) (k j : ℕ) → (verdict capacity text ≡ refused k j) ↔ Ruled capacity text k j
+pub text_exactly : (capacity : ℕ) (text : List ℕ) (k : Refusal) (j : ℕ) → (verdict capacity text ≡ refused k j) ↔ Ruled capacity text k j
 text_exactly capacity text k j =
     ((λ e. subst (Found capacity text) e (outcome_ruled capacity text (outcome capacity text) refl)), ruled_verdict capacity text k j)

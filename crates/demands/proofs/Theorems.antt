@@ -7,6 +7,9 @@ use mathlib.Core.Logic.{◌⊎◌, ◌↔◌}
 use mathlib.Core.Path.{◌≡◌}
 use Prim.Native.Nat.{ℕ, ◌≤◌}
 use lib.ListN.{length, drop}
+use Rattle.std.specs.Prelude.{Ok, Err}
+use Rattle.model.specs.declared.Refusal.{Refusal}
+use Rattle.model.specs.declared.Refusal.TheVariants.{Broken}
 use Rattle.model.specs.Plan.{Block, Plan}
 use Rattle.model.specs.Forms.{main}
 use Rattle.model.specs.Runs.{Run, visits}
@@ -22,7 +25,6 @@ use Rattle.model.specs.Timed.{PointOf, last_reading, Refusable, CallList, closed
 use Rattle.model.specs.Histories.{Reached, Since}
 use Rattle.model.specs.Worked.{plan_A}
 use Rattle.model.proofs.Theorems as model
-use Rattle.reader.specs.declared.Answer.TheVariants as reading
 use Rattle.reader.specs.Print.{print}
 use Rattle.table.proofs.Theorems as table
 use Rattle.control.specs.Meaning.{StandsSomewhere, HistoryState}
@@ -45,26 +47,26 @@ use Rattle.demands.proofs.Cases as marked
 -- DEMAND 1: THE RULES' NUMBERS, AND A REFUSAL CHANGES NOTHING
 
 -- Consider any text and any lent memory. Reading refuses the text by a number and a line exactly when the rules say this number and line.
-pub plan_refused_exactly : (text : List ℕ) (m : Memory) (k j : ℕ) →
-    (read_answer text m ≡ reading.Refused k j) ↔ Ruled (length m.row) text k j
+pub plan_refused_exactly : (text : List ℕ) (m : Memory) (k : Refusal) (j : ℕ) →
+    (read_answer text m ≡ Err (record { refusal = k; line = j })) ↔ Ruled (length m.row) text k j
 plan_refused_exactly = tables.text_refused
 
 -- A refused plan leaves the lent memory exactly as it was: every record of the row, and the head.
-pub refused_plan_keeps_memory : (text : List ℕ) (m : Memory) (k j : ℕ) → read_answer text m ≡ reading.Refused k j → after_read text m ≡ m
+pub refused_plan_keeps_memory : (text : List ℕ) (m : Memory) (k : Refusal) (j : ℕ) → read_answer text m ≡ Err (record { refusal = k; line = j }) → after_read text m ≡ m
 refused_plan_keeps_memory = tables.refused_leaves
 
 -- Consider any lent memory, any lent state and any call. It is refused by a number exactly when the rules refuse it by that number; so by one number only.
-pub call_refused_exactly : (m : Memory) (s : State) (c : Call) (k : ℕ) → (((delivered m).respond s c).answer ≡ Refused k) ↔ Refuses m (state_of s) c k
+pub call_refused_exactly : (m : Memory) (s : State) (c : Call) (k : Refusal) → (((delivered m).respond s c).answer ≡ Refused k) ↔ Refuses m (state_of s) c k
 call_refused_exactly = reached.refused_exactly
 
 -- A refused call leaves the lent state exactly as it was, every number of it.
-pub refused_call_keeps_state : (m : Memory) (s : State) (c : Call) (k : ℕ) → ((delivered m).respond s c).answer ≡ Refused k → ((delivered m).respond s c).state ≡ s
+pub refused_call_keeps_state : (m : Memory) (s : State) (c : Call) (k : Refusal) → ((delivered m).respond s c).answer ≡ Refused k → ((delivered m).respond s c).state ≡ s
 refused_call_keeps_state = delivering.refused_keeps
 
 -- DEMAND 2: ACCEPTED EXACTLY WHERE THE RULES ALLOW IT, REMAINING AND SUSPENSION
 
 -- A text is accepted exactly when it is read as a plan.
-pub plan_accepted_exactly : (text : List ℕ) (m : Memory) → (read_answer text m ≡ reading.Accepted) ↔ ((p : Plan) × ReadAs text m p)
+pub plan_accepted_exactly : (text : List ℕ) (m : Memory) → (read_answer text m ≡ Ok tt) ↔ ((p : Plan) × ReadAs text m p)
 plan_accepted_exactly = tables.text_accepted
 
 -- It is read as the plan p exactly when it is the one text of p, p keeps the rules 3 to 10 and 19, and the lent row holds the leaves of p.
@@ -87,7 +89,7 @@ pub table_of_one_plan : (p q : Plan) (m : Memory) → TableOf p m → TableOf q 
 table_of_one_plan = tables.one_plan
 
 -- A call, in any lent memory and on any lent state, is accepted exactly when the rules refuse it by no number.
-pub call_accepted_exactly : (m : Memory) (s : State) (c : Call) → Accepts ((delivered m).respond s c).answer ↔ ((k : ℕ) → ¬ Refuses m (state_of s) c k)
+pub call_accepted_exactly : (m : Memory) (s : State) (c : Call) → Accepts ((delivered m).respond s c).answer ↔ ((k : Refusal) → ¬ Refuses m (state_of s) c k)
 call_accepted_exactly = reached.accepted_exactly
 
 -- Lent states that read the same (any number but 0 says yes) are answered the same; and a release on any idle state is, once accepted, that on zeros.
@@ -153,13 +155,13 @@ deadline_kept text m p e f = delivering.keeps_deadline p (after_read text m) (ta
 -- THE LISTS OF DEMAND 3
 
 -- The calls that such a list may hold besides those of its timed runs are exactly the calls that the rules refuse. While no release is open:
-pub refusable_while_closed : (p : Plan) (m : Memory) → TableOf p m → Fit p → (c : Call) → ((k : ℕ) × Refuses m (state_of zeros) c k) ↔ Refusable p closed c
+pub refusable_while_closed : (p : Plan) (m : Memory) → TableOf p m → Fit p → (c : Call) → ((k : Refusal) × Refuses m (state_of zeros) c k) ↔ Refusable p closed c
 refusable_while_closed = reached.refusable_fresh
 
 -- The same behind an accepted release and accepted reports.
 pub refusable_while_open : (p : Plan) (m : Memory) → TableOf p m → {s : State} {h : List ℕ} {ds : List Decision} → Since (delivered m) s h ds →
     (clock : ℕ) (to_come : List Block) (c : Call) →
-    ((k : ℕ) × Refuses m (state_of s) c k) ↔ Refusable p (opened (record { clock = clock; to_come = to_come; history = h; decisions = ds })) c
+    ((k : Refusal) × Refuses m (state_of s) c k) ↔ Refusable p (opened (record { clock = clock; to_come = to_come; history = h; decisions = ds })) c
 refusable_while_open p m o w = reached.refusable_open p m o w
 
 -- There are such lists: every run of the plan, with any ticks and any switches, is played by one.
@@ -180,14 +182,14 @@ worst_case_played m room = worst.worst_A (after_read text_A m) (table_written te
 
 -- Rule 11, the table: every call on an idle state is refused by 11 exactly when no accepted text, read into whatever memory, leaves this one.
 pub table_good_exactly : (m : Memory) (s : State) → (state_of s).running ≡ false → (c : Call) →
-    (((delivered m).respond s c).answer ≡ Refused 11) ↔ ((text : List ℕ) (before : Memory) (p : Plan) → ReadAs text before p → ¬ (after_read text before ≡ m))
+    (((delivered m).respond s c).answer ≡ Refused Broken) ↔ ((text : List ℕ) (before : Memory) (p : Plan) → ReadAs text before p → ¬ (after_read text before ≡ m))
 table_good_exactly = reached.broken_exactly
 
 -- Rule 11, the state: on the table of an accepted plan every call on a running state is refused by 11 exactly when the state neither stands at the release
 -- with the times of the release, nor stands where some run of the plan stands, at its last point, open loops and calls with its visit counts, with that
 -- run's 33 remaining times.
 pub state_good_exactly : (p : Plan) (m : Memory) → TableOf p m → (s : State) → (state_of s).running ≡ true → (c : Call) →
-    (((delivered m).respond s c).answer ≡ Refused 11) ↔ ¬ StandsSomewhere p (state_of s)
+    (((delivered m).respond s c).answer ≡ Refused Broken) ↔ ¬ StandsSomewhere p (state_of s)
 state_good_exactly = reached.nowhere_exactly
 
 -- The marked cases m1 to m12 hold, in one table: in every memory that holds the table of the case's plan.

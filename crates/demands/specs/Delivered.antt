@@ -1,16 +1,16 @@
 -- The delivered calls, by their contracts (crates/rolsipay/src/lib.rt): what `read` answers and leaves in lent memory, and what `release`, `report` and
--- `end` answer and leave in the lent state. `verdict`, `verdict_of`, `row_after` and `called` are what these contracts say the code gives.
+-- `end` answer and leave in the lent state. `verdict`, `answer_of`, `row_after`, `head_after` and `called` are what these contracts say the code gives.
 -- Assumes nothing: these are definitions.
-use Rattle.std.specs.Prelude.{List, ◌≡◌, ℕ, length, replicate}
+use Rattle.std.specs.Prelude.{List, ◌≡◌, ℕ, length, replicate, Result}
 use Rattle.model.specs.Plan.{Plan}
 use Rattle.model.specs.Calls.{Controller}
 use Rattle.reader.specs.Outcome.{plan}
-use Rattle.reader.specs.declared.Answer as reader
+use Rattle.reader.specs.declared.RefusedAt.{RefusedAt}
 use Rattle.table.specs.declared.Head.{Head}
-use Rattle.table.specs.Reading.{verdict, verdict_of}
+use Rattle.table.specs.Reading.{verdict, head_after}
 use Rattle.rolsipay.specs.declared.Leaf.{Leaf}
 use Rattle.rolsipay.specs.declared.State.{State}
-use Rattle.rolsipay.specs.Reading.{row_after}
+use Rattle.rolsipay.specs.Reading.{answer_of, row_after}
 use Rattle.rolsipay.specs.Calling.{called}
 
 -- The memory that a caller lends for a table (01): a row of leaf records, and the head beside it.
@@ -20,13 +20,13 @@ pub record Memory : Type 0 where
 
 -- READING A PLAN
 
--- What `read` answers to a text: accepted, or refused with a number and a line.
-abbrev pub read_answer : List ℕ → Memory → reader.Answer
-read_answer text m = (verdict_of (verdict (length m.row) text) m.head).answer
+-- What `read` answers to a text: accepted, or a refusal and its line.
+abbrev pub read_answer : List ℕ → Memory → Result Unit RefusedAt
+read_answer text m = answer_of (verdict (length m.row) text)
 
 -- The memory that it leaves.
 abbrev pub after_read : List ℕ → Memory → Memory
-after_read text m = record { row = row_after (verdict (length m.row) text) m.row; head = (verdict_of (verdict (length m.row) text) m.head).head }
+after_read text m = record { row = row_after (verdict (length m.row) text) m.row; head = head_after (verdict (length m.row) text) m.head }
 
 -- The text is read into the memory as the plan p.
 abbrev pub ReadAs : List ℕ → Memory → Plan → Type 0

@@ -1,6 +1,8 @@
 -- What the rules of document 01, and of 02, L2, say of a text and of a call ('Calls', the table of refusals and the order below it).
 -- Assumes nothing: these are definitions.
 use Rattle.std.specs.Prelude.{true, false, List, [], ◌∷◌, ◌++◌, ◌⊎◌, ◌≡◌, ℕ, ◌^◌, ◌≤◌, ◌<◌, length}
+use Rattle.model.specs.declared.Refusal.{Refusal}
+use Rattle.model.specs.declared.Refusal.TheVariants.{Oversize, Unseen, Uncalled, Long, Broken, Busy, Unfit, Idle, Stranger, Backward, Astray}
 use Rattle.model.specs.Plan.{C, M, Plan}
 use Rattle.model.specs.Forms.{main}
 use Rattle.model.specs.Runs.{Run, visits, sum}
@@ -26,19 +28,19 @@ pub record Read (capacity : ℕ) (text : List ℕ) (p : Plan) : Type 0 where
   pub formed : Formed p
   pub fits : Fits capacity p
 
--- The rules refuse a text by this number at this line (0 where there is none), where the caller lends so many records.
-pub data Ruled (capacity : ℕ) (text : List ℕ) : ℕ → ℕ → Type 0 where
+-- The rules refuse a text by this refusal at this line (0 where there is none), where the caller lends so many records.
+pub data Ruled (capacity : ℕ) (text : List ℕ) : Refusal → ℕ → Type 0 where
   -- 1: it has over 65,536 bytes.
-  oversize : 65536 < length text → Ruled capacity text 1 0
+  oversize : 65536 < length text → Ruled capacity text Oversize 0
   -- 2 to 7 and 19: no line before line j breaks one of them, and k is the first that line j breaks; or the text ends early (2).
-  line_refused : {k j : ℕ} → length text ≤ 65536 → RefusedAt capacity text k j → Ruled capacity text k j
+  line_refused : {k : Refusal} {j : ℕ} → length text ≤ 65536 → RefusedAt capacity text k j → Ruled capacity text k j
   -- 8: a silent loop or call has a point inside it or in what it calls.
-  unseen : {p : Plan} → Read capacity text p → ¬ SeenAll [] p.functions → Ruled capacity text 8 0
+  unseen : {p : Plan} → Read capacity text p → ¬ SeenAll [] p.functions → Ruled capacity text Unseen 0
   -- 9: not 8, and no call names some function but the last.
-  uncalled : {p : Plan} → Read capacity text p → SeenAll [] p.functions → ¬ Called p.functions → Ruled capacity text 9 0
+  uncalled : {p : Plan} → Read capacity text p → SeenAll [] p.functions → ¬ Called p.functions → Ruled capacity text Uncalled 0
   -- 10: neither 8 nor 9, and the sum of C or the sum of M over some run is over 2^40.
   long : {p : Plan} → Read capacity text p → SeenAll [] p.functions → Called p.functions → (r : Run (main p)) →
-      (2 ^ 40 < sum C (visits r)) ⊎ (2 ^ 40 < sum M (visits r)) → Ruled capacity text 10 0
+      (2 ^ 40 < sum C (visits r)) ⊎ (2 ^ 40 < sum M (visits r)) → Ruled capacity text Long 0
 
 -- CALLS
 
@@ -64,24 +66,24 @@ pub data CanEnd (p : Plan) (s : State) : Type 0 where
   from_the_release : stack_of s ≡ [] → Complete (main p) [] → CanEnd p s
   from_a_report : (x : Standing (main p)) → stack [] (so_far x) ≡ stack_of s → Complete (main p) (history x) → CanEnd p s
 
--- The rules refuse this call, on the table in this memory and on this state, by this number. Release: 11, 12, 13. Report: 11, 14, 15, 16, 17. End: 11, 14, 16, 17.
-pub data Refuses (m : Memory) (s : State) : Call → ℕ → Type 0 where
+-- The rules refuse this call, on the table in this memory and on this state, by this refusal. Release: 11, 12, 13. Report: 11, 14, 15, 16, 17. End: 11, 14, 16, 17.
+pub data Refuses (m : Memory) (s : State) : Call → Refusal → Type 0 where
   -- 11: the table is that of no accepted plan.
-  no_plan : {c : Call} → ((p : Plan) → ¬ TableOf p m) → Refuses m s c 11
+  no_plan : {c : Call} → ((p : Plan) → ¬ TableOf p m) → Refuses m s c Broken
   -- 11: the state is running and no run on this table stands where it stands, or its remaining times aren't those of that place.
-  nowhere : {c : Call} {p : Plan} → TableOf p m → s.running ≡ true → ¬ StandsSomewhere p s → Refuses m s c 11
+  nowhere : {c : Call} {p : Plan} → TableOf p m → s.running ≡ true → ¬ StandsSomewhere p s → Refuses m s c Broken
   -- 12: release before the end.
-  busy : {p : Plan} → Underway p m s → Refuses m s Release 12
+  busy : {p : Plan} → Underway p m s → Refuses m s Release Busy
   -- 13: total + T over D.
-  unfit : {p : Plan} → TableOf p m → s.running ≡ false → ¬ Fit p → Refuses m s Release 13
+  unfit : {p : Plan} → TableOf p m → s.running ≡ false → ¬ Fit p → Refuses m s Release Unfit
   -- 14: report or end without a release.
-  idle_report : {p : Plan} {n r : ℕ} → TableOf p m → s.running ≡ false → Refuses m s (Report n r) 14
-  idle_end : {p : Plan} {r : ℕ} → TableOf p m → s.running ≡ false → Refuses m s (End r) 14
+  idle_report : {p : Plan} {n r : ℕ} → TableOf p m → s.running ≡ false → Refuses m s (Report n r) Idle
+  idle_end : {p : Plan} {r : ℕ} → TableOf p m → s.running ≡ false → Refuses m s (End r) Idle
   -- 15: the number isn't a point of the plan.
-  stranger : {p : Plan} {n r : ℕ} → Underway p m s → ¬ PointOf p n → Refuses m s (Report n r) 15
+  stranger : {p : Plan} {n r : ℕ} → Underway p m s → ¬ PointOf p n → Refuses m s (Report n r) Stranger
   -- 16: a reading below the last accepted one.
-  backward_report : {p : Plan} {n r : ℕ} → Underway p m s → PointOf p n → r < s.reading → Refuses m s (Report n r) 16
-  backward_end : {p : Plan} {r : ℕ} → Underway p m s → r < s.reading → Refuses m s (End r) 16
+  backward_report : {p : Plan} {n r : ℕ} → Underway p m s → PointOf p n → r < s.reading → Refuses m s (Report n r) Backward
+  backward_end : {p : Plan} {r : ℕ} → Underway p m s → r < s.reading → Refuses m s (End r) Backward
   -- 17: no run that stands there reports this point next; for end, none can end there.
-  astray_report : {p : Plan} {n r : ℕ} → Underway p m s → PointOf p n → s.reading ≤ r → ¬ CanReport p s n → Refuses m s (Report n r) 17
-  astray_end : {p : Plan} {r : ℕ} → Underway p m s → s.reading ≤ r → ¬ CanEnd p s → Refuses m s (End r) 17
+  astray_report : {p : Plan} {n r : ℕ} → Underway p m s → PointOf p n → s.reading ≤ r → ¬ CanReport p s n → Refuses m s (Report n r) Astray
+  astray_end : {p : Plan} {r : ℕ} → Underway p m s → s.reading ≤ r → ¬ CanEnd p s → Refuses m s (End r) Astray

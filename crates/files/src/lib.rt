@@ -3,7 +3,7 @@
 #![tactic(auto)]
 
 ghost use Rattle.std.specs.Counts.{IsPrefixLen};
-ghost use Rattle.std.specs.Prelude.{◌≡◌};
+ghost use Rattle.std.specs.Prelude.{IfOk};
 ghost use Rattle.std.specs.Io.{ReadsAtMost};
 
 use std::env::{Env, FillError};
@@ -11,19 +11,16 @@ use std::fs::File;
 use std::io::{Error, ErrorKind, Print, Read, Write};
 use std::{fs, io, str};
 
-// A text that was opened: it, and how many bytes of the buffer are its name. One that could not be opened is missing.
+// A text that was opened: it, and how many bytes of the buffer are its name.
 #[derive(Drop)]
 pub struct Opened {
-    pub file: Option<File>,
+    pub file: File,
     pub size: usize,
 }
 
-// What was read: whether it failed, and how many bytes are at the start of the buffer.
-#[derive(Clone, Copy)]
-pub struct Got {
-    pub failed: bool,
-    pub size: usize,
-}
+// Why there is nothing to give: it was said on standard error.
+#[derive(Clone, Copy, Debug, PartialEq, Eq)]
+pub struct Said;
 
 // The longest name of a text, in bytes, and one more.
 pub const NAME: usize = 4096;
@@ -59,7 +56,7 @@ fn words(text: &[u8]) -> usize
 }
 
 // Says on standard error, in one line, what cannot be had and why.
-fn complain(rt: &HostRuntime, what: &[u8], error: Error) {
+fn complain(rt: &HostRuntime, what: &[u8], error: Error) -> Said {
     let mut reason = [0u8; REASON];
     let mut room = &mut reason[..];
     let _ = write!(room, "{error}");
@@ -69,6 +66,7 @@ fn complain(rt: &HostRuntime, what: &[u8], error: Error) {
     let _ = Print::write_all(&errors, b": ");
     let _ = Print::write_all(&errors, &reason[..n]);
     let _ = Print::write_all(&errors, b"\n");
+    Said
 }
 
 // Says whether the program was started with the names of two texts; if not, the usage goes to standard error.
@@ -87,126 +85,78 @@ fn has_argument(rt: &HostRuntime, argument: usize, name: &mut [u8]) -> bool {
 }
 
 // Opens the text that an argument names, and puts the name into the buffer, as far as it fits; or says why it cannot.
-pub fn open(rt: &HostRuntime, argument: usize, name: &mut [u8]) -> Opened
-    ensures { IsPrefixLen result.size name.new }
+pub fn open(rt: &HostRuntime, argument: usize, name: &mut [u8]) -> Result<Opened, Said>
+    ensures { IfOk result (λ opened. IsPrefixLen opened.size name.new) }
 {
     match rt.arg(argument, name) {
-        Ok(n) => Opened {
-            file: open_named(rt, &name[..n]),
-            size: n,
-        },
-        Err(FillError::TooLong) => {
-            complain(rt, name, Error::from_raw_os_error(TOO_LONG));
-            nothing()
+        Ok(size) => {
+            let file = open_named(rt, &name[..size])?;
+            Ok(Opened { file, size })
         }
-        Err(FillError::NotPresent) => {
-            complain(rt, name, Error::from_raw_os_error(MISSING));
-            nothing()
-        }
-    }
-}
-
-// A text without a name, which could not be opened.
-fn nothing() -> Opened
-    ensures { result.size ≡ 0 }
-{
-    Opened {
-        file: None,
-        size: 0,
+        Err(FillError::TooLong) => Err(complain(rt, name, Error::from_raw_os_error(TOO_LONG))),
+        Err(FillError::NotPresent) => Err(complain(rt, name, Error::from_raw_os_error(MISSING))),
     }
 }
 
 // Opens the text of this name; or says why it cannot.
-fn open_named(rt: &HostRuntime, name: &[u8]) -> Option<File> {
+fn open_named(rt: &HostRuntime, name: &[u8]) -> Result<File, Said> {
     let Ok(path) = str::from_utf8(name) else {
-        complain(rt, name, Error::from_raw_os_error(NO_TEXT));
-        return None;
+        return Err(complain(rt, name, Error::from_raw_os_error(NO_TEXT)));
     };
-    match fs::open(rt, path) {
-        Ok(file) => Some(file),
-        Err(error) => {
-            complain(rt, name, error);
-            None
-        }
-    }
+    fs::open(rt, path).map_err(|error| complain(rt, name, error))
 }
 
-// Reads once, and again where a signal comes before the first byte; gives what the last read answers. A proved loop has to end, so the reads are counted down.
+// Reads once, and again where a signal comes before the first byte; gives what the last read answers. A proved loop has to end, so the reads are counted.
 fn read<R: Read>(file: &mut R, buf: &mut [u8]) -> io::Result<usize>
     ensures { ReadsAtMost result buf.new }
 {
-    let mut left = AGAIN;
-    while left > 0 {
+    for _ in 0..AGAIN {
         let got = file.read(buf);
         if !is_interrupted(&got) {
             return got;
         }
-        left -= 1;
     }
     file.read(buf)
 }
 
 // Says whether a signal came before the first byte of a read.
 fn is_interrupted(got: &io::Result<usize>) -> bool {
-    match got {
-        Ok(_) => false,
-        Err(error) => error.kind() == ErrorKind::Interrupted,
-    }
+    matches!(got, Err(error) if error.kind() == ErrorKind::Interrupted)
 }
 
-// Reads once: a piece of at least one byte; or none, where the text is at its end or the read fails, which is said.
-pub fn piece<R: Read>(rt: &HostRuntime, file: &mut R, name: &[u8], buf: &mut [u8]) -> Got
-    ensures { IsPrefixLen result.size buf.new }
+// Reads once, and gives how many bytes: at least one, or none at the end of the text; or says why it cannot.
+pub fn piece<R: Read>(
+    rt: &HostRuntime,
+    file: &mut R,
+    name: &[u8],
+    buf: &mut [u8],
+) -> Result<usize, Said>
+    ensures { IfOk result (λ size. IsPrefixLen size buf.new) }
 {
-    match read(file, buf) {
-        Ok(n) => Got {
-            failed: false,
-            size: n,
-        },
-        Err(error) => {
-            complain(rt, name, error);
-            Got {
-                failed: true,
-                size: 0,
-            }
-        }
-    }
+    read(file, buf).map_err(|error| complain(rt, name, error))
 }
 
-// Reads until the buffer is full, the text is at its end or a read fails, which is said.
-fn fill<R: Read>(rt: &HostRuntime, file: &mut R, name: &[u8], buf: &mut [u8]) -> Got
-    ensures { IsPrefixLen result.size buf.new }
+// Reads until the buffer is full or the text is at its end, and gives how many bytes are at the start of the buffer; or says why it cannot.
+fn fill<R: Read>(rt: &HostRuntime, file: &mut R, name: &[u8], buf: &mut [u8]) -> Result<usize, Said>
+    ensures { IfOk result (λ size. IsPrefixLen size buf.new) }
 {
     let mut n = 0;
     while n < buf.len() {
-        let got = piece(rt, file, name, &mut buf[n..]);
-        if got.size == 0 {
-            return Got {
-                failed: got.failed,
-                size: n,
-            };
+        match piece(rt, file, name, &mut buf[n..])? {
+            0 => return Ok(n),
+            got => n += got,
         }
-        n += got.size;
     }
-    Got {
-        failed: false,
-        size: n,
-    }
+    Ok(n)
 }
 
-// Reads the text that an argument names into the buffer, as far as there is room; or says why it cannot.
-pub fn text(rt: &HostRuntime, argument: usize, buf: &mut [u8]) -> Got
-    ensures { IsPrefixLen result.size buf.new }
+// Reads the text that an argument names into the buffer, as far as there is room, and gives how many bytes; or says why it cannot.
+pub fn text(rt: &HostRuntime, argument: usize, buf: &mut [u8]) -> Result<usize, Said>
+    ensures { IfOk result (λ size. IsPrefixLen size buf.new) }
 {
     let mut name = [0u8; NAME];
-    let Opened { file, size } = open(rt, argument, &mut name);
-    match file {
-        Some(mut file) => fill(rt, &mut file, &name[..size], buf),
-        None => Got {
-            failed: true,
-            size: 0,
-        },
-    }
+    let Opened { mut file, size } = open(rt, argument, &mut name)?;
+    fill(rt, &mut file, &name[..size], buf)
 }
 
 // Reads standard input until the buffer is full, the input is at its end or a read fails; gives how many bytes are at the start of the buffer.
@@ -216,24 +166,15 @@ pub fn input(rt: &HostRuntime, buf: &mut [u8]) -> usize
     let mut from = rt.stdin();
     let mut n = 0;
     while n < buf.len() {
-        let Ok(got) = read(&mut from, &mut buf[n..]) else {
-            return n;
-        };
-        if got == 0 {
-            return n;
+        match read(&mut from, &mut buf[n..]) {
+            Ok(got) if got > 0 => n += got,
+            _ => return n,
         }
-        n += got;
     }
     n
 }
 
-// Prints bytes and gives true; or says why it cannot, and gives false.
-pub fn print(rt: &HostRuntime, bytes: &[u8]) -> bool {
-    match Print::write_all(rt, bytes) {
-        Ok(()) => true,
-        Err(error) => {
-            complain(rt, b"standard output", error);
-            false
-        }
-    }
+// Prints bytes; or says why it cannot.
+pub fn print(rt: &HostRuntime, bytes: &[u8]) -> Result<(), Said> {
+    Print::write_all(rt, bytes).map_err(|error| complain(rt, b"standard output", error))
 }

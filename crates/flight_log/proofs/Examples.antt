@@ -6,7 +6,7 @@ use Rattle.text.specs.Text.{bytes, lines}
 use Rattle.text.specs.Patterns.{digits, number, item, matched}
 use Rattle.text.specs.Spelling.{numerals, decimal}
 use Rattle.model.specs.declared.Call.TheVariants.{Release, Report, End}
-use Rattle.flight_log.specs.declared.Entry.TheVariants.{Said, Other}
+use Rattle.std.specs.Prelude.{Some, None}
 use Rattle.flight_log.specs.Log.{entry_of, entries, call_text}
 
 -- Lines of the grammar; 0 and 2^64 - 1 are numbers.
@@ -18,11 +18,11 @@ calls : map entry_of (
     ∷ bytes "end 7\n"
     ∷ []
     )
-    ≡ Said Release
-    ∷ Said (Report 0 0)
-    ∷ Said (Report 3 18446744073709551615)
-    ∷ Said (Report 18446744073709551615 18446744073709551615)
-    ∷ Said (End 7)
+    ≡ Some Release
+    ∷ Some (Report 0 0)
+    ∷ Some (Report 3 18446744073709551615)
+    ∷ Some (Report 18446744073709551615 18446744073709551615)
+    ∷ Some (End 7)
     ∷ []
 unfolding entry_of matched item number digits
 calls = refl
@@ -41,12 +41,12 @@ others : map entry_of (
     ∷ bytes "\n"
     ∷ []
     )
-    ≡ Other ∷ Other ∷ Other ∷ Other ∷ Other ∷ Other ∷ Other ∷ Other ∷ Other ∷ Other ∷ []
+    ≡ None ∷ None ∷ None ∷ None ∷ None ∷ None ∷ None ∷ None ∷ None ∷ None ∷ []
 unfolding entry_of matched item number digits
 others = refl
 
 -- A log whose last line lacks its line feed has an entry for it too.
-cut_log : entries (bytes "release\npoint 0 5\n\nend 7") ≡ Said Release ∷ Said (Report 0 5) ∷ Other ∷ Other ∷ []
+cut_log : entries (bytes "release\npoint 0 5\n\nend 7") ≡ Some Release ∷ Some (Report 0 5) ∷ None ∷ None ∷ []
 unfolding entries lines entry_of matched item number digits
 cut_log = refl
 

@@ -14,7 +14,7 @@ use Rattle.text.proofs.Spell.{nothing, ends, lines_one, ends_decimal}
 use Rattle.text.proofs.Theorems.{lines_at}
 use Rattle.model.specs.declared.Call.{Call}
 use Rattle.model.specs.declared.Call.TheVariants.{Release, Report, End}
-use Rattle.flight_log.specs.declared.Entry.TheVariants.{Said, Other}
+use Rattle.std.specs.Prelude.{Some, None}
 use Rattle.flight_log.specs.Log.{entry_of, entries, call_text, Feedless, log_text, AllSmall}
 use Rattle.flight_log.proofs.Calls.{other, long_line, reads_call}
 
@@ -45,7 +45,7 @@ call_feed (Report n e) h =
 call_feed (End e) h = no_feed (feedless_end (decimal e) (10 ∷ []) (feedless_end (bytes "end ") (decimal e ++ (10 ∷ [])) h))
 
 -- So a line without its line feed is of another form.
-pub cut_line : (l : List ℕ) → Feedless l → entry_of l ≡ Other
+pub cut_line : (l : List ℕ) → Feedless l → entry_of l ≡ None
 cut_line l h = other l (λ c s e. call_feed c (rw e at h))
 
 -- FIRST LINES
@@ -102,7 +102,7 @@ entries_line l t h =
     rw (lines_at (l ++ (10 ∷ t)) 0 (omega arith), line_first l t h, after_first l t h)
 
 -- A last line without its line feed is an entry of another form.
-pub entries_cut : (b : ℕ) (l : List ℕ) → Feedless (b ∷ l) → entries (b ∷ l) ≡ Other ∷ []
+pub entries_cut : (b : ℕ) (l : List ℕ) → Feedless (b ∷ l) → entries (b ∷ l) ≡ None ∷ []
 unfolding entries lines line_at rest_at
 entries_cut b l h = ap (map entry_of) (lines_at (b ∷ l) 0 (omega arith)) ∙ rw (line_whole (b ∷ l) h, after_whole (b ∷ l) h, cut_line (b ∷ l) h)
 
@@ -114,7 +114,7 @@ call_ends (Report n e) = ends_decimal n (32 ∷ (decimal e ++ (10 ∷ []))) ∙ 
 call_ends (End e) = ends_decimal e (10 ∷ [])
 
 -- A log that says calls has their entries.
-pub entries_said : (cs : List Call) → AllSmall cs → entries (log_text cs) ≡ map Said cs
+pub entries_said : (cs : List Call) → AllSmall cs → entries (log_text cs) ≡ map Some cs
 unfolding entries log_text
 entries_said [] h = unfold lines in refl
 entries_said (c ∷ cs) h =

@@ -1,24 +1,25 @@
 -- The patterns of a log: what the code answers where one of them fits, and where none does.
 -- Assumes nothing.
 use Prim.Native.Nat.{ℕ, zero, suc, ◌-◌, ◌^◌, ◌≤◌, ◌<◌}
-use mathlib.Core.Path.{◌≡◌, refl, sym, ◌∙◌}
+use mathlib.Core.Path.{◌≡◌, refl, sym, ap, ◌∙◌}
 use mathlib.Core.List.{List, [], ◌∷◌}
-use mathlib.Core.Bool.{Bool, true, false, ◌||◌}
+use mathlib.Core.Bool.{Bool, true, false, ◌||◌, not, cond as pick}
 use native.Mathlib.Omega.{arith}
 use lib.ListN.{length, get_or}
 use lib.Dec.{ltb}
 use borrow.Author.Tests.{ltb-false}
 use Rattle.text.specs.declared.Shown.{Shown}
 use Rattle.text.specs.Text.{bytes, line_of, line_at}
-use Rattle.text.specs.Patterns.{matched, miss, any_over, ShownAt}
+use Rattle.text.specs.Patterns.{matched, miss, any_over, ShownAt, MatchAt}
 use Rattle.text.specs.Grammar.{nth}
 use Rattle.text.proofs.Filled.{arity, kindless, once, filled}
 use Rattle.text.proofs.Laws.{number_stored}
 use Rattle.text.proofs.Theorems.{cap_same}
 use Rattle.model.specs.declared.Call.{Call}
-use Rattle.model.specs.declared.Call.TheVariants.{Report, End}
-use Rattle.flight_log.specs.declared.Entry.{Entry}
-use Rattle.flight_log.specs.declared.Entry.TheVariants.{Said, Other}
+use Rattle.model.specs.declared.Call.TheVariants.{Release, Report, End}
+use Rattle.std.specs.Prelude.{Option, Some, None}
+use Rattle.std.specs.Option.{is_some}
+use Rattle.std.specs.Bool.{then_some}
 use Rattle.flight_log.specs.Log.{or_next}
 
 -- NUMBERS
@@ -71,18 +72,30 @@ release_small most w = go w.numbers (count_of (bytes "release") refl w)
 
 -- ANSWERS
 
--- What is answered where a pattern fits the line; and where it does not, the other patterns decide.
-module _ (s p : List ℕ) (F : List ℕ → Call) (next : Entry) where
-  pub says_small : {limit : ℕ} {row row' : List ℕ} {f : Shown} {e : ℕ} {c : Call} (w : ShownAt limit s 0 p row row' f e)
-      → any_over (2 ^ 64 - 1) w.numbers ≡ false → c ≡ F w.numbers → Said c ≡ or_next (matched p false (line_of s)) F next
+-- What is answered where a pattern fits the line, by its numbers where none is over the limit; and where it does not, the other patterns decide.
+module _ (s p : List ℕ) (F : List ℕ → Call) (next : Option Call) where
+  pub says_fit : {row row' : List ℕ} {f : Shown} {e : ℕ} {c : Call} {r : Option Call} (w : ShownAt (2 ^ 64 - 1) s 0 p row row' f e)
+      → (f.over ≡ false → c ≡ F w.numbers) → r ≡ then_some (not f.over) c → r ≡ or_next (matched p false (line_of s)) F next
   unfolding line_at
-  says_small w o h = rw (h, w.fits, o)
+  says_fit {f = f} {c = c} {r} w h q = rw (w.fits, ← w.over_told) (go f.over h q)
+    where
+      go : (over : Bool) → (over ≡ false → c ≡ F w.numbers) → r ≡ then_some (not over) c → r ≡ pick over None (Some (F w.numbers))
+      go true h q = q
+      go false h q = q ∙ ap Some (h refl)
 
-  pub says_large : {row row' : List ℕ} {f : Shown} {e : ℕ} (w : ShownAt (2 ^ 64 - 1) s 0 p row row' f e) → f.over ≡ true
-      → Other ≡ or_next (matched p false (line_of s)) F next
-  unfolding line_at
-  says_large w o = rw (w.fits, ← w.over_told, o)
-
-  pub says_miss : {r : Entry} → matched p false (line_at s 0) ≡ miss → r ≡ next → r ≡ or_next (matched p false (line_of s)) F next
+  pub says_miss : {r : Option Call} → matched p false (line_at s 0) ≡ miss → r ≡ next → r ≡ or_next (matched p false (line_of s)) F next
   unfolding line_at
   says_miss w h = rw w h
+
+-- A line that says a release fits its pattern, which has no number.
+pub says_release : (s : List ℕ) (next : Option Call) (row row' : List ℕ) (r : Option (Shown × ℕ))
+    → MatchAt (2 ^ 64 - 1) s 0 (bytes "release") row row' r → true ≡ is_some r
+    → Some Release ≡ or_next (matched (bytes "release") false (line_of s)) (λ v. Release) next
+says_release s next row row' None m q = absurd cc
+says_release s next row row' (Some (f, e)) m q =
+    says_fit s _ _ next m (λ o. refl) (rw (m.over_told ∙ release_small _ m))
+
+pub says_other : (s row row' : List ℕ) (r : Option (Shown × ℕ))
+    → MatchAt (2 ^ 64 - 1) s 0 (bytes "release") row row' r → false ≡ is_some r → matched (bytes "release") false (line_at s 0) ≡ miss
+says_other s row row' None m q = m
+says_other s row row' (Some (f, e)) m q = absurd cc

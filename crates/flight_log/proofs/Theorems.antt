@@ -8,21 +8,21 @@ use mathlib.Core.List.{List, [], ◌∷◌, ◌++◌, map}
 use lib.ListN.{length, take}
 use Rattle.text.specs.Text.{line_of}
 use Rattle.model.specs.declared.Call.{Call}
-use Rattle.flight_log.specs.declared.Entry.TheVariants.{Said, Other}
+use Rattle.std.specs.Prelude.{Some, None}
 use Rattle.flight_log.specs.Log.{entry_of, entries, call_text, Small, Feedless, log_text, AllSmall}
 use Rattle.flight_log.proofs.Calls as calls
 use Rattle.flight_log.proofs.Lines as log_lines
 
 -- A call is read from its text.
-pub reads_call : (c : Call) → Small c → entry_of (call_text c) ≡ Said c
+pub reads_call : (c : Call) → Small c → entry_of (call_text c) ≡ Some c
 reads_call = calls.reads_call
 
 -- A call is read from no other line, and its numbers are below 2^64.
-pub reads_only : (l : List ℕ) (c : Call) → entry_of l ≡ Said c → (l ≡ call_text c) × Small c
+pub reads_only : (l : List ℕ) (c : Call) → entry_of l ≡ Some c → (l ≡ call_text c) × Small c
 reads_only = calls.reads_only
 
 -- A line is of another form exactly when it is the text of no call with numbers below 2^64.
-pub other_exactly : (l : List ℕ) → (entry_of l ≡ Other) ↔ ((c : Call) → Small c → l ≡ call_text c → ⊥)
+pub other_exactly : (l : List ℕ) → (entry_of l ≡ None) ↔ ((c : Call) → Small c → l ≡ call_text c → ⊥)
 other_exactly = calls.other_exactly
 
 -- The text of a call has at most 48 bytes, its line feed included.
@@ -30,7 +30,7 @@ pub longest : (c : Call) → Small c → length (call_text c) ≤ 48
 longest = calls.longest
 
 -- A longer line is of another form.
-pub long_line : (l : List ℕ) → 48 < length l → entry_of l ≡ Other
+pub long_line : (l : List ℕ) → 48 < length l → entry_of l ≡ None
 long_line = calls.long_line
 
 -- The first 64 bytes of a line tell what it is.
@@ -38,7 +38,7 @@ pub held_line : (l : List ℕ) → Feedless l → entry_of (line_of (take 64 (ta
 held_line = log_lines.held_line
 
 -- A line without its line feed is of another form.
-pub cut_line : (l : List ℕ) → Feedless l → entry_of l ≡ Other
+pub cut_line : (l : List ℕ) → Feedless l → entry_of l ≡ None
 cut_line = log_lines.cut_line
 
 -- An empty log has no entry.
@@ -50,9 +50,9 @@ pub entries_line : (l t : List ℕ) → Feedless l → entries (l ++ (10 ∷ t))
 entries_line = log_lines.entries_line
 
 -- A last line without its line feed is an entry of another form.
-pub entries_cut : (b : ℕ) (l : List ℕ) → Feedless (b ∷ l) → entries (b ∷ l) ≡ Other ∷ []
+pub entries_cut : (b : ℕ) (l : List ℕ) → Feedless (b ∷ l) → entries (b ∷ l) ≡ None ∷ []
 entries_cut = log_lines.entries_cut
 
 -- A log that says calls has an entry for each, in order.
-pub entries_said : (cs : List Call) → AllSmall cs → entries (log_text cs) ≡ map Said cs
+pub entries_said : (cs : List Call) → AllSmall cs → entries (log_text cs) ≡ map Some cs
 entries_said = log_lines.entries_said

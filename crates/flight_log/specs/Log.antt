@@ -8,26 +8,25 @@ use Rattle.text.specs.Grammar.{nth}
 use Rattle.text.specs.Spelling.{decimal}
 use Rattle.model.specs.declared.Call.{Call}
 use Rattle.model.specs.declared.Call.TheVariants.{Release, Report, End}
-use Rattle.flight_log.specs.declared.Entry.{Entry}
-use Rattle.flight_log.specs.declared.Entry.TheVariants.{Said, Other}
+use Rattle.std.specs.Prelude.{Option, Some, None}
 
 -- A line that fits a pattern says a call with its numbers, where each is below 2^64.
-abbrev pub or_next : Match → (List ℕ → Call) → Entry → Entry
+abbrev pub or_next : Match → (List ℕ → Call) → Option Call → Option Call
 or_next miss f next = next
-or_next (match k v) f next = pick (any_over (2 ^ 64 - 1) v) Other (Said (f v))
+or_next (match k v) f next = pick (any_over (2 ^ 64 - 1) v) None (Some (f v))
 
-abbrev pub says : String → List ℕ → (List ℕ → Call) → Entry → Entry
+abbrev pub says : String → List ℕ → (List ℕ → Call) → Option Call → Option Call
 says pattern l = or_next (matched (bytes pattern) false l)
 
 -- What a line is, its line feed included: a call, or a line of another form.
-unfoldable pub entry_of : List ℕ → Entry
+unfoldable pub entry_of : List ℕ → Option Call
 entry_of l =
     says "release" l (λ v. Release)
     (says "point N E" l (λ v. Report (nth v 0) (nth v 1))
-    (says "end E" l (λ v. End (nth v 0)) Other))
+    (says "end E" l (λ v. End (nth v 0)) None))
 
 -- The entries of a log, one for each line. A last line without a line feed is a line too; an empty log has none.
-unfoldable pub entries : List ℕ → List Entry
+unfoldable pub entries : List ℕ → List (Option Call)
 entries log = map entry_of (lines log)
 
 -- The one text of a call.

@@ -1,7 +1,7 @@
 -- The numbers that are listed from those that `read` leaves in memory are those of the plan that it read: leaf number i of the plan is at place i of the row
 -- and of each column, and the points among the leaves, one after the other, are those of the functions. Assumes nothing.
 use mathlib.Core.Bool.{Bool, true, false}
-use mathlib.Core.List.{List, [], ◌∷◌, ◌++◌, map, flatten, map-append, append_assoc, append-nil}
+use mathlib.Core.List.{List, [], ◌∷◌, ◌++◌, map, map-append, append_assoc, append-nil}
 use mathlib.Core.Path.{◌≡◌, refl, sym, ap, ◌∙◌, subst}
 use Prim.Native.Nat.{ℕ, zero, suc, ◌+◌, ◌*◌, ◌≤◌, ◌<◌}
 use native.Mathlib.Omega.{arith}
@@ -23,11 +23,11 @@ use Rattle.rows.specs.Records.{row_of}
 use Rattle.reader.specs.Records.{leveled_leaves, no_leaf}
 use Rattle.reader.proofs.Theorems.{row_length, row_leaf}
 use Rattle.table.specs.declared.Head.{Head}
-use Rattle.table.specs.declared.Verdict.{Verdict}
-use Rattle.table.specs.Table.{table_of, zero_head, all_tails, stretch_of}
-use Rattle.table.specs.Reading.{verdict, verdict_of, stored}
+use Rattle.table.specs.Table.{table_of, head_of, all_tails, stretch_of}
+use Rattle.table.specs.Reading.{verdict, result_of, stored}
 use Rattle.table.proofs.Holding.{leaves_size}
-use Rattle.table.proofs.Writing.{take_stored}
+use Rattle.table.proofs.Writing.{take_stored, accepted_plan}
+use Rattle.std.specs.Prelude.{Ok}
 use Rattle.table.proofs.Written.{tails_size, stretches_size}
 use Rattle.table.proofs.Theorems.{read_as_plan}
 use Rattle.listing.specs.PlanListing.{point_numbers, points_of, all_points, points, outcome_points}
@@ -252,66 +252,49 @@ module _ (row tails stretches : List ℕ) (long : length row ≡ 4096) (wide_tai
         number,
       ) (marked v.block.point _)
 
-  plan_collected : (p : Plan) (h : Head) → Formed p →
+  plan_collected : (p : Plan) → Formed p →
       leaves_points (stored (plan p) (λ t. t.row) row) (stored (plan p) (λ t. t.tails) tails) (stored (plan p) (λ t. t.stretches) stretches)
-      (verdict_of (plan p) h).head.leaves ≡ points p
+      (head_of p).leaves ≡ points p
   unfolding leaves_points
-  plan_collected p h f =
+  plan_collected p f =
       let z : sizes p.functions ≡ 0 + sizes p.functions = omega arith in
       ap (leaves_points (sets row 0 (row_of p)) (sets tails 0 (table_of p).tails) (sets stretches 0 (table_of p).stretches)) z ∙
       all_behind p (sets row 0 (row_of p)) (sets tails 0 (table_of p).tails) (sets stretches 0 (table_of p).stretches) p.functions 0 (plan_shown p f)
 
-  -- After a text was read into it, the points among its leaves are those of the plan; of a refused text there are none.
-  text_collected : (capacity : ℕ) (text : List ℕ) →
-      leaves_points (stored (verdict capacity text) (λ t. t.row) row) (stored (verdict capacity text) (λ t. t.tails) tails)
-      (stored (verdict capacity text) (λ t. t.stretches) stretches) (verdict_of (verdict capacity text) zero_head).head.leaves
-      ≡ outcome_points (verdict capacity text)
-  text_collected capacity text = by (verdict capacity text) (λ p e. ((read_as_plan capacity text p).0 e).1.formed)
-    where
-      by : (o : Outcome) → ((p : Plan) → o ≡ plan p → Formed p) →
-          leaves_points (stored o (λ t. t.row) row) (stored o (λ t. t.tails) tails) (stored o (λ t. t.stretches) stretches)
-          (verdict_of o zero_head).head.leaves ≡ outcome_points o
-      by (plan p) f = plan_collected p zero_head (f p refl)
-      by (refused k j) f = unfold leaves_points in refl
-
 -- FROM MEMORY OF ZEROS
 
--- What is listed beside the points, by what reading answers.
-beside : (o : Outcome) (count : ℕ) → count ≡ length (outcome_points o) →
-    record {
-      answer = (verdict_of o zero_head).answer;
-      task =
-          (verdict_of o zero_head).head.total ∷ (verdict_of o zero_head).head.max_load_total ∷ (verdict_of o zero_head).head.deadline ∷
-          (verdict_of o zero_head).head.switch ∷ [];
-      count = count;
-    } ≡ summary_of o
-beside (plan p) count e = rw e
-beside (refused k j) count e = rw e
+-- A head is that of a plan, which is accepted.
+pub record Read (text : List ℕ) (h : Head) : Type 0 where
+  pub of : Plan
+  pub is : verdict 512 text ≡ plan of
+  pub formed : Formed of
+  pub head : h ≡ head_of of
+  pub few : h.leaves ≤ 512
 
--- Reading gives at most 512 leaves.
-pub leaves_read : (text : List ℕ) (v : Verdict) {h : Head} → h ≡ zero_head → v ≡ verdict_of (verdict 512 text) h → v.head.leaves ≤ 512
-leaves_read text v z e =
-    rw (e ∙ ap (verdict_of (verdict 512 text)) z) (by (verdict 512 text) (λ p e. ((read_as_plan 512 text p).0 e).1.formed))
-  where
-    by : (o : Outcome) → ((p : Plan) → o ≡ plan p → Formed p) → (verdict_of o zero_head).head.leaves ≤ 512
-    by (plan p) f = (f p refl).few_leaves
-    by (refused k j) f = omega arith
+pub head_read : (text : List ℕ) {h : Head} → Ok h ≡ result_of (verdict 512 text) → Read text h
+head_read text {h} e =
+    let (p, o) = accepted_plan (verdict 512 text) e in
+    let f = ((read_as_plan 512 text p).0 o).1.formed in
+    let x : Ok h ≡ result_of (plan p) = e ∙ ap (λ (y : Outcome). result_of y) o in
+    let z : h ≡ head_of p = cc in
+    record { of = p; is = o; formed = f; head = z; few = omega (arith, ap (λ (y : Head). y.leaves) z, f.few_leaves) }
 
 -- The numbers that were collected where `read` left its own, with 0 everywhere before, are those of the plan.
-pub collect_read : (text : List ℕ) (v : Verdict) {h : Head} {row tails stretches l m : List ℕ} {count : ℕ} → h ≡ zero_head →
-    v ≡ verdict_of (verdict 512 text) h → row ≡ stored (verdict 512 text) (λ t. t.row) (replicate 4096 0) →
-    tails ≡ stored (verdict 512 text) (λ t. t.tails) (replicate 512 0) → stretches ≡ stored (verdict 512 text) (λ t. t.stretches) (replicate 512 0) →
-    Collected l 0 (leaves_points row tails stretches v.head.leaves) m count →
-    (record {
-      answer = v.answer;
-      task = v.head.total ∷ v.head.max_load_total ∷ v.head.deadline ∷ v.head.switch ∷ [];
-      count = count;
-    } ≡ summary_of (verdict 512 text)) × (m ≡ sets l 0 (flatten (outcome_points (verdict 512 text))))
-collect_read text v {h} {row} {tails} {stretches} {l} {m} {count} z e a b c g =
-    let k : v ≡ verdict_of (verdict 512 text) zero_head = e ∙ ap (verdict_of (verdict 512 text)) z in
-    let x : leaves_points row tails stretches v.head.leaves ≡ outcome_points (verdict 512 text) =
-    rw (k, a, b, c)
-    (text_collected (replicate 4096 0) (replicate 512 0) (replicate 512 0) (length-replicate {A = ℕ} 4096 0) (length-replicate {A = ℕ} 512 0)
-    (length-replicate {A = ℕ} 512 0) 512 text) in
-    let n : count ≡ length (outcome_points (verdict 512 text)) = g.counted ∙ (ap (λ (u : List (List ℕ)). 0 + length u) x ∙ omega arith) in
-    (rw k (beside (verdict 512 text) count n), g.stored ∙ ap (λ (u : List (List ℕ)). sets l 0 (flatten u)) x)
+module _ (text : List ℕ) (h : Head) (p : Plan) (is : verdict 512 text ≡ plan p) (formed : Formed p) (head : h ≡ head_of p) (row tails stretches : List ℕ)
+    (a : row ≡ stored (verdict 512 text) (λ t. t.row) (replicate 4096 0)) (b : tails ≡ stored (verdict 512 text) (λ t. t.tails) (replicate 512 0))
+    (c : stretches ≡ stored (verdict 512 text) (λ t. t.stretches) (replicate 512 0)) (l m : List (List ℕ)) (count : ℕ)
+    (g : Collected l 0 (leaves_points row tails stretches h.leaves) m count)
+  where
+    all : leaves_points row tails stretches h.leaves ≡ points p
+    all =
+        rw (a, b, c, is, head)
+        (plan_collected (replicate 4096 0) (replicate 512 0) (replicate 512 0) (length-replicate {A = ℕ} 4096 0) (length-replicate {A = ℕ} 512 0)
+        (length-replicate {A = ℕ} 512 0) p formed)
+
+    pub collected_summary : Ok (record { task = h.total ∷ h.max_load_total ∷ h.deadline ∷ h.switch ∷ []; count = count }) ≡ summary_of (verdict 512 text)
+    collected_summary =
+        let n : count ≡ length (points p) = g.counted ∙ (ap (λ (u : List (List ℕ)). 0 + length u) all ∙ omega arith) in
+        rw (is, head, n) refl
+
+    pub collected_points : m ≡ sets l 0 (outcome_points (verdict 512 text))
+    collected_points = g.stored ∙ rw (all, is) refl

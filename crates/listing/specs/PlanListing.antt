@@ -9,6 +9,7 @@ use Rattle.model.specs.Stretch.{stretch}
 use Rattle.model.specs.Tail.{tail}
 use Rattle.model.specs.Levels.{Leveled, own_levels}
 use Rattle.model.specs.Places.{pick}
+use Rattle.model.specs.Refusals.{number_of}
 use Rattle.reader.specs.Outcome.{Outcome, plan, refused}
 use Rattle.print.specs.Lines.{task_line, point_line, refused_plan_line}
 
@@ -51,4 +52,4 @@ plan_listing p = task_line (task_numbers p) ++ flat_map point_line (points p)
 -- What is printed of a text: the listing of the plan that was read; a refused plan prints `refused`, number, line.
 abbrev pub outcome_listing : Outcome → List ℕ
 outcome_listing (plan p) = plan_listing p
-outcome_listing (refused k j) = refused_plan_line k j
+outcome_listing (refused k j) = refused_plan_line (number_of k) j

@@ -1,7 +1,7 @@
 -- What the private functions promise: the numbers that are listed, from those that reading a plan leaves in memory.
 -- Assumes nothing: these are definitions.
-use Rattle.std.specs.Prelude.{ℕ, zero, suc, ◌+◌, ◌*◌, ◌≡◌, eqb, length, get_or}
-use mathlib.Core.List.{List, [], ◌∷◌, ◌++◌, flatten}
+use Rattle.std.specs.Prelude.{ℕ, zero, suc, ◌+◌, ◌≡◌, eqb, length, get_or}
+use mathlib.Core.List.{List, [], ◌∷◌, ◌++◌}
 use Rattle.std.proofs.lemmas.List.Edits.{sets}
 use Rattle.model.specs.Places.{pick}
 use Rattle.rows.specs.Rows.{point_at, level_at}
@@ -15,7 +15,7 @@ unfoldable pub leaves_points : List ℕ → List ℕ → List ℕ → ℕ → Li
 leaves_points row tails stretches zero = []
 leaves_points row tails stretches (suc n) = leaves_points row tails stretches n ++ leaf_points row tails stretches n
 
--- The numbers of some points were stored behind those of so many, and then there are so many.
-pub record Collected (old : List ℕ) (count : ℕ) (points : List (List ℕ)) (new : List ℕ) (next : ℕ) : Type 0 where
-  pub stored : new ≡ sets old (count * 4) (flatten points)
+-- Some points were stored behind so many, and then there are so many.
+pub record Collected (old : List (List ℕ)) (count : ℕ) (points new : List (List ℕ)) (next : ℕ) : Type 0 where
+  pub stored : new ≡ sets old count points
   pub counted : next ≡ count + length points

@@ -3,25 +3,22 @@
 #![tactic(auto)]
 
 ghost use Rattle.std.specs.Prelude.{◌≡◌, ◌*◌, ◌≤◌, ◌<◌, length};
-ghost use mathlib.Core.List.{flat_map, flatten};
+ghost use mathlib.Core.List.{flat_map};
 ghost use Rattle.std.proofs.lemmas.List.Edits.{sets};
 ghost use Rattle.print.specs.Lines.{point_line};
 ghost use Rattle.print.specs.Printed.{PrintedWithin};
 ghost use Rattle.table.specs.Reading.{verdict};
 ghost use Rattle.listing.specs.PlanListing.{outcome_points, outcome_listing};
-ghost use Rattle.listing.specs.Summary.{points_in, summary_of};
+ghost use Rattle.listing.specs.Summary.{summary_of};
 ghost use Rattle.listing.specs.Private.{leaf_points, leaves_points, Collected};
 
 use print::{numbers_line, refused_plan_line};
-use reader::Answer;
-use rows::{LEVEL, MAX_LEAVES, POINT, ROW, STRIDE};
-use table::{no_head, read};
+use reader::RefusedAt;
+use rows::{LEVEL, MAX_LEAVES, POINT, ROW, get};
+use table::read;
 
 // How many numbers are listed of a point: its number, its level, its tail and its stretch.
 pub const FIELDS: usize = 4;
-
-// How many numbers are listed of as many points as a plan has leaves.
-pub const POINT_NUMBERS: usize = MAX_LEAVES * FIELDS;
 
 // How many numbers are listed of the task: the total, the max-load total, D and T.
 const TASK: usize = 4;
@@ -29,17 +26,16 @@ const TASK: usize = 4;
 // How many bytes a listing has room for: a line for the task and one for each leaf.
 pub const LISTING: usize = 65664;
 
-// What is listed of a text beside its points: what reading it answers, the total, the max-load total, D and T, and how many points there are.
+// What is listed of a plan beside its points: the total, the max-load total, D and T, and how many points there are.
 #[derive(Clone, Copy)]
 pub struct Summary {
-    pub answer: Answer,
     pub task: [u64; TASK],
     pub count: usize,
 }
 
 // Stores what is listed of a leaf behind the points before it, where the leaf is a point, and gives how many points there are then.
 fn collect_leaf(
-    points: &mut [u64; POINT_NUMBERS],
+    points: &mut [[u64; FIELDS]; MAX_LEAVES],
     count: usize,
     row: &[u64; ROW],
     tails: &[u64; MAX_LEAVES],
@@ -50,12 +46,8 @@ fn collect_leaf(
     ensures { Collected points.old count (leaf_points row.now tails.now stretches.now i)
         points.new result }
 {
-    if row[i * STRIDE + POINT] == 1 {
-        let at = count * FIELDS;
-        points[at] = i as u64;
-        points[at + 1] = row[i * STRIDE + LEVEL];
-        points[at + 2] = tails[i];
-        points[at + 3] = stretches[i];
+    if get(row, i, POINT) == 1 {
+        points[count] = [i as u64, get(row, i, LEVEL), tails[i], stretches[i]];
         return count + 1;
     }
     count
@@ -63,7 +55,7 @@ fn collect_leaf(
 
 // Stores what is listed of the first so many leaves, and gives how many points there are among them.
 fn collect_leaves(
-    points: &mut [u64; POINT_NUMBERS],
+    points: &mut [[u64; FIELDS]; MAX_LEAVES],
     row: &[u64; ROW],
     tails: &[u64; MAX_LEAVES],
     stretches: &[u64; MAX_LEAVES],
@@ -74,54 +66,44 @@ fn collect_leaves(
         points.new result }
 {
     let mut count = 0;
-    let mut i = 0;
-    while i < n {
+    for i in 0..n {
         count = collect_leaf(points, count, row, tails, stretches, i);
-        i += 1;
     }
     count
 }
 
-// Reads a plan text, stores the numbers that are listed of its points, four for each, one point behind the other, and gives what else is listed. Of a
-// refused text nothing is stored.
-pub fn collect(points: &mut [u64; POINT_NUMBERS], text: &[u8]) -> Summary
+// Reads a plan text, stores the numbers that are listed of its points, one point behind the other, and gives what else is listed. Of a refused text nothing
+// is stored.
+pub fn collect(points: &mut [[u64; FIELDS]; MAX_LEAVES], text: &[u8]) -> Result<Summary, RefusedAt>
     ensures summary { result ≡ summary_of (verdict 512 text.now) }
-    ensures numbers { points.new ≡ sets points.old 0 (flatten (outcome_points (verdict 512 text.now))) }
+    ensures numbers { points.new ≡ sets points.old 0 (outcome_points (verdict 512 text.now)) }
 {
     let mut row = [0; ROW];
     let mut turns = [0; MAX_LEAVES];
     let mut tails = [0; MAX_LEAVES];
     let mut stretches = [0; MAX_LEAVES];
-    let verdict = read(
+    let head = read(
         text,
         MAX_LEAVES,
         &mut row,
         &mut turns,
         &mut tails,
         &mut stretches,
-        no_head(),
-    );
-    let answer = verdict.answer;
-    let head = verdict.head;
+    )?;
     let count = collect_leaves(points, &row, &tails, &stretches, head.leaves);
-    Summary {
-        answer: answer,
+    Ok(Summary {
         task: [head.total, head.max_load_total, head.deadline, head.switch],
-        count: count,
-    }
+        count,
+    })
 }
 
-// Writes the lines of the first so many points from a place on, and gives the place after them.
-fn put_points(out: &mut [u8; LISTING], at: usize, points: &[u64], count: usize) -> usize
-    requires { count * 4 ≤ length points.now }
-    ensures { PrintedWithin (count * 90) out.old at (flat_map point_line (points_in count points.now)) out.new result }
+// Writes the lines of points from a place on, and gives the place after them.
+fn put_points(out: &mut [u8; LISTING], at: usize, points: &[[u64; FIELDS]]) -> usize
+    ensures { PrintedWithin (length points.now * 90) out.old at (flat_map point_line points.now) out.new result }
 {
     let mut end = at;
-    let mut i = 0;
-    while i < count {
-        let from = i * FIELDS;
-        end = numbers_line(out, end, b"point", &points[from..from + FIELDS]);
-        i += 1;
+    for point in points {
+        end = numbers_line(out, end, b"point", point);
     }
     end
 }
@@ -132,15 +114,14 @@ pub fn list_text(out: &mut [u8; LISTING], text: &[u8]) -> usize
     ensures size { result ≡ length (outcome_listing (verdict 512 text.now)) }
     ensures fits { result ≤ 65664 }
 {
-    let mut points = [0; POINT_NUMBERS];
-    let summary = collect(&mut points, text);
-    let answer = summary.answer;
-    let task = summary.task;
-    match answer {
-        Answer::Refused(k, j) => refused_plan_line(out, 0, k, j as u64),
-        Answer::Accepted => {
-            let first = numbers_line(out, 0, b"task", &task);
-            put_points(out, first, &points, summary.count)
+    let mut points = [[0; FIELDS]; MAX_LEAVES];
+    match collect(&mut points, text) {
+        Err(RefusedAt { refusal, line }) => {
+            refused_plan_line(out, 0, u64::from(refusal), line as u64)
+        }
+        Ok(summary) => {
+            let first = numbers_line(out, 0, b"task", &summary.task);
+            put_points(out, first, &points[..summary.count])
         }
     }
 }

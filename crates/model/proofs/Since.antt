@@ -9,6 +9,7 @@ use Prim.Native.Nat.{ℕ, ◌+◌, ◌≤◌}
 use native.Mathlib.Omega.{arith}
 use lib.Dec.{leb, ltb}
 use borrow.Author.Tests.{le-leb, leb-true, le-ltb, ltb-false}
+use Rattle.model.specs.declared.Refusal.TheVariants.{Unfit, Stranger, Backward, Astray}
 use Rattle.model.specs.Plan.{C, Plan, all_leaves}
 use Rattle.model.specs.Forms.{main}
 use Rattle.model.specs.Total.{total}
@@ -45,7 +46,7 @@ module _ (p : Plan) where
   unfolding respond
   release_exactly = ((λ q. (fit_exactly p).0 ((by (leb (total C (main p) + p.switch) p.deadline)).0 q)), λ f. (by (leb (total C (main p) + p.switch) p.deadline)).1 ((fit_exactly p).1 f))
     where
-      by : (i : Bool) → Accepts (pick i (decided p at_release 0 Running) (refuse idle 13)).answer ↔ (i ≡ true)
+      by : (i : Bool) → Accepts (pick i (decided p at_release 0 Running) (refuse idle Unfit)).answer ↔ (i ≡ true)
       by true = ((λ q. refl), λ e. tt)
       by false = ((λ q. absurd q), λ e. absurd (let z : ◌≡◌ {A = ℕ} 0 1 = cc in omega arith))
 
@@ -53,7 +54,7 @@ module _ (p : Plan) where
   unfolding respond
   release_decided q = by (leb (total C (main p) + p.switch) p.deadline) q
     where
-      by : (i : Bool) → Accepts (pick i (decided p at_release 0 Running) (refuse idle 13)).answer → pick i (decided p at_release 0 Running) (refuse idle 13) ≡ decided p at_release 0 Running
+      by : (i : Bool) → Accepts (pick i (decided p at_release 0 Running) (refuse idle Unfit)).answer → pick i (decided p at_release 0 Running) (refuse idle Unfit) ≡ decided p at_release 0 Running
       by true q = refl
       by false q = absurd q
 
@@ -72,7 +73,7 @@ module _ (p : Plan) where
   report_found x last others n t q = by (is_point (all_leaves p.functions) n) refl (ltb t last) refl (next_levels p x n) refl q
     where
       by : (i : Bool) → is_point (all_leaves p.functions) n ≡ i → (j : Bool) → ltb t last ≡ j → (o : Option Levels) → next_levels p x n ≡ o →
-          Accepts (pick i (pick j (refuse (running x last others) 16) (reached p (running x last others) n t others o)) (refuse (running x last others) 15)).answer →
+          Accepts (pick i (pick j (refuse (running x last others) Backward) (reached p (running x last others) n t others o)) (refuse (running x last others) Stranger)).answer →
           Found x last others n t
       by true a false b (some ls) c q = record { levels = ls; point = a; in_order = ltb-false t last b; next = c; reply = rw (a, b, c) }
       by true a false b none c q = absurd q
@@ -108,7 +109,7 @@ module _ (p : Plan) where
         )
       where
         by : (i j : Bool) →
-            Accepts (pick i (refuse (running x last others) 16) (pick j (record { state = idle; answer = Closed (ending others) (late p u) }) (refuse (running x last others) 17))).answer ↔
+            Accepts (pick i (refuse (running x last others) Backward) (pick j (record { state = idle; answer = Closed (ending others) (late p u) }) (refuse (running x last others) Astray))).answer ↔
             ((i ≡ false) × (j ≡ true))
         by true j = ((λ q. absurd q), λ (a, b). absurd (let z : ◌≡◌ {A = ℕ} 0 1 = cc in omega arith))
         by false true = ((λ q. (refl, refl)), λ u. tt)

@@ -1,18 +1,17 @@
 -- The lines of a sheet, written one behind the other. Assumes nothing.
-use Prim.Native.Nat.{ℕ, suc, ◌+◌, ◌-◌, ◌*◌, ◌/◌, ◌≤◌, ◌<◌}
+use Prim.Native.Nat.{ℕ, zero, suc, ◌+◌, ◌-◌, ◌*◌, ◌/◌, ◌^◌, ◌≤◌, ◌<◌, min, max}
 use mathlib.Core.Path.{◌≡◌, refl, sym, ap, subst, ◌∙◌}
 use mathlib.Core.List.{List, [], ◌∷◌, ◌++◌, flatten, append_assoc, append-nil}
 use native.Mathlib.Numerals.{add-one}
 use native.Mathlib.Omega.{arith}
-use lib.ListN.{length, get_or, take, drop, replicate, length-append, replicate-append-replicate, drop_of_length-le, get_or-eq_default}
+use native.Mathlib.Decide.{dec_le}
+use lib.ListN.{length, get_or, drop, replicate, length-append, replicate-append-replicate, drop_of_length-le}
 use lib.Seq.{drop-cons}
 use Rattle.text.specs.Text.{bytes}
 use Rattle.text.specs.Spelling.{decimal}
 use Rattle.text.proofs.Decimal.{decimal_digit, decimal_step}
 use Rattle.print.specs.Printed.{Printed}
 use Rattle.print.proofs.Laws.{flatten_append, nothing_written, behind}
-use Rattle.listing.specs.Summary.{points_in}
-use Rattle.listing.proofs.Numbers.{points_count, point_part}
 use Rattle.pages.specs.Sheet.{right_aligned, in_fields, sheet_line, heading_widths, point_widths, point_lines, page, pages_to, page_count}
 
 -- NUMBERS AND BLANKS
@@ -23,6 +22,19 @@ digits_one n h = ap length (decimal_digit n h)
 
 pub digits_more : (n : ℕ) → 10 ≤ n → length (decimal n) ≡ length (decimal (n / 10)) + 1
 digits_more n h = ap length (decimal_step n h) ∙ length-append (decimal (n / 10)) (_ ∷ [])
+
+-- So a number between a power of ten and the next one has one digit more than the exponent says.
+digits_between : (k n : ℕ) → 10 ^ k ≤ n → n < 10 * 10 ^ k → length (decimal n) ≡ k + 1
+digits_between zero n h l = digits_one n (omega arith)
+digits_between (suc k) n h l =
+    omega (arith, digits_more n (omega arith), digits_between k (n / 10) (omega arith) (omega arith))
+
+-- 0 has as many digits as 1.
+pub digits_counted : (k n : ℕ) → 10 ^ k ≤ max n 1 → max n 1 < 10 * 10 ^ k → k + 1 ≡ length (decimal n)
+digits_counted k zero h l = sym (digits_between k 1 h l) ∙ digits_one 1 (omega arith) ∙ sym (digits_one 0 (omega arith))
+digits_counted k (suc n) h l =
+    let larger : max (suc n) 1 ≡ suc n = omega arith in
+    sym (digits_between k (suc n) (rw larger at h) (rw larger at l))
 
 -- Nothing is written of no blanks.
 pub no_blanks : (l : List ℕ) (at : ℕ) → Printed l at (replicate 0 32) l at
@@ -75,28 +87,24 @@ unfolding in_fields
 blank left [] = refl
 blank left (w ∷ widths) = refl
 
--- So behind the last one. The blanks and the line feed end the line.
-pub line_ended : {widths numbers l m n o : List ℕ} {at e f r left i : ℕ} → length numbers ≤ i → Begun widths numbers l at m e left i →
+-- So behind the last one, or behind the last field.
+blank_behind : (left i : ℕ) (widths numbers : List ℕ) → min (length widths) (length numbers) ≤ i
+    → in_fields left (drop i widths) (drop i numbers) ≡ replicate left 32
+unfolding in_fields
+blank_behind left i widths numbers h =
+    elim (dec_le (length numbers) i) [
+      | yes k ↦ rw (drop_of_length-le numbers k) (blank left (drop i widths))
+      | no k ↦ let w : length widths ≤ i = omega arith in rw (drop_of_length-le widths w)
+    ]
+
+-- The blanks and the line feed end the line.
+pub line_ended : {widths numbers l m n o : List ℕ} {at e f r left i : ℕ} → min (length widths) (length numbers) ≤ i → Begun widths numbers l at m e left i →
     Printed m e (replicate left 32) n f → Printed n f (bytes "\n") o r → Printed l at (sheet_line widths numbers) o r
 unfolding sheet_line
 line_ended {widths} {numbers} {l} {o} {at} {r} {left} {i} h b p q =
-    let rest : in_fields left (drop i widths) (drop i numbers) ≡ replicate left 32 = rw (drop_of_length-le numbers h) (blank left (drop i widths)) in
+    let rest = blank_behind left i widths numbers h in
     let e : b.text ++ replicate left 32 ≡ in_fields 72 widths numbers = sym (b.rest ∙ ap (λ (u : List ℕ). b.text ++ u) rest) in
     subst (λ (u : List ℕ). Printed l at (u ++ bytes "\n") o r) e (behind (behind b.written p) q)
-
--- The line of a point of the list, where it is written from its part of memory,
-pub point_here : (n i : ℕ) (points : List ℕ) {l m : List ℕ} {at e : ℕ} → i < n → n * 4 ≤ length points →
-    Printed l at (sheet_line point_widths (take (i * 4 + 4 - i * 4) (drop (i * 4) points))) m e →
-    Printed l at (sheet_line point_widths (get_or (points_in n points) i [])) m e
-point_here n i points {l} {m} {at} {e} h k p =
-    subst (λ (u : List ℕ). Printed l at (sheet_line point_widths u) m e) (point_part n i points h k).0 p
-
--- and past the end of the list a blank one.
-pub point_past : (n i : ℕ) (points : List ℕ) {l m : List ℕ} {at e : ℕ} → n ≤ i → Printed l at (sheet_line point_widths []) m e →
-    Printed l at (sheet_line point_widths (get_or (points_in n points) i [])) m e
-point_past n i points {l} {m} {at} {e} h p =
-    let d = get_or-eq_default (points_in n points) [] {n = i} (omega (arith, h, points_count n points)) in
-    subst (λ (u : List ℕ). Printed l at (sheet_line point_widths u) m e) (sym d) p
 
 -- LINE BY LINE, PAGE BY PAGE
 
@@ -140,15 +148,6 @@ pub page_more : (task : List ℕ) (all : List (List ℕ)) (k : ℕ) {l m n : Lis
     Printed m e (flatten (page task all k)) n r → Printed l 0 (flatten (pages_to task all (k + 1))) n r
 unfolding pages_to
 page_more task all k p q = rw (add-one k) (lines_behind (pages_to task all k) (page task all k) p q)
-
--- All lines of a page's points, and all pages.
-pub points_all : (all : List (List ℕ)) (first j : ℕ) {l m : List ℕ} {at e : ℕ} → j ≡ 57 → Printed l at (flatten (point_lines all first j)) m e →
-    Printed l at (flatten (point_lines all first 57)) m e
-points_all all first j h p = rw (sym h) p
-
-pub pages_all : (task : List ℕ) (all : List (List ℕ)) (k n : ℕ) {l m : List ℕ} {e : ℕ} → k ≡ n → Printed l 0 (flatten (pages_to task all k)) m e →
-    Printed l 0 (flatten (pages_to task all n)) m e
-pages_all task all k n h p = rw (sym h) p
 
 -- There are at most nine.
 pub nine : (n : ℕ) → n ≤ 512 → page_count n ≤ 9

@@ -11,6 +11,7 @@ use Rattle.text.specs.Text.{bytes, lines}
 use Rattle.text.specs.Patterns.{matched, match}
 use Rattle.model.specs.Plan.{Plan}
 use Rattle.model.specs.Acceptance.{Accepted}
+use Rattle.model.specs.declared.Refusal.{Refusal}
 use Rattle.reader.specs.Outcome.{refused}
 use Rattle.print.proofs.Theorems.{begins}
 use Rattle.table.specs.Reading.{verdict}
@@ -28,7 +29,7 @@ pub sheet_is_of_text : (text buffer m : List ℕ) (n : ℕ) → length buffer �
 sheet_is_of_text text buffer m n long e k h = rw (e, k) (begins (outcome_sheet (verdict 512 text)) buffer (omega arith))
 
 -- The answer to a refused plan is that of the plain listing.
-pub refused_alike : (text : List ℕ) (k j : ℕ) → verdict 512 text ≡ refused k j → outcome_sheet (verdict 512 text) ≡ outcome_listing (verdict 512 text)
+pub refused_alike : (text : List ℕ) (k : Refusal) (j : ℕ) → verdict 512 text ≡ refused k j → outcome_sheet (verdict 512 text) ≡ outcome_listing (verdict 512 text)
 refused_alike text k j e = rw e
 
 -- Consider an accepted plan.

@@ -6,6 +6,7 @@ use Rattle.text.specs.Text.{bytes}
 use Rattle.text.specs.Spelling.{decimal}
 use Rattle.model.specs.Plan.{Plan}
 use Rattle.reader.specs.Outcome.{Outcome, plan, refused}
+use Rattle.model.specs.Refusals.{number_of}
 use Rattle.print.specs.Lines.{refused_plan_line}
 use Rattle.listing.specs.PlanListing.{task_numbers, points}
 
@@ -67,4 +68,4 @@ plan_sheet p = flatten (sheet_lines p)
 -- What is printed of a text: the sheet of the plan that was read; a refused plan prints what the plain listing prints.
 abbrev pub outcome_sheet : Outcome → List ℕ
 outcome_sheet (plan p) = plan_sheet p
-outcome_sheet (refused k j) = refused_plan_line k j
+outcome_sheet (refused k j) = refused_plan_line (number_of k) j

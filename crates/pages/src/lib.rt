@@ -7,14 +7,12 @@ ghost use Rattle.std.proofs.lemmas.List.Edits.{sets};
 ghost use Rattle.text.specs.Spelling.{decimal};
 ghost use Rattle.print.specs.Printed.{Printed};
 ghost use Rattle.table.specs.Reading.{verdict};
-ghost use Rattle.listing.specs.Summary.{points_in};
 ghost use Rattle.pages.specs.Sheet.{right_aligned, sheet_line, point_widths, point_lines, page, page_count, pages_to, outcome_sheet};
 
-use listing::{FIELDS, POINT_NUMBERS, collect};
+use listing::{FIELDS, collect};
 use print::{put_bytes, put_number, refused_plan_line};
-use reader::Answer;
-use rows::less;
-use text::TEN;
+use reader::RefusedAt;
+use rows::MAX_LEAVES;
 
 // How many columns a line has.
 const COLUMNS: u64 = 72;
@@ -35,13 +33,7 @@ pub const SHEET: usize = 39420;
 fn digit_count(n: u64) -> u64
     ensures { result ≡ length (decimal n) }
 {
-    let mut count = 1;
-    let mut rest = n;
-    while rest >= TEN {
-        rest = rest / TEN;
-        count += 1;
-    }
-    count
+    u64::from(n.max(1).ilog10()) + 1
 }
 
 // Writes so many blanks at a place, and gives the place after them.
@@ -49,10 +41,8 @@ fn put_blanks(out: &mut [u8], at: usize, count: u64) -> usize
     ensures { Printed out.old at (replicate count 32) out.new result }
 {
     let mut end = at;
-    let mut i = 0;
-    while i < count {
+    for _i in 0..count {
         end = put_bytes(out, end, b" ");
-        i += 1;
     }
     end
 }
@@ -61,95 +51,74 @@ fn put_blanks(out: &mut [u8], at: usize, count: u64) -> usize
 fn put_aligned(out: &mut [u8], at: usize, width: u64, n: u64) -> usize
     ensures { Printed out.old at (right_aligned width n) out.new result }
 {
-    let first = put_blanks(out, at, less(width, digit_count(n)));
+    let first = put_blanks(out, at, width.saturating_sub(digit_count(n)));
     put_number(out, first, n)
 }
 
 // Writes a line, numbers in fields of these widths and blanks behind them, and gives the place after it.
 fn put_line(out: &mut [u8], at: usize, widths: &[u64], numbers: &[u64]) -> usize
-    requires { length numbers.now ≤ length widths.now }
     ensures { Printed out.old at (sheet_line widths.now numbers.now) out.new result }
 {
     let mut end = at;
     let mut left = COLUMNS;
-    let mut i = 0;
-    while i < numbers.len() {
-        end = put_aligned(out, end, widths[i], numbers[i]);
-        left = less(left, widths[i]);
-        i += 1;
+    for (width, n) in widths.iter().zip(numbers) {
+        end = put_aligned(out, end, *width, *n);
+        left = left.saturating_sub(*width);
     }
     let last = put_blanks(out, end, left);
     put_bytes(out, last, b"\n")
 }
 
 // Writes the line of the point at a place of the list, a blank one past its end, and gives the place after it.
-fn put_point(out: &mut [u8], at: usize, points: &[u64], count: usize, i: usize) -> usize
-    requires { count * 4 ≤ length points.now }
-    ensures { Printed out.old at (sheet_line point_widths (get_or (points_in count points.now) i [])) out.new result }
+fn put_point(out: &mut [u8], at: usize, points: &[[u64; FIELDS]], i: usize) -> usize
+    ensures { Printed out.old at (sheet_line point_widths (get_or points.now i [])) out.new result }
 {
-    if i < count {
-        let from = i * FIELDS;
-        return put_line(out, at, &POINT_WIDTHS, &points[from..from + FIELDS]);
+    match points.get(i) {
+        Some(point) => put_line(out, at, &POINT_WIDTHS, point),
+        None => put_line(out, at, &POINT_WIDTHS, &[]),
     }
-    put_line(out, at, &POINT_WIDTHS, &points[..0])
 }
 
 // Writes a page's lines of points, from a place of the list on, and gives the place after them.
-fn put_points(out: &mut [u8], at: usize, points: &[u64], count: usize, first: usize) -> usize
-    requires { (count * 4 ≤ length points.now) × (first ≤ 512) }
-    ensures { Printed out.old at (flatten (point_lines (points_in count points.now) first 57)) out.new result }
+fn put_points(out: &mut [u8], at: usize, points: &[[u64; FIELDS]], first: usize) -> usize
+    requires { first ≤ 512 }
+    ensures { Printed out.old at (flatten (point_lines points.now first 57)) out.new result }
 {
     let mut end = at;
-    let mut j = 0;
-    while j < PAGE_POINTS {
-        end = put_point(out, end, points, count, first + j);
-        j += 1;
+    for j in 0..PAGE_POINTS {
+        end = put_point(out, end, points, first + j);
     }
     end
 }
 
 // Writes a page, counted from 0, and gives the place after it. Its number, which is printed, counts from 1.
-fn put_page(
-    out: &mut [u8],
-    at: usize,
-    task: &[u64],
-    points: &[u64],
-    count: usize,
-    k: usize,
-) -> usize
-    requires { (length task.now ≤ 4) × ((count * 4 ≤ length points.now) × (k < 9)) }
-    ensures { Printed out.old at (flatten (page task.now (points_in count points.now) k)) out.new result }
+fn put_page(out: &mut [u8], at: usize, task: &[u64], points: &[[u64; FIELDS]], k: usize) -> usize
+    requires { k < 9 }
+    ensures { Printed out.old at (flatten (page task.now points.now k)) out.new result }
 {
     let number = [k as u64 + 1];
     let second = put_line(out, at, &HEADING_WIDTHS, task);
     let third = put_line(out, second, &HEADING_WIDTHS, &number);
-    let fourth = put_line(out, third, &HEADING_WIDTHS, &number[..0]);
-    put_points(out, fourth, points, count, k * PAGE_POINTS)
+    let fourth = put_line(out, third, &HEADING_WIDTHS, &[]);
+    put_points(out, fourth, points, k * PAGE_POINTS)
 }
 
 // Gives how many pages so many points need, at least one.
 fn page_count(count: usize) -> usize
-    requires { count ≤ 512 }
     ensures { result ≡ page_count count }
 {
-    if count == 0 {
-        return 1;
-    }
-    (count + PAGE_POINTS - 1) / PAGE_POINTS
+    count.div_ceil(PAGE_POINTS).max(1)
 }
 
 // Writes all pages from the start, and gives the place after them.
-fn put_pages(out: &mut [u8], task: &[u64], points: &[u64], count: usize) -> usize
-    requires { (length task.now ≤ 4) × ((count * 4 ≤ length points.now) × (count ≤ 512)) }
-    ensures { Printed out.old 0 (flatten (pages_to task.now (points_in count points.now) (page_count count)))
+fn put_pages(out: &mut [u8], task: &[u64], points: &[[u64; FIELDS]]) -> usize
+    requires { length points.now ≤ 512 }
+    ensures { Printed out.old 0 (flatten (pages_to task.now points.now (page_count (length points.now))))
         out.new result }
 {
-    let pages = page_count(count);
     let mut end = 0;
-    let mut k = 0;
-    while k < pages {
-        end = put_page(out, end, task, points, count, k);
-        k += 1;
+    for k in 0..page_count(points.len()) {
+        end = put_page(out, end, task, points, k);
     }
     end
 }
@@ -160,12 +129,11 @@ pub fn sheet_text(out: &mut [u8; SHEET], text: &[u8]) -> usize
     ensures size { result ≡ length (outcome_sheet (verdict 512 text.now)) }
     ensures fits { result ≤ 39420 }
 {
-    let mut points = [0; POINT_NUMBERS];
-    let summary = collect(&mut points, text);
-    let answer = summary.answer;
-    let task = summary.task;
-    match answer {
-        Answer::Refused(k, j) => refused_plan_line(out, 0, k, j as u64),
-        Answer::Accepted => put_pages(out, &task, &points, summary.count),
+    let mut points = [[0; FIELDS]; MAX_LEAVES];
+    match collect(&mut points, text) {
+        Err(RefusedAt { refusal, line }) => {
+            refused_plan_line(out, 0, u64::from(refusal), line as u64)
+        }
+        Ok(summary) => put_pages(out, &summary.task, &points[..summary.count]),
     }
 }

@@ -10,6 +10,8 @@ use native.Mathlib.Numerals.{add-one}
 use lib.Dec.{eqb}
 use lib.ListN.{length, get_or}
 use borrow.Author.Tests.{eq-eqb, ne_eqb}
+use Rattle.std.specs.Prelude.{Option as RustOption}
+use Rattle.std.specs.Prelude.{Some, None}
 use Rattle.model.specs.Plan.{Block}
 use Rattle.model.specs.Forms.{Forms, done, leaf, call, loop, cond, forms}
 use Rattle.model.specs.Places.{pick, passes, seek}
@@ -17,41 +19,33 @@ use Rattle.model.specs.Stack.{Levels, behind, ◌else_at◌, given, onto, seek_a
 use Rattle.model.proofs.Places.{never}
 use Rattle.rows.specs.Rows.{kind_at, point_at, detail_at, block_at, Piece}
 use Rattle.place.specs.Pieces.{Spanned}
-use Rattle.place.specs.Private.{Nonempty, trail, beyond, next_beyond, quits, scan_answer, tracked, Level, Stands, Running, ground, return_at, fall_at, visits_there, Moved, Lands, Enterable, base_from, base_to}
+use Rattle.place.specs.declared.Sight.{Sight}
+use Rattle.place.specs.Private.{Nonempty, sight_beyond, sight_behind, next_beyond, quits, Level, Stands, Running, ground, return_at, fall_at, visits_there, Moved, Lands, Enterable, base_from, base_to}
 use Rattle.place.specs.Stack.{FunctionTable}
-use Rattle.place.proofs.Answers.{trail_is, suffix_headed}
-use Rattle.place.proofs.Suffixes.{beyond_is, next_suffix}
+use Rattle.place.proofs.Suffixes.{truth, suffix_headed, next_suffix}
+use Rattle.place.proofs.Sights.{Saw, beyond_saw, there_some, there_none}
 use Rattle.place.proofs.Views.{View, a_leaf, a_call, a_loop, an_if, view, level_spanned}
 
--- From a verdict back.
-pub verdict_two : (o : Option Forms) (s : Bool) → scan_answer o s ≡ 2 → (g : Forms) × (o ≡ some g)
-unfolding scan_answer
-verdict_two (some g) s e = (g, refl)
-verdict_two none true e = absurd (omega arith)
-verdict_two none false e = absurd (omega arith)
-
-pub verdict_one : (o : Option Forms) (s : Bool) → scan_answer o s ≡ 1 → (o ≡ none) × (s ≡ true)
-unfolding scan_answer
-verdict_one (some g) s e = absurd (omega arith)
-verdict_one none true e = (refl, refl)
-verdict_one none false e = absurd (omega arith)
-
-pub verdict_zero : (o : Option Forms) (s : Bool) → (scan_answer o s ≡ 2 → ⊥) → (scan_answer o s ≡ 1 → ⊥) → (o ≡ none) × (s ≡ false)
-unfolding scan_answer
-verdict_zero (some g) s d e = absurd (d refl)
-verdict_zero none true d e = absurd (e refl)
-verdict_zero none false d e = (refl, refl)
-
 -- Visits of a loop do not change what comes when it is left.
-pub turned_next : (v : ℕ) (s g : Forms) (x : ℕ) → turned s v ≡ some g → Nonempty s → (beyond s x ≡ beyond g x) × (next_beyond s x ≡ next_beyond g x) × Nonempty g
-unfolding turned beyond next_beyond
-turned_next zero s g x e h = let q : s ≡ g = cc in (ap (λ (f : Forms). beyond f x) q, ap (λ (f : Forms). next_beyond f x) q, rw q at h)
+pub turned_next : (v : ℕ) (s g : Forms) (x : ℕ) → turned s v ≡ some g → Nonempty s → (next_beyond s x ≡ next_beyond g x) × Nonempty g
+unfolding turned next_beyond
+turned_next zero s g x e h = let q : s ≡ g = cc in (ap (λ (f : Forms). next_beyond f x) q, rw q at h)
 turned_next (suc v) done g x e h = never e
 turned_next (suc v) (leaf b r) g x e h = never e
 turned_next (suc v) (call b fun r) g x e h = never e
 turned_next (suc v) (loop b zero body r) g x e h = never e
 turned_next (suc v) (loop b (suc n) body r) g x e h = turned_next v (loop b n body r) g x e tt
 turned_next (suc v) (cond b t s r) g x e h = never e
+
+turned_sight : (v : ℕ) (s g : Forms) (x : RustOption ℕ) → turned s v ≡ some g → sight_beyond s x ≡ sight_beyond g x
+unfolding turned sight_beyond
+turned_sight zero s g x e = let q : s ≡ g = cc in ap (λ (f : Forms). sight_beyond f x) q
+turned_sight (suc v) done g x e = never e
+turned_sight (suc v) (leaf b r) g x e = never e
+turned_sight (suc v) (call b fun r) g x e = never e
+turned_sight (suc v) (loop b zero body r) g x e = never e
+turned_sight (suc v) (loop b (suc n) body r) g x e = turned_sight v (loop b n body r) g x e
+turned_sight (suc v) (cond b t s r) g x e = never e
 
 -- One visit more of a loop.
 pub turned_once : (v : ℕ) (s : Forms) (b : Block) (m : ℕ) (body r : Forms) → turned s v ≡ some (loop b (suc m) body r) → turned s (suc v) ≡ some (loop b m body r)
@@ -129,33 +123,40 @@ module _ {w starts leaves : List ℕ} {n l : ℕ} where
         marked = λ k a b. q.marked k a (omega arith);
       }
 
--- What `fall` learns at its level.
-module _ {w starts leaves : List ℕ} {n l : ℕ} (q : Running w starts n leaves l) (h : 1 ≤ l) (x : ℕ) where
-  -- The answer of the scan.
-  pub scanned : {i e v : ℕ} → i ≡ base_from w starts n leaves l → e ≡ base_to w starts n leaves l → {p : ℕ} → p ≡ get_or leaves l 0 →
-      ((z : Piece w 62 i e) (G : List Forms) → v ≡ trail (forms G z.part.lines) p x) → v ≡ scan_answer (next_beyond (top q h).place x) (quits (top q h).place)
-  unfolding tracked
-  scanned {i} {e} {v} hi he {p} hp hv =
+-- What is met behind the leaf of the innermost level.
+module _ {w starts leaves : List ℕ} {n l : ℕ} (q : Running w starts n leaves l) (h : 1 ≤ l) where
+  pub level_read : (x : RustOption ℕ) {i e p : ℕ} {r : RustOption Sight} → i ≡ base_from w starts n leaves l → e ≡ base_to w starts n leaves l → p ≡ get_or leaves l 0 →
+      ((z : Piece w 62 i e) (G : List Forms) → r ≡ sight_behind (suffix (forms G z.part.lines) p) x) → r ≡ Some (sight_beyond (top q h).place x)
+  unfolding sight_behind
+  level_read x {i} {e} {p} hi he hp hr =
       let t = top q h in
       let sp = spanned q h in
       let lv = t.level in
       let z : Piece w 62 i e = record { heights = sp.piece.heights; level = sp.piece.level; part = rw (hi, he) sp.piece.part } in
+      hr z q.table.funs ∙ ap (λ (f : Forms). sight_behind (suffix f p) x) (sym sp.same) ∙ ap (λ (p : ℕ). sight_behind (suffix lv.level p) x) hp ∙
+      ap (λ (o : Option Forms). sight_behind o x) lv.found ∙ ap Some (turned_sight (get_or q.counts l 0) lv.start t.place x lv.turns)
+
+-- What `fall` learns at its level.
+module _ {w starts leaves : List ℕ} {n l : ℕ} (q : Running w starts n leaves l) (h : 1 ≤ l) (x : ℕ) where
+  pub level_saw : {v : Sight} → Some v ≡ Some (sight_beyond (top q h).place (Some x)) → Saw v (next_beyond (top q h).place x) (quits (top q h).place)
+  level_saw {v} e =
+      let t = top q h in
+      let lv = t.level in
+      let y : v ≡ sight_beyond t.place (Some x) = cc in
       let o = turned_next (get_or q.counts l 0) lv.start t.place x lv.turns (suffix_headed lv.level (get_or leaves l 0) lv.start lv.found) in
-      hv z q.table.funs ∙ ap (λ (f : Forms). trail f p x) (sym sp.same) ∙ ap (λ (p : ℕ). trail lv.level p x) hp ∙ trail_is lv.level (get_or leaves l 0) x ∙
-      ap (λ (o : Option Forms). tracked o x) lv.found ∙ o.0 ∙ beyond_is t.place x o.2
+      rw y (beyond_saw t.place x o.1)
 
   -- x comes next at this level.
-  comes_here : (g : Forms) → next_beyond (top q h).place x ≡ some g → Lands (get_or q.table.funs (n - 1) done) leaves q.counts ((top q h).place ∷ (top q h).under) x l
+  comes_here : (g : Forms) → next_beyond (top q h).place x ≡ some g → Lands (get_or q.table.funs (n - 1) done) leaves q.counts ((top q h).place ∷ (top q h).under) x (Some l)
   unfolding fall_at turned
   comes_here g c =
       let t = top q h in
       let sp = spanned q h in
       let lv = t.level in
       let o = turned_next (get_or q.counts l 0) lv.start t.place x lv.turns (suffix_headed lv.level (get_or leaves l 0) lv.start lv.found) in
-      let (f, lt) = next_suffix w sp.piece.level _ _ sp.piece.part.lines q.table.funs (get_or leaves l 0) x sp.piece.part.rep lv.start g (rw sp.same at lv.found) (o.1 ∙ c) in
+      let (f, lt) = next_suffix w sp.piece.level _ _ sp.piece.part.lines q.table.funs (get_or leaves l 0) x sp.piece.part.rep lv.start g (rw sp.same at lv.found) (o.0 ∙ c) in
       let z : eqb (get_or leaves l 0) x ≡ false = ne_eqb (get_or leaves l 0) x (λ y. omega arith) in
-      let f' : suffix lv.level x ≡ some g = ap (λ (f : Forms). suffix f x) sp.same ∙ f in
-      inr (
+      let f' : suffix lv.level x ≡ some g = ap (λ (f : Forms). suffix f x) sp.same ∙ f in (
         h,
         omega (arith, t.depth),
         (
@@ -213,30 +214,33 @@ pass_down g ks x a b = rw (a, b)
 
 module _ {w starts leaves : List ℕ} {n l : ℕ} (q : Running w starts n leaves l) (h : 1 ≤ l) (x : ℕ) where
   -- An answer over the innermost level and those under it.
-  whole_lands : {r : ℕ} → Lands (get_or q.table.funs (n - 1) done) leaves q.counts ((top q h).place ∷ (top q h).under) x r →
+  whole_lands : (r : RustOption ℕ) → Lands (get_or q.table.funs (n - 1) done) leaves q.counts ((top q h).place ∷ (top q h).under) x r →
       Lands (get_or q.table.funs (n - 1) done) leaves q.counts q.levels x r
-  whole_lands {r} z = rw (top q h).same z
+  whole_lands r z = rw (top q h).same z
 
-  pub fall_found : {v : ℕ} → v ≡ scan_answer (next_beyond (top q h).place x) (quits (top q h).place) → v ≡ 2 →
-      Lands (get_or q.table.funs (n - 1) done) leaves q.counts q.levels x l
-  fall_found e two = let (g, c) = verdict_two (next_beyond (top q h).place x) (quits (top q h).place) (sym e ∙ two) in whole_lands {r = l} (comes_here q h x g c)
+  pub fall_found : {v : Sight} → Saw v (next_beyond (top q h).place x) (quits (top q h).place) → v.meets ≡ true →
+      Lands (get_or q.table.funs (n - 1) done) leaves q.counts q.levels x (Some l)
+  fall_found s m = let (g, c) = there_some (next_beyond (top q h).place x) (sym s.meets ∙ m) in whole_lands (Some l) (comes_here q h x g c)
 
-  pub fall_stuck : {v : ℕ} → v ≡ scan_answer (next_beyond (top q h).place x) (quits (top q h).place) → (v ≡ 2 → ⊥) → (v ≡ 1 → ⊥) →
-      Lands (get_or q.table.funs (n - 1) done) leaves q.counts q.levels x 0
+  pub fall_stuck : {v : Sight} → Saw v (next_beyond (top q h).place x) (quits (top q h).place) → v.meets ≡ false → v.free ≡ false →
+      Lands (get_or q.table.funs (n - 1) done) leaves q.counts q.levels x None
   unfolding fall_at
-  fall_stuck e two one =
-      let (a, b) = verdict_zero (next_beyond (top q h).place x) (quits (top q h).place) (λ z. two (e ∙ z)) (λ z. one (e ∙ z)) in
-      whole_lands {r = 0} (inl (refl, rw (a, b)))
+  fall_stuck s m f =
+      let a = there_none (next_beyond (top q h).place x) (sym s.meets ∙ m) in
+      let b : quits (top q h).place ≡ false = sym s.free ∙ f in
+      whole_lands None (rw (a, b))
 
-  down : {v : ℕ} → v ≡ scan_answer (next_beyond (top q h).place x) (quits (top q h).place) → v ≡ 1 →
+  down : {v : Sight} → Saw v (next_beyond (top q h).place x) (quits (top q h).place) → v.meets ≡ false → v.free ≡ true →
       fall_at ((top q h).place ∷ (top q h).under) x ≡ return_at (top q h).under x
-  down e one =
-      let (a, b) = verdict_one (next_beyond (top q h).place x) (quits (top q h).place) (sym e ∙ one) in
-      pass_down (top q h).place (top q h).under x a b
+  down s m f = pass_down (top q h).place (top q h).under x (there_none (next_beyond (top q h).place x) (sym s.meets ∙ m)) (sym s.free ∙ f)
 
-  pub fall_out : {v : ℕ} → v ≡ scan_answer (next_beyond (top q h).place x) (quits (top q h).place) → v ≡ 1 → l ≡ 1 →
-      Lands (get_or q.table.funs (n - 1) done) leaves q.counts q.levels x 0
-  fall_out e one low = whole_lands {r = 0} (inl (refl, down e one ∙ bottom (top q h).under x (omega (arith, (top q h).depth))))
+  pub fall_out : {v : Sight} → Saw v (next_beyond (top q h).place x) (quits (top q h).place) → v.meets ≡ false → l ≡ 1 →
+      Lands (get_or q.table.funs (n - 1) done) leaves q.counts q.levels x None
+  fall_out {v} s m low =
+      elim (truth v.free) [
+        | inl f ↦ whole_lands None (down s m f ∙ bottom (top q h).under x (omega (arith, (top q h).depth)))
+        | inr f ↦ fall_stuck s m f
+      ]
 
 -- The record of the leaf that was reported last at level k.
 pub leaf_view : {w starts : List ℕ} {n : ℕ} (pr : FunctionTable w starts n) (leaves counts : List ℕ) (g : Forms) (ks : Levels) (k : ℕ) →
@@ -317,33 +321,33 @@ module _ {w starts leaves : List ℕ} {n l : ℕ} (q : Running w starts n leaves
   under = let t = top q one_up in under_of t.under (omega (arith, t.depth)) t.stands t.level.level t.level.opens
 
   -- The answers down there.
-  pub fall_again : {v k hd : ℕ} → v ≡ scan_answer (next_beyond (top q one_up).place x) (quits (top q one_up).place) → v ≡ 1 → hd ≡ get_or leaves (l - 1) 0 → k ≡ kind_at w hd → k ≡ 2 → hd ≡ x →
-      Lands main_of leaves q.counts q.levels x (l - 1)
-  fall_again {v} {k} {hd} e one hh hk two hx =
-      let kind : kind_at w (get_or leaves (l - 1) 0) ≡ 2 = ap (λ (p : ℕ). kind_at w p) (sym hh) ∙ sym hk ∙ two in
-      let (zs, c, m) = under.again kind (sym hh ∙ hx) in
-      whole_lands q one_up x {r = l - 1} (inr (omega arith, omega (arith, (top q one_up).depth), (zs, down q one_up x e one ∙ c, m)))
+  pub fall_again : {v : Sight} {hd : ℕ} → Saw v (next_beyond (top q one_up).place x) (quits (top q one_up).place) → v.meets ≡ false → v.free ≡ true →
+      hd ≡ get_or leaves (l - 1) 0 → kind_at w hd ≡ 2 → hd ≡ x → Lands main_of leaves q.counts q.levels x (Some (l - 1))
+  fall_again s m f hh k hx =
+      let (zs, c, y) = under.again (ap (λ (p : ℕ). kind_at w p) (sym hh) ∙ k) (sym hh ∙ hx) in
+      whole_lands q one_up x (Some (l - 1)) (omega arith, omega (arith, (top q one_up).depth), (zs, down q one_up x s m f ∙ c, y))
 
-  pub fall_other : {v k hd : ℕ} → v ≡ scan_answer (next_beyond (top q one_up).place x) (quits (top q one_up).place) → v ≡ 1 → hd ≡ get_or leaves (l - 1) 0 → k ≡ kind_at w hd → k ≡ 2 → (hd ≡ x → ⊥) →
-      Lands main_of leaves q.counts q.levels x 0
-  fall_other {v} {k} {hd} e one hh hk two hx =
-      let kind : kind_at w (get_or leaves (l - 1) 0) ≡ 2 = ap (λ (p : ℕ). kind_at w p) (sym hh) ∙ sym hk ∙ two in
-      whole_lands q one_up x {r = 0} (inl (refl, down q one_up x e one ∙ under.other kind (λ z. hx (hh ∙ z))))
+  pub fall_other : {v : Sight} {hd : ℕ} → Saw v (next_beyond (top q one_up).place x) (quits (top q one_up).place) → v.meets ≡ false → v.free ≡ true →
+      hd ≡ get_or leaves (l - 1) 0 → kind_at w hd ≡ 2 → (hd ≡ x → ⊥) → Lands main_of leaves q.counts q.levels x None
+  fall_other s m f hh k hx =
+      whole_lands q one_up x None (down q one_up x s m f ∙ under.other (ap (λ (p : ℕ). kind_at w p) (sym hh) ∙ k) (λ z. hx (hh ∙ z)))
 
-  pub fall_on : {v k hd r : ℕ} → v ≡ scan_answer (next_beyond (top q one_up).place x) (quits (top q one_up).place) → v ≡ 1 → hd ≡ get_or leaves (l - 1) 0 → k ≡ kind_at w hd → (k ≡ 2 → ⊥) →
+  lands_down : (r : RustOption ℕ) → fall_at ((top q one_up).place ∷ (top q one_up).under) x ≡ fall_at (top q one_up).under x →
+      Lands main_of leaves q.counts (top q one_up).under x r → Lands main_of leaves q.counts ((top q one_up).place ∷ (top q one_up).under) x r
+  lands_down None a y = a ∙ y
+  lands_down (Some r) a y = (y.0, omega (arith, (top q one_up).depth, y.1), (y.2.0, a ∙ y.2.1, y.2.2))
+
+  pub fall_on : (r : RustOption ℕ) {v : Sight} {hd : ℕ} → Saw v (next_beyond (top q one_up).place x) (quits (top q one_up).place) → v.meets ≡ false → v.free ≡ true →
+      hd ≡ get_or leaves (l - 1) 0 → (kind_at w hd ≡ 2 → ⊥) →
       ((z : Running w starts n leaves (l - 1)) → Lands (get_or z.table.funs (n - 1) done) leaves z.counts z.levels x r) →
       Lands main_of leaves q.counts q.levels x r
   unfolding lower
-  fall_on {v} {k} {hd} {r} e one hh hk two rec =
-      let kind : kind_at w (get_or leaves (l - 1) 0) ≡ 2 → ⊥ = λ z. two (hk ∙ ap (λ (p : ℕ). kind_at w p) hh ∙ z) in
-      let a = down q one_up x e one ∙ under.calling kind in
+  fall_on r s m f hh k rec =
+      let a = down q one_up x s m f ∙ under.calling (λ z. k (ap (λ (p : ℕ). kind_at w p) hh ∙ z)) in
       let t = top q one_up in
       let z : Running w starts n leaves (l - 1) =
       record { table = q.table; counts = q.counts; levels = t.under; depth = omega (arith, t.depth); stands = t.stands; marked = λ k a b. q.marked k a (omega arith) } in
-      whole_lands q one_up x {r = r} (elim (rec z) [
-        | inl y ↦ inl (y.0, a ∙ y.1)
-        | inr y ↦ inr (y.0, omega (arith, t.depth, y.1), (y.2.0, a ∙ y.2.1, y.2.2))
-      ])
+      whole_lands q one_up x r (lands_down r a (rec z))
 
 -- The records of the level, for a scan.
 pub ready : {w starts leaves : List ℕ} {n l : ℕ} (q : Running w starts n leaves l) (h : 1 ≤ l) {i e : ℕ} → i ≡ base_from w starts n leaves l → e ≡ base_to w starts n leaves l →

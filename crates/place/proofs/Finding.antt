@@ -10,6 +10,9 @@ use native.Mathlib.Numerals.{add-one}
 use lib.Dec.{eqb}
 use lib.ListN.{length, get_or}
 use borrow.Author.Tests.{eq-eqb, ne_eqb}
+use Rattle.std.specs.Prelude.{Option as RustOption}
+use Rattle.std.specs.Prelude.{Some, None}
+use Rattle.std.specs.Option.{is_some}
 use Rattle.model.specs.Plan.{Block}
 use Rattle.model.specs.Forms.{Forms, done, leaf, call, loop, cond, forms}
 use Rattle.model.specs.Places.{pick, passes, seek, Traceable}
@@ -17,12 +20,14 @@ use Rattle.model.specs.Stack.{Levels, whole, ◌else_at◌, given, onto, onward_
 use Rattle.model.proofs.Places.{never}
 use Rattle.rows.specs.Rows.{kind_at, point_at, detail_at, block_at, Piece}
 use Rattle.place.specs.Pieces.{Spanned}
-use Rattle.place.specs.Private.{look, scan_answer, Stands, Running, Placed, ground, fall_at, Moved, Lands, Finds, Enterable, inner_from, inner_to}
+use Rattle.place.specs.declared.Sight.{Sight}
+use Rattle.place.specs.declared.Found.{Found}
+use Rattle.place.specs.Private.{sight_of, Stands, Running, Placed, ground, fall_at, Moved, Lands, Finds, Enterable, inner_from, inner_to}
 use Rattle.place.specs.Stack.{FunctionTable}
-use Rattle.place.proofs.Answers.{look_is}
 use Rattle.place.proofs.Suffixes.{seek_suffix}
+use Rattle.place.proofs.Sights.{Saw, there_some, there_none}
 use Rattle.place.proofs.Views.{View, a_leaf, a_call, a_loop, an_if, view, level_spanned, open_call, open_loop, turned_loop}
-use Rattle.place.proofs.Falling.{verdict_two, verdict_one, verdict_zero, turned_once, Top, top, spanned}
+use Rattle.place.proofs.Falling.{turned_once, Top, top, spanned}
 use Rattle.place.proofs.Decode.{stands_traceable}
 use Rattle.place.proofs.Onward.{onward_leaf, onward_if, onward_call, onward_spent, onward_loop}
 use Rattle.place.proofs.Lowness.{low_level, low_some}
@@ -51,23 +56,20 @@ module _ {w starts : List ℕ} {n : ℕ} {leaves counts : List ℕ} {l : ℕ} (q
   main_of = get_or q.table.funs (n - 1) done
 
   -- Below: from the search down the levels.
-  pub below_none : {r : ℕ} → r ≡ 0 → Lands main_of leaves counts q.levels x r → Finds l main_of leaves counts (fall_at q.levels x) x 0 0
-  below_none e z = elim z [ inl y ↦ inl (refl, y.1) | inr y ↦ absurd (omega (arith, y.0)) ]
+  pub below_low : {r : ℕ} → l ≤ 32 → Lands main_of leaves counts q.levels x (Some r) → r ≤ 32
+  below_low h z = omega (arith, z.1, q.depth)
 
-  pub below_low : {r : ℕ} → l ≤ 32 → Lands main_of leaves counts q.levels x r → r ≤ 32
-  below_low h z = elim z [ inl y ↦ omega (arith, y.0) | inr y ↦ omega (arith, y.1, q.depth) ]
+  pub below_again : {r : ℕ} → l ≤ 32 → get_or leaves r 0 ≡ x → Lands main_of leaves counts q.levels x (Some r) →
+      Finds l main_of leaves counts (fall_at q.levels x) x (Some (record { at = r; count = get_or counts r 0 + 1 }))
+  below_again {r} b hx z =
+      let k : eqb (get_or leaves r 0) x ≡ true = eq-eqb (get_or leaves r 0) x hx in
+      (z.0, (omega (arith, z.1, q.depth), omega (arith, z.1, q.depth)), (z.2.0, z.2.1, rw k at z.2.2))
 
-  pub below_again : {r hd : ℕ} → (r ≡ 0 → ⊥) → r ≤ 32 → hd ≡ get_or leaves r 0 → hd ≡ x → Lands main_of leaves counts q.levels x r →
-      Finds l main_of leaves counts (fall_at q.levels x) x r (get_or counts r 0 + 1)
-  below_again {r} a b hh hx z =
-      let k : eqb (get_or leaves r 0) x ≡ true = eq-eqb (get_or leaves r 0) x (sym hh ∙ hx) in
-      elim z [ inl y ↦ absurd (a y.0) | inr y ↦ inr (y.0, (b, omega (arith, y.1, q.depth)), (y.2.0, y.2.1, rw k at y.2.2)) ]
-
-  pub below_fresh : {r hd : ℕ} → (r ≡ 0 → ⊥) → r ≤ 32 → hd ≡ get_or leaves r 0 → (hd ≡ x → ⊥) → Lands main_of leaves counts q.levels x r →
-      Finds l main_of leaves counts (fall_at q.levels x) x r 0
-  below_fresh {r} a b hh hx z =
-      let k : eqb (get_or leaves r 0) x ≡ false = ne_eqb (get_or leaves r 0) x (λ y. hx (hh ∙ y)) in
-      elim z [ inl y ↦ absurd (a y.0) | inr y ↦ inr (y.0, (b, omega (arith, y.1, q.depth)), (y.2.0, y.2.1, rw k at y.2.2)) ]
+  pub below_fresh : {r : ℕ} → l ≤ 32 → (get_or leaves r 0 ≡ x → ⊥) → Lands main_of leaves counts q.levels x (Some r) →
+      Finds l main_of leaves counts (fall_at q.levels x) x (Some (record { at = r; count = 0 }))
+  below_fresh {r} b hx z =
+      let k : eqb (get_or leaves r 0) x ≡ false = ne_eqb (get_or leaves r 0) x hx in
+      (z.0, (omega (arith, z.1, q.depth), omega (arith, z.1, q.depth)), (z.2.0, z.2.1, rw k at z.2.2))
 
   -- a loop's visits stay within its bound.
   visits_fit : (r v : ℕ) (ks : Levels) → Moved main_of leaves counts r x (v + 1) ks → v + 1 ≤ detail_at w x
@@ -77,9 +79,8 @@ module _ {w starts : List ℕ} {n : ℕ} {leaves counts : List ℕ} {l : ℕ} (q
       let (b, k, body, s, e) = turned_suc v lv.start m.place (ap (λ (v : ℕ). turned lv.start v) (sym (add-one v)) ∙ lv.turns) in
       loop_bound (view sp x (v + 1) lv.start m.place lv.found lv.turns).0 b k body s e
 
-  pub again_fits : {r hd : ℕ} → (r ≡ 0 → ⊥) → r ≤ 32 → hd ≡ get_or leaves r 0 → hd ≡ x → Lands main_of leaves counts q.levels x r → get_or counts r 0 + 1 ≤ detail_at w x
-  again_fits {r} a b hh hx z =
-      elim (below_again {r = r} a b hh hx z) [ inl y ↦ absurd (a y.0) | inr y ↦ visits_fit r (get_or counts r 0) y.2.0 y.2.2 ]
+  pub again_fits : {r : ℕ} → l ≤ 32 → get_or leaves r 0 ≡ x → Lands main_of leaves counts q.levels x (Some r) → get_or counts r 0 + 1 ≤ detail_at w x
+  again_fits {r} b hx z = let y = below_again {r = r} b hx z in visits_fit r (get_or counts r 0) y.2.0 y.2.2
 
 -- The innermost leaf's record: a call or a loop, with what is inside it; or else.
 pub record CallTop (w starts : List ℕ) (G : List Forms) (n p : ℕ) (g : Forms) : Type 0 where
@@ -121,10 +122,12 @@ module _ {w starts : List ℕ} {n : ℕ} (pr : FunctionTable w starts n) {p v e 
   flat_onward (a_loop k q cs le m s r z) a b ks x traceable = absurd (b k)
   flat_onward (an_if k t s r z) a b ks x traceable = onward_if ks x (block_at w p) t s r g z traceable
 
--- What a scan inside answered.
-pub looked : {w : List ℕ} {G : List Forms} {n i e : ℕ} {f : Forms} → Spanned w G n i e f → (x v : ℕ) → ((p : Piece w 62 i e) (G : List Forms) → v ≡ look (forms G p.part.lines) x) →
-    v ≡ scan_answer (seek f x) (passes f)
-looked {G = G} {f = f} sp x v h = h sp.piece G ∙ ap (λ (f : Forms). look f x) (sym sp.same) ∙ look_is f x
+-- What the forms inside meet.
+pub looked : {w : List ℕ} {G : List Forms} {n i e : ℕ} {f : Forms} → Spanned w G n i e f → (x : ℕ) (v : Sight) →
+    ((p : Piece w 62 i e) (G : List Forms) → v ≡ sight_of (forms G p.part.lines) (Some x)) → Saw v (seek f x) (passes f)
+looked {G = G} {f = f} sp x v h =
+    let e : v ≡ sight_of f (Some x) = h sp.piece G ∙ ap (λ (f : Forms). sight_of f (Some x)) (sym sp.same) in
+    record { meets = ap (λ (y : Sight). y.meets) e; free = ap (λ (y : Sight). y.free) e }
 
 pub zero_or : (m : ℕ) → (m ≡ 0) ⊎ ((k : ℕ) × (m ≡ suc k))
 zero_or zero = inl refl
@@ -170,12 +173,12 @@ module _ {w starts : List ℕ} {n : ℕ} {leaves counts : List ℕ} {l : ℕ} (q
       let z = stands_traceable (get_or q.table.funs (n - 1) done) leaves counts q.levels (omega (arith, q.depth)) q.stands q.table.traceable in
       rw front.same at z
 
-  -- The same of the leaf as the code read it: hd the leaf, kd its kind.
-  pub call_here : {hd kd : ℕ} → hd ≡ get_or leaves l 0 → kd ≡ kind_at w hd → kd ≡ 1 → CallTop w starts q.table.funs n hd front.place
-  call_here {hd} hh hk k = rw hh (call_top (ap (λ (p : ℕ). kind_at w p) (sym hh) ∙ sym hk ∙ k))
+  -- The same of the leaf as the code read it.
+  pub call_here : {hd : ℕ} → hd ≡ get_or leaves l 0 → kind_at w hd ≡ 1 → CallTop w starts q.table.funs n hd front.place
+  call_here {hd} hh k = rw hh (call_top (ap (λ (p : ℕ). kind_at w p) (sym hh) ∙ k))
 
-  pub loop_here : {hd kd : ℕ} → hd ≡ get_or leaves l 0 → kd ≡ kind_at w hd → kd ≡ 2 → LoopTop w starts q.table.funs n hd (get_or counts l 0) front.place
-  loop_here {hd} hh hk k = rw hh (loop_top (ap (λ (p : ℕ). kind_at w p) (sym hh) ∙ sym hk ∙ k))
+  pub loop_here : {hd : ℕ} → hd ≡ get_or leaves l 0 → kind_at w hd ≡ 2 → LoopTop w starts q.table.funs n hd (get_or counts l 0) front.place
+  loop_here {hd} hh k = rw hh (loop_top (ap (λ (p : ℕ). kind_at w p) (sym hh) ∙ k))
 
   -- Into the form that the innermost level opens with.
   push : (x : ℕ) (f : Forms) → inside_of front.place ≡ some f → {i e : ℕ} → Spanned w q.table.funs n i e f → (h : Forms) → seek f x ≡ some h →
@@ -205,49 +208,52 @@ module _ {w starts : List ℕ} {n : ℕ} {leaves counts : List ℕ} {l : ℕ} (q
   whole_fall : (x : ℕ) → fall_at (front.place ∷ front.under) x ≡ fall_at q.levels x
   whole_fall x = ap (λ (ls : Levels). fall_at ls x) (sym front.same)
 
-  abbrev Answers : ℕ → ℕ → ℕ → Type 0
-  Answers x r v = Finds l (get_or q.table.funs (n - 1) done) leaves counts (onward_at q.levels x) x r v
+  abbrev Answers : ℕ → RustOption Found → Type 0
+  Answers x r = Finds l (get_or q.table.funs (n - 1) done) leaves counts (onward_at q.levels x) x r
 
-  abbrev Under : ℕ → ℕ → ℕ → Type 0
-  Under x r v = Finds l (get_or q.table.funs (n - 1) done) leaves counts (fall_at q.levels x) x r v
+  abbrev Under : ℕ → RustOption Found → Type 0
+  Under x r = Finds l (get_or q.table.funs (n - 1) done) leaves counts (fall_at q.levels x) x r
 
-  finds_as : (x : ℕ) {r v : ℕ} → onward_at q.levels x ≡ fall_at q.levels x → Under x r v → Answers x r v
-  finds_as x {r} {v} e u = rw e u
+  finds_as : (x : ℕ) (r : RustOption Found) → onward_at q.levels x ≡ fall_at q.levels x → Under x r → Answers x r
+  finds_as x r e u = rw e u
 
-  pub none_found : (x : ℕ) {r v : ℕ} → r ≤ 0 → Under x r v → fall_at q.levels x ≡ none
-  none_found x h u = elim u [ inl y ↦ y.1 | inr y ↦ absurd (omega (arith, y.0)) ]
+  pub none_found : (x : ℕ) (r : RustOption Found) → is_some r ≡ false → Under x r → fall_at q.levels x ≡ none
+  none_found x None h u = u
+  none_found x (Some f) h u = absurd (let z : ◌≡◌ {A = ℕ} 0 1 = cc in omega arith)
 
   -- a leaf or an if.
-  pub find_flat : (x : ℕ) {hd kd r v : ℕ} → hd ≡ get_or leaves l 0 → kd ≡ kind_at w hd → (kd ≡ 1 → ⊥) → (kd ≡ 2 → ⊥) → Under x r v → Answers x r v
-  find_flat x {hd} hh hk a b u =
+  pub find_flat : (x : ℕ) (r : RustOption Found) → (kind_at w (get_or leaves l 0) ≡ 1 → ⊥) → (kind_at w (get_or leaves l 0) ≡ 2 → ⊥) → Under x r → Answers x r
+  find_flat x r a b u =
       let (e, v, lt, room) = there in
-      let k = hk ∙ ap (λ (p : ℕ). kind_at w p) hh in
-      finds_as x (whole_onward x (flat_onward q.table lt room v (λ z. a (k ∙ z)) (λ z. b (k ∙ z)) front.under x front_traceable) ∙ whole_fall x) u
+      finds_as x r (whole_onward x (flat_onward q.table lt room v a b front.under x front_traceable) ∙ whole_fall x) u
 
   -- a call: the scan of its function.
-  module _ (x : ℕ) {hd : ℕ} (c : CallTop w starts q.table.funs n hd front.place) {v : ℕ}
-      (hv : (p : Piece w 62 (inner_from w starts hd) (inner_to w starts hd)) (G : List Forms) → v ≡ look (forms G p.part.lines) x) where
+  module _ (x : ℕ) {hd : ℕ} (c : CallTop w starts q.table.funs n hd front.place) {v : Sight}
+      (hv : (p : Piece w 62 (inner_from w starts hd) (inner_to w starts hd)) (G : List Forms) → v ≡ sight_of (forms G p.part.lines) (Some x)) where
     called : onward_at (front.place ∷ front.under) x ≡
         onto (front.place ∷ front.under) (seek c.fun x) else_at given (passes c.fun) (fall_at (front.place ∷ front.under) x)
     called = onward_call front.under x (block_at w hd) c.fun c.later front.place c.shape
 
-    pub call_enter : v ≡ 2 → Answers x (l + 1) 0
+    pub call_enter : v.meets ≡ true → Answers x (Some (record { at = l + 1; count = 0 }))
     unfolding inside_of
-    call_enter two =
-        let (h, s) = verdict_two (seek c.fun x) (passes c.fun) (sym (looked c.spanned x v hv) ∙ two) in
+    call_enter met =
+        let (h, s) = there_some (seek c.fun x) (sym (looked c.spanned x v hv).meets ∙ met) in
         let (m, f) = push x c.fun (rw c.shape) c.spanned h s in
-        inr (omega arith, (f, omega arith), (h ∷ front.place ∷ front.under, whole_onward x (called ∙ onto_found (front.place ∷ front.under) (seek c.fun x) h (passes c.fun) (fall_at (front.place ∷ front.under) x) s), m))
+        (omega arith, (f, omega arith), (h ∷ front.place ∷ front.under, whole_onward x (called ∙ onto_found (front.place ∷ front.under) (seek c.fun x) h (passes c.fun) (fall_at (front.place ∷ front.under) x) s), m))
 
-    pub call_pass : {r u : ℕ} → v ≡ 1 → Under x r u → Answers x r u
-    call_pass one un =
-        let (a, b) = verdict_one (seek c.fun x) (passes c.fun) (sym (looked c.spanned x v hv) ∙ one) in
-        finds_as x (whole_onward x (called ∙ rw (a, b)) ∙ whole_fall x) un
+    pub call_pass : (r : RustOption Found) → v.meets ≡ false → v.free ≡ true → Under x r → Answers x r
+    call_pass r met fr un =
+        let s = looked c.spanned x v hv in
+        let a = there_none (seek c.fun x) (sym s.meets ∙ met) in
+        let b : passes c.fun ≡ true = sym s.free ∙ fr in
+        finds_as x r (whole_onward x (called ∙ rw (a, b)) ∙ whole_fall x) un
 
-    pub call_stop : (v ≡ 2 → ⊥) → (v ≡ 1 → ⊥) → Answers x 0 0
-    call_stop two one =
-        let z = looked c.spanned x v hv in
-        let (a, b) = verdict_zero (seek c.fun x) (passes c.fun) (λ y. two (z ∙ y)) (λ y. one (z ∙ y)) in
-        inl (refl, whole_onward x (called ∙ rw (a, b)))
+    pub call_stop : v.meets ≡ false → v.free ≡ false → Answers x None
+    call_stop met fr =
+        let s = looked c.spanned x v hv in
+        let a = there_none (seek c.fun x) (sym s.meets ∙ met) in
+        let b : passes c.fun ≡ false = sym s.free ∙ fr in
+        whole_onward x (called ∙ rw (a, b))
 
   -- a loop that is a point.
   module _ (x : ℕ) {hd : ℕ} (hh : hd ≡ get_or leaves l 0) (c : LoopTop w starts q.table.funs n hd (get_or counts l 0) front.place) where
@@ -271,22 +277,20 @@ module _ {w starts : List ℕ} {n : ℕ} {leaves counts : List ℕ} {l : ℕ} (q
     rounds_of = zero_or c.rounds
 
     -- What is found when the loop is left is found.
-    pub loop_left : {r v : ℕ} → 1 ≤ r → Under x r v → Answers x r v
-    loop_left {r} {v} h u =
-        elim u [
-          | inl y ↦ absurd (omega (arith, y.0))
-          | inr y ↦ elim rounds_of [
-            | inl z ↦ inr (y.0, y.1, (y.2.0, spent z ∙ y.2.1, y.2.2))
-            | inr z ↦ inr (y.0, y.1, (y.2.0, turns z.0 z.1 ∙ else_found (fall_at q.levels x) y.2.0 _ y.2.1, y.2.2))
-          ]
+    pub loop_left : (r : RustOption Found) → is_some r ≡ true → Under x r → Answers x r
+    loop_left None h y = absurd (let z : ◌≡◌ {A = ℕ} 0 1 = cc in omega arith)
+    loop_left (Some f) h y =
+        elim rounds_of [
+          | inl z ↦ (y.0, y.1, (y.2.0, spent z ∙ y.2.1, y.2.2))
+          | inr z ↦ (y.0, y.1, (y.2.0, turns z.0 z.1 ∙ else_found (fall_at q.levels x) y.2.0 _ y.2.1, y.2.2))
         ]
 
-    pub loop_spent : {r v k : ℕ} → r ≤ 0 → Under x r v → k ≡ detail_at w hd → k ≤ get_or counts l 0 → Answers x 0 0
-    loop_spent h u hk le = inl (refl, spent (omega (arith, c.bound)) ∙ none_found x h u)
+    pub loop_spent : fall_at q.levels x ≡ none → detail_at w hd ≤ get_or counts l 0 → Answers x None
+    loop_spent un le = spent (omega (arith, c.bound)) ∙ un
 
     -- It turns again.
-    module _ {k o u : ℕ} (zr : o ≤ 0) (un : Under x o u) (hk : k ≡ detail_at w hd) (less : get_or counts l 0 < k) {v : ℕ}
-        (hv : (p : Piece w 62 (inner_from w starts hd) (inner_to w starts hd)) (G : List Forms) → v ≡ look (forms G p.part.lines) x) where
+    module _ (un : fall_at q.levels x ≡ none) (less : get_or counts l 0 < detail_at w hd) {v : Sight}
+        (hv : (p : Piece w 62 (inner_from w starts hd) (inner_to w starts hd)) (G : List Forms) → v ≡ sight_of (forms G p.part.lines) (Some x)) where
       round : (m : ℕ) × (c.rounds ≡ suc m)
       round = elim rounds_of [ inl z ↦ absurd (omega (arith, c.bound, z)) | inr z ↦ z ]
 
@@ -294,49 +298,49 @@ module _ {w starts : List ℕ} {n : ℕ} {leaves counts : List ℕ} {l : ℕ} (q
       unfolding inside_of
       inside = ap inside_of (c.shape ∙ ap (λ (m : ℕ). loop (block_at w hd) m c.body c.later) round.1)
 
-      seen : v ≡ scan_answer (seek c.body x) (passes c.body)
+      seen : Saw v (seek c.body x) (passes c.body)
       seen = looked c.spanned x v hv
 
-      pub loop_enter : v ≡ 2 → Answers x (l + 1) 0
-      loop_enter two =
-          let (h, s) = verdict_two (seek c.body x) (passes c.body) (sym seen ∙ two) in
-          let (m, f) = push x c.body inside c.spanned h s in
-          inr (
+      pub loop_enter : v.meets ≡ true → Answers x (Some (record { at = l + 1; count = 0 }))
+      loop_enter met =
+          let (h, s) = there_some (seek c.body x) (sym seen.meets ∙ met) in
+          let (m, f) = push x c.body inside c.spanned h s in (
             omega arith,
             (f, omega arith),
             (
               h ∷ front.place ∷ front.under,
-              turns round.0 round.1 ∙ else_next (fall_at q.levels x) _ (none_found x zr un) ∙ onto_found (front.place ∷ front.under) (seek c.body x) h (passes c.body) _ s,
+              turns round.0 round.1 ∙ else_next (fall_at q.levels x) _ un ∙ onto_found (front.place ∷ front.under) (seek c.body x) h (passes c.body) _ s,
               m,
             ),
           )
 
-      pub loop_stop : (v ≡ 2 → ⊥) → (v ≡ 1 → ⊥) → Answers x 0 0
-      loop_stop two one =
-          let (a, b) = verdict_zero (seek c.body x) (passes c.body) (λ y. two (seen ∙ y)) (λ y. one (seen ∙ y)) in
-          inl (refl, turns round.0 round.1 ∙ else_next (fall_at q.levels x) _ (none_found x zr un) ∙ rw (a, b))
+      pub loop_stop : v.meets ≡ false → v.free ≡ false → Answers x None
+      loop_stop met fr =
+          let a = there_none (seek c.body x) (sym seen.meets ∙ met) in
+          let b : passes c.body ≡ false = sym seen.free ∙ fr in
+          turns round.0 round.1 ∙ else_next (fall_at q.levels x) _ un ∙ rw (a, b)
 
-      past_body : v ≡ 1 → onward_at q.levels x ≡ pick (eqb hd x) (some (loop (block_at w hd) round.0 c.body c.later ∷ front.under)) none
-      past_body one =
-          let (a, b) = verdict_one (seek c.body x) (passes c.body) (sym seen ∙ one) in
-          turns round.0 round.1 ∙ else_next (fall_at q.levels x) _ (none_found x zr un) ∙ passing (front.place ∷ front.under) (seek c.body x) (passes c.body) _ a b
+      past_body : v.meets ≡ false → v.free ≡ true → onward_at q.levels x ≡ pick (eqb hd x) (some (loop (block_at w hd) round.0 c.body c.later ∷ front.under)) none
+      past_body met fr =
+          let a = there_none (seek c.body x) (sym seen.meets ∙ met) in
+          let b : passes c.body ≡ true = sym seen.free ∙ fr in
+          turns round.0 round.1 ∙ else_next (fall_at q.levels x) _ un ∙ passing (front.place ∷ front.under) (seek c.body x) (passes c.body) _ a b
 
-      pub loop_other : v ≡ 1 → (hd ≡ x → ⊥) → Answers x 0 0
-      loop_other one hx = inl (refl, past_body one ∙ rw (ne_eqb hd x hx))
+      pub loop_other : v.meets ≡ false → v.free ≡ true → (hd ≡ x → ⊥) → Answers x None
+      loop_other met fr hx = past_body met fr ∙ rw (ne_eqb hd x hx)
 
-      pub loop_again : v ≡ 1 → hd ≡ x → l ≤ 32 → Answers x l (get_or counts l 0 + 1)
-      loop_again won hx top32 =
+      pub loop_again : v.meets ≡ false → v.free ≡ true → hd ≡ x → l ≤ 32 → Answers x (Some (record { at = l; count = get_or counts l 0 + 1 }))
+      loop_again met fr hx top32 =
           let t = front in
           let lv = t.level in
           let g = loop (block_at w hd) round.0 c.body c.later in
           let o = turned_once (get_or counts l 0) lv.start (block_at w hd) round.0 c.body c.later
-          (lv.turns ∙ ap some (c.shape ∙ ap (λ (m : ℕ). loop (block_at w hd) m c.body c.later) round.1)) in
-          inr (
+          (lv.turns ∙ ap some (c.shape ∙ ap (λ (m : ℕ). loop (block_at w hd) m c.body c.later) round.1)) in (
             one,
             (top32, omega arith),
             (
               g ∷ t.under,
-              past_body won ∙ taken (eqb hd x) (g ∷ t.under) (eq-eqb hd x hx),
+              past_body met fr ∙ taken (eqb hd x) (g ∷ t.under) (eq-eqb hd x hx),
               record {
                 under = t.under;
                 place = g;

@@ -3,23 +3,25 @@ use mathlib.Core.Path.{◌≡◌, refl, sym, ap, ◌∙◌}
 use mathlib.Core.Bool.{Bool, true, false}
 use mathlib.Core.List.{List, [], ◌∷◌}
 use mathlib.Core.Logic.{inl, inr}
-use mathlib.Core.Option.{Option, some}
+use mathlib.Core.Option.{Option, none, some}
 use Prim.Native.Nat.{ℕ, zero, suc, ◌+◌, ◌-◌, ◌*◌, ◌≤◌}
 use native.Mathlib.Omega.{arith}
 use native.Mathlib.Decide.{dec_le}
 use lib.Dec.{eqb}
 use lib.ListN.{length, get_or}
 use borrow.Author.Tests.{eq-eqb, ne_eqb}
+use Rattle.std.specs.Prelude.{Option as RustOption}
+use Rattle.std.specs.Option.{is_some}
 use Rattle.model.specs.Plan.{Block}
 use Rattle.model.specs.Forms.{Forms, done, loop, forms}
 use Rattle.model.specs.Stack.{Levels, suffix, turned, inside_of}
-use Rattle.model.proofs.Places.{never, known}
+use Rattle.model.proofs.Places.{never}
 use Rattle.rows.specs.Rows.{point_at, block_at, Piece}
 use Rattle.rows.specs.Answers.{Says}
 use Rattle.place.specs.Pieces.{Spanned}
-use Rattle.place.specs.Private.{trail, tracked, Level, Stands, Placed, ground, Enters, Counted, Settled, StackStands, Enterable, inner_from, inner_to, base_from, base_to}
+use Rattle.place.specs.declared.Sight.{Sight}
+use Rattle.place.specs.Private.{sight_behind, Level, Stands, Placed, ground, Enters, Counted, Settled, StackStands, Enterable, inner_from, inner_to, base_from, base_to}
 use Rattle.place.specs.Stack.{FunctionTable, Decodes}
-use Rattle.place.proofs.Answers.{trail_is, beyond_small, suffix_headed}
 use Rattle.place.proofs.Suffixes.{suffix_in}
 use Rattle.place.proofs.Views.{View, a_leaf, a_call, a_loop, an_if, view, level_spanned}
 use Rattle.place.proofs.Falling.{spanned}
@@ -27,10 +29,15 @@ use Rattle.place.proofs.Finding.{running, turned_suc, front, leaf_room, call_top
 use Rattle.place.proofs.Ending.{main_spanned}
 use Rattle.place.proofs.Decode.{stands_levels, levels_stand}
 
--- a leaf of the level, from the scan's answer.
-pub no_leaf : {w : List ℕ} {G : List Forms} {n i e : ℕ} {f : Forms} → Spanned w G n i e f → (p x : ℕ) {v : ℕ} →
-    ((q : Piece w 62 i e) (G : List Forms) → v ≡ trail (forms G q.part.lines) p x) → v ≡ tracked (suffix f p) x
-no_leaf {G = G} {f = f} sp p x hv = hv sp.piece G ∙ ap (λ (f : Forms). trail f p x) (sym sp.same) ∙ trail_is f p x
+-- Whether there is a leaf of the level, from what is met behind it.
+behind_read : {w : List ℕ} {G : List Forms} {n i e : ℕ} {f : Forms} → Spanned w G n i e f → (p : ℕ) (x : RustOption ℕ) {r : RustOption Sight} →
+    ((q : Piece w 62 i e) (G : List Forms) → r ≡ sight_behind (suffix (forms G q.part.lines) p) x) → r ≡ sight_behind (suffix f p) x
+behind_read {G = G} sp p x hr = hr sp.piece G ∙ ap (λ (f : Forms). sight_behind (suffix f p) x) (sym sp.same)
+
+behind_some : (o : Option Forms) (x : RustOption ℕ) {r : RustOption Sight} → r ≡ sight_behind o x → is_some r ≡ true → (s : Forms) × (o ≡ some s)
+unfolding sight_behind
+behind_some none x e h = absurd (let z : false ≡ true = rw e at h in let y : ◌≡◌ {A = ℕ} 0 1 = cc in omega arith)
+behind_some (some s) x e h = (s, refl)
 
 -- Visits that a form can have had.
 turned_to : (v n : ℕ) (b : Block) (body r : Forms) → v ≤ n → turned (loop b n body r) v ≡ some (loop b (n - v) body r)
@@ -68,23 +75,20 @@ settled_count (a_loop k q cs le m e r z) s t = inl (k, omega arith)
 settled_count {count = count} {g = g} (an_if k x y r z) s t =
     inr ((λ h. omega arith), not_again count s g t (λ b m body u e. let y = sym z ∙ e in let z : ◌≡◌ {A = ℕ} 0 1 = cc in omega arith))
 
-module _ {w : List ℕ} {G : List Forms} {n i e : ℕ} {f : Forms} (sp : Spanned w G n i e f) (p x count : ℕ) {v : ℕ}
-    (hv : (q : Piece w 62 i e) (G : List Forms) → v ≡ trail (forms G q.part.lines) p x) where
-  pub absent : v ≡ 3 → Settled w f p count → ⊥
-  unfolding tracked
-  absent three s =
-      let z : tracked (some s.start) x ≡ 3 = ap (λ (o : Option Forms). tracked o x) (sym s.found) ∙ sym (no_leaf sp p x hv) ∙ three in
-      omega (arith, z, beyond_small s.start x (suffix_headed f p s.start s.found))
-
-  present : (v ≡ 3 → ⊥) → (s : Forms) × (suffix f p ≡ some s)
-  unfolding tracked
-  present nz = elim (known (suffix f p)) [ inl c ↦ absurd (nz (no_leaf sp p x hv ∙ ap (λ (o : Option Forms). tracked o x) c)) | inr c ↦ c ]
+module _ {w : List ℕ} {G : List Forms} {n i e : ℕ} {f : Forms} (sp : Spanned w G n i e f) (p count : ℕ) (x : RustOption ℕ) {r : RustOption Sight}
+    (hr : (q : Piece w 62 i e) (G : List Forms) → r ≡ sight_behind (suffix (forms G q.part.lines) p) x) where
+  pub absent : is_some r ≡ false → Settled w f p count → ⊥
+  unfolding sight_behind
+  absent e s =
+      let z : true ≡ false = rw (behind_read sp p x hr ∙ ap (λ (o : Option Forms). sight_behind o x) s.found) at e in
+      let y : ◌≡◌ {A = ℕ} 0 1 = cc in
+      omega arith
 
   -- Its visits.
-  pub counts_so : (v ≡ 3 → ⊥) → point_at w p ≡ 1 → Counted w p count → Settled w f p count
+  pub counts_so : is_some r ≡ true → point_at w p ≡ 1 → Counted w p count → Settled w f p count
   unfolding turned
-  counts_so nz mk cs =
-      let (s, c) = present nz in
+  counts_so e mk cs =
+      let (s, c) = behind_some (suffix f p) x (behind_read sp p x hr) e in
       let (vw, lt) = view sp p 0 s s c refl in
       let (g, t) = turned_some vw count cs in
       record { mark = mk; start = s; found = c; left = g; turns = t }
@@ -95,14 +99,11 @@ module _ {w : List ℕ} {G : List Forms} {n i e : ℕ} {f : Forms} (sp : Spanned
       nay (settled_count vw s.start s.turns)
 
 -- a leaf that is there lies in the row.
-pub in_room : {w : List ℕ} {i e : ℕ} → Piece w 62 i e → e * 8 ≤ length w → (p x : ℕ) {v : ℕ} → ((q : Piece w 62 i e) (G : List Forms) → v ≡ trail (forms G q.part.lines) p x) →
-    (v ≡ 3 → ⊥) → p * 8 + 8 ≤ length w
-unfolding tracked
-in_room {w} {i} {e} q room p x hv nz =
-    elim (known (suffix (forms [] q.part.lines) p)) [
-      | inl c ↦ absurd (nz (hv q [] ∙ trail_is (forms [] q.part.lines) p x ∙ ap (λ (o : Option Forms). tracked o x) c))
-      | inr c ↦ omega (arith, suffix_in w q.level i e q.part.lines [] p c.0 q.part.rep c.1)
-    ]
+pub in_room : {w : List ℕ} {i e : ℕ} → Piece w 62 i e → e * 8 ≤ length w → (p : ℕ) (x : RustOption ℕ) {r : RustOption Sight} →
+    ((q : Piece w 62 i e) (G : List Forms) → r ≡ sight_behind (suffix (forms G q.part.lines) p) x) → is_some r ≡ true → p * 8 + 8 ≤ length w
+in_room {w} {i} {e} q room p x hr h =
+    let c = behind_some (suffix (forms [] q.part.lines) p) x (hr q []) h in
+    omega (arith, suffix_in w q.level i e q.part.lines [] p c.0 q.part.rep c.1)
 
 -- The main function of a table.
 abbrev mainOf : {w starts : List ℕ} {n : ℕ} → FunctionTable w starts n → Forms
@@ -148,13 +149,6 @@ module _ {w starts : List ℕ} {n : ℕ} (p : FunctionTable w starts n) {leaves 
       ((n : ℕ) (G : List Forms) (f : Forms) → Spanned w G n i e f → Says r (Settled w f (get_or leaves l 0) (get_or counts l 0))) → Says r (StackStands w (mainOf p) leaves counts l)
   says_held true hi he h o u = let (f, c, sp) = o in held_up h f c (u n p.funs f sp)
   says_held false hi he h o u = λ k. u n p.funs (front (placed_held p k) one).level.level (rw (hi, he) (spanned (running (placed_held p k)) one)) (held_settled k)
-
-  pub says_first : (r : Bool) {i e q c : ℕ} → l ≡ 1 → i ≡ get_or starts (n - 1) 0 → e ≡ get_or starts n 0 → StackStands w (mainOf p) leaves counts (l - 1) → q ≡ get_or leaves l 0 → c ≡ get_or counts l 0 →
-      ((n : ℕ) (G : List Forms) (f : Forms) → Spanned w G n i e f → Says r (Settled w f q c)) → Says r (StackStands w (mainOf p) leaves counts l)
-  unfolding ground held_none
-  says_first r {i} {e} {q} {c} l1 hi he h hq hc u =
-      let z : eqb l 1 ≡ true = eq-eqb l 1 l1 in
-      says_held r (rw z hi) (rw z he) (held_none w (mainOf p) leaves counts (l - 1) (omega arith)) ((mainOf p), refl, main_spanned p hi he) (rw (hq, hc) at u)
 
 -- At the second level and above.
 view_enters : {w : List ℕ} {G : List Forms} {k p v e : ℕ} {g : Forms} → View w G k p v e g → (f : Forms) → inside_of g ≡ some f → Enters w p v
@@ -213,26 +207,33 @@ module _ {w starts : List ℕ} {n : ℕ} (p : FunctionTable w starts n) {leaves 
   pub head_open : StackStands w (mainOf p) leaves counts (l - 1) → {hd c : ℕ} → hd ≡ get_or leaves (l - 1) 0 → c ≡ get_or counts (l - 1) 0 → Enters w hd c → Enterable w starts hd
   head_open h hh hc en = rw hh (enters_open h (rw (hh, hc) at en)).1
 
-  pub open_plan : StackStands w (mainOf p) leaves counts (l - 1) → {hd c i e : ℕ} → hd ≡ get_or leaves (l - 1) 0 → c ≡ get_or counts (l - 1) 0 → Enters w hd c →
-      i ≡ inner_from w starts hd → e ≡ inner_to w starts hd → (e * 8 ≤ length w) × Piece w 62 i e
-  open_plan h hh hc en hi he =
-      let sp = (enters_open h (rw (hh, hc) at en)).0.2 in
-      (rw (he, hh) sp.room, rw (hi, he, hh) sp.piece)
+-- The outermost level runs the main function.
+ground_main : (main : Forms) (ks : Levels) → length ks ≡ 0 → ground main ks ≡ some main
+unfolding ground
+ground_main main [] e = refl
+ground_main main (g ∷ ks) e = absurd (omega arith)
 
-  pub says_up : (r : Bool) {hd c i e q d : ℕ} → hd ≡ get_or leaves (l - 1) 0 → c ≡ get_or counts (l - 1) 0 → Enters w hd c → i ≡ inner_from w starts hd → e ≡ inner_to w starts hd →
-      StackStands w (mainOf p) leaves counts (l - 1) → q ≡ get_or leaves l 0 → d ≡ get_or counts l 0 →
-      ((n : ℕ) (G : List Forms) (f : Forms) → Spanned w G n i e f → Says r (Settled w f q d)) → Says r (StackStands w (mainOf p) leaves counts l)
-  says_up r {hd} {c} {i} {e} {q} {d} hh hc en hi he h hq hd' u =
-      let z : eqb l 1 ≡ false = ne_eqb l 1 (λ y. omega arith) in
-      let o = (enters_open h (rw (hh, hc) at en)).0 in
-      let i' : i ≡ inner_from w starts (get_or leaves (l - 1) 0) = hi ∙ ap (λ (p : ℕ). inner_from w starts p) hh in
-      let e' : e ≡ inner_to w starts (get_or leaves (l - 1) 0) = he ∙ ap (λ (p : ℕ). inner_to w starts p) hh in
-      says_held p (omega arith) r (rw z i') (rw z e') h (o.0, o.1, rw (i', e') o.2) (rw (hq, hd') at u)
+-- The records of a level above levels that hold.
+module _ {w starts : List ℕ} {n : ℕ} (p : FunctionTable w starts n) {leaves counts : List ℕ} {l : ℕ} (one : 1 ≤ l) (h : StackStands w (mainOf p) leaves counts (l - 1))
+    (en : 2 ≤ l → Enters w (get_or leaves (l - 1) 0) (get_or counts (l - 1) 0)) {i e : ℕ} (hi : i ≡ base_from w starts n leaves l) (he : e ≡ base_to w starts n leaves l) where
+  level_open : (f : Forms) × (ground (mainOf p) h.levels ≡ some f) × Spanned w p.funs n i e f
+  level_open =
+      elim (dec_le 2 l) [
+        | yes two ↦
+            let z : eqb l 1 ≡ false = ne_eqb l 1 (λ y. omega arith) in
+            let o = (enters_open p two h (en two)).0 in
+            (o.0, o.1, rw (hi, he, z) o.2)
+        | no low ↦
+            let z : eqb l 1 ≡ true = eq-eqb l 1 (omega arith) in
+            (mainOf p, ground_main (mainOf p) h.levels (omega (arith, h.depth)), main_spanned p (hi ∙ rw z) (he ∙ rw z))
+      ]
 
-pub says_counted : {w : List ℕ} {G : List Forms} {n i e : ℕ} {f : Forms} (sp : Spanned w G n i e f) (p x count : ℕ) {v m : ℕ}
-    (hv : (q : Piece w 62 i e) (G : List Forms) → v ≡ trail (forms G q.part.lines) p x) → (v ≡ 3 → ⊥) → m ≡ point_at w p → m ≡ 1 → (r : Bool) → Says r (Counted w p count) → Says r (Settled w f p count)
-says_counted sp p x count hv nz hm m1 true h = counts_so sp p x count hv nz (sym hm ∙ m1) h
-says_counted sp p x count hv nz hm m1 false h = counts_not sp p x count hv h
+  pub level_plan : (e * 8 ≤ length w) × Piece w 62 i e
+  level_plan = let sp = level_open.2 in (sp.room, sp.piece)
+
+  pub says_level : (r : Bool) → ((n : ℕ) (G : List Forms) (f : Forms) → Spanned w G n i e f → Says r (Settled w f (get_or leaves l 0) (get_or counts l 0))) →
+      Says r (StackStands w (mainOf p) leaves counts l)
+  says_level r u = says_held p one r hi he h level_open u
 
 -- a stack that holds is one that the model decodes.
 pub says_decodes : (w : List ℕ) (main : Forms) (leaves counts : List ℕ) (l : ℕ) → (l ≡ 0 → ⊥) → l ≤ 32 → (r : Bool) → Says r (StackStands w main leaves counts l) → Says r (Decodes w main leaves counts l)

@@ -1,9 +1,6 @@
 pub mod Shape
-pub mod Looking
-pub mod Trailing
-pub mod Answers
 pub mod Suffixes
-pub mod Quieting
+pub mod Sights
 pub mod Views
 pub mod Falling
 pub mod Coming

@@ -8,6 +8,7 @@ use mathlib.Core.Path.{◌≡◌, sym, ap, ◌∙◌, subst}
 use Prim.Native.Nat.{ℕ, ◌-◌, ◌≤◌, ◌<◌}
 use native.Mathlib.Omega.{arith}
 use lib.ListN.{length, get_or}
+use Rattle.std.specs.Prelude.{Option as RustOption}
 use Rattle.model.specs.Plan.{Plan}
 use Rattle.model.specs.Forms.{Forms, done, leaf, call, loop, cond, linked, main}
 use Rattle.model.specs.Levels.{Standing, so_far, stack}
@@ -23,11 +24,12 @@ use Rattle.rows.specs.Rows.{point_at}
 use Rattle.rows.specs.Answers.{Says}
 use Rattle.rows.specs.Plans.{PlanIn}
 use Rattle.rows.proofs.Plans.{bound_in}
+use Rattle.place.specs.declared.Place.{Place}
 use Rattle.place.specs.Stack.{FunctionTable, Decoded, Decodes, NextStack, frames}
 use Rattle.place.specs.Times.{TimesAt, CostedStack, Clocked, outer_levels}
 use Rattle.place.specs.Plans.{PlanColumns}
 use Rattle.place.specs.Private.{Nonempty}
-use Rattle.place.proofs.Answers.{suffix_headed}
+use Rattle.place.proofs.Suffixes.{suffix_headed}
 use Rattle.place.proofs.Views.{leaf_low}
 use Rattle.place.proofs.Falling.{turned_next, top_of}
 use Rattle.place.proofs.Decode.{levels_stand}
@@ -86,7 +88,7 @@ module _ {w starts : List ℕ} (p : Plan) (a : Accepted p) (d : PlanIn w starts 
         let (st, e) = levels_stand f leaves counts l ls one by_table in
         let t = top_of f leaves counts l ls st e one in
         let v = t.level in
-        let o = (turned_next (get_or counts l 0) v.start t.place x v.turns (suffix_headed v.level (get_or leaves l 0) v.start v.found)).2 in
+        let o = (turned_next (get_or counts l 0) v.start t.place x v.turns (suffix_headed v.level (get_or leaves l 0) v.start v.found)).1 in
         ap (λ (ls : Levels). flat (onward_at ls x)) t.same ∙ flat_onward t.place t.under x (step_of t.place o) ∙ ap (λ (ls : Levels). onward (whole ls) x) (sym t.same)
 
     -- Such a stack is what the functions ask for.
@@ -95,10 +97,10 @@ module _ {w starts : List ℕ} (p : Plan) (a : Accepted p) (d : PlanIn w starts 
       decoded = record { table = table_of p a d; levels = ls; decodes = by_table; marked = marks u }
 
       -- `next_place`: the new stack decodes to the model's next place, `onward_at ls x`; or there is none.
-      pub next_place_is : (x : ℕ) (new more : List ℕ) (r : ℕ) →
-          ((q : Decoded w starts count leaves counts l) → NextStack w (get_or q.table.funs (count - 1) done) (onward_at q.levels x) leaves counts x new more r) →
-          NextStack w (main p) (onward_at ls x) leaves counts x new more r
-      next_place_is x new more r e = rw (main_last p) (e decoded)
+      pub next_place_is : (x : ℕ) (r : RustOption Place) →
+          ((q : Decoded w starts count leaves counts l) → NextStack w (get_or q.table.funs (count - 1) done) (onward_at q.levels x) leaves counts x r) →
+          NextStack w (main p) (onward_at ls x) leaves counts x r
+      next_place_is x r e = rw (main_last p) (e decoded)
 
       -- `can_end`: the model's possible end of what is left to run.
       pub can_end_is : (r : Bool) → ((q : Decoded w starts count leaves counts l) → r ≡ can_end (whole q.levels)) → r ≡ can_end (whole ls)
@@ -132,11 +134,11 @@ module _ {w starts : List ℕ} (p : Plan) (a : Accepted p) (d : PlanIn w starts 
         times_ok_is most ts e above false h = λ z. h costed (rw (sym (main_last p)) (times_are (main p) ts ls z))
 
   -- `first_place`: the new stack decodes to the model's first place, `seek_at (main p) [] x`; or there is none.
-  pub first_place_is : (leaves counts : List ℕ) (x : ℕ) (new more : List ℕ) (r : ℕ) →
-      ((t : FunctionTable w starts count) → NextStack w (get_or t.funs (count - 1) done) (onto [] (seek (get_or t.funs (count - 1) done) x)) leaves counts x new more r) →
-      NextStack w (main p) (seek_at (main p) [] x) leaves counts x new more r
+  pub first_place_is : (leaves counts : List ℕ) (x : ℕ) (r : RustOption Place) →
+      ((t : FunctionTable w starts count) → NextStack w (get_or t.funs (count - 1) done) (onto [] (seek (get_or t.funs (count - 1) done) x)) leaves counts x r) →
+      NextStack w (main p) (seek_at (main p) [] x) leaves counts x r
   unfolding seek_at
-  first_place_is leaves counts x new more r e = rw (main_last p) (e (table_of p a d))
+  first_place_is leaves counts x r e = rw (main_last p) (e (table_of p a d))
 
   -- `first_end`: whether the main function can be passed in silence.
   pub first_end_is : (r : Bool) → ((t : FunctionTable w starts count) → r ≡ passes (get_or t.funs (count - 1) done)) → r ≡ passes (main p)

@@ -19,7 +19,7 @@ use Rattle.model.proofs.Ways.{tally_is}
 use Rattle.rows.specs.Rows.{Rules}
 use Rattle.place.specs.Private.{Nonempty}
 use Rattle.place.specs.Times.{Priced}
-use Rattle.place.proofs.Answers.{from_cases, suffix_headed}
+use Rattle.place.proofs.Suffixes.{from_cases, suffix_headed}
 use Rattle.place.proofs.Views.{turned_loop}
 
 -- Lines that keep the rules call one of the functions whose heights are known.

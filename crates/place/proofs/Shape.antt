@@ -1,5 +1,5 @@
 -- Pieces of a row: the parts of an if, the lines after the first form, and fewer open brackets. Assumes nothing.
-use mathlib.Core.Path.{◌≡◌, refl, sym, ◌∙◌}
+use mathlib.Core.Path.{◌≡◌, refl}
 use mathlib.Core.List.{List}
 use Prim.Native.Nat.{ℕ, suc, ◌+◌, ◌-◌, ◌≤◌, ◌<◌}
 use native.Mathlib.Omega.{arith}
@@ -27,20 +27,13 @@ module _ {w : List ℕ} {left i e : ℕ} (lt : i < e) (p : Piece w left i e) whe
   abbrev pub piece_after : {en : ℕ} → en ≡ after_at w i → Piece w left en e
   piece_after he = record { heights = p.heights; level = p.level; part = after lt p.part he }
 
-  -- The parts of an if, with what the code read: v the kind, mid the start of the else part, en the end.
-  pub then_plan : {v mid : ℕ} → v ≡ kind_at w i → v ≡ 3 → mid ≡ other_at w i → Piece w (left - 2) (i + 1) mid × (2 ≤ left) × (mid ≤ after_at w i)
-  then_plan {v} {mid} hv v3 hm =
-      let h = cond_at (sym hv ∙ v3) in
-      (record { heights = p.heights; level = p.level; part = then_in hm h }, h.opens, (parts hm refl h).1)
+  -- The parts of an if, with what the code read: mid the start of the else part, en the end.
+  pub then_plan : {mid : ℕ} → kind_at w i ≡ 3 → mid ≡ other_at w i → Piece w (left - 2) (i + 1) mid × (i < mid) × (mid ≤ after_at w i)
+  then_plan {mid} k hm =
+      let h = cond_at k in
+      (record { heights = p.heights; level = p.level; part = then_in hm h }, (parts hm refl h).0, (parts hm refl h).1)
 
-  pub else_plan : {v mid en : ℕ} → v ≡ kind_at w i → v ≡ 3 → mid ≡ other_at w i → en ≡ after_at w i → Piece w (left - 2) mid en × (2 ≤ left) × (en ≤ e)
-  else_plan {v} {mid} {en} hv v3 hm he =
-      let h = cond_at (sym hv ∙ v3) in
-      (record { heights = p.heights; level = p.level; part = else_in hm he h }, h.opens, omega (arith, ends lt p.part))
-
-  pub cond_plans :
-      {v mid en : ℕ} → v ≡ kind_at w i → v ≡ 3 → mid ≡ other_at w i → en ≡ after_at w i
-      → Piece w (left - 2) (i + 1) mid × Piece w (left - 2) mid en × (mid ≤ en) × (2 ≤ left) × (en ≤ e) × (i < mid)
-  cond_plans {v} {mid} {en} hv v3 hm he =
-      let h = cond_at (sym hv ∙ v3) in
-      ((then_plan hv v3 hm).0, (else_plan hv v3 hm he).0, (parts hm he h).1, h.opens, omega (arith, ends lt p.part), (parts hm he h).0)
+  pub else_plan : {mid en : ℕ} → kind_at w i ≡ 3 → mid ≡ other_at w i → en ≡ after_at w i → Piece w (left - 2) mid en × (i < mid) × (en ≤ e)
+  else_plan {mid} {en} k hm he =
+      let h = cond_at k in
+      (record { heights = p.heights; level = p.level; part = else_in hm he h }, (parts hm he h).0, omega (arith, ends lt p.part))

@@ -1,16 +1,17 @@
 -- The new stack: put into the old one at its level, it decodes to the place that was found. Assumes nothing.
-use mathlib.Core.Path.{◌≡◌, refl, sym, ap, ◌∙◌}
+use mathlib.Core.Path.{◌≡◌, sym, ap, ◌∙◌}
 use mathlib.Core.List.{List, [], ◌∷◌}
-use mathlib.Core.Logic.{inl, inr}
 use mathlib.Core.Option.{Option}
 use Prim.Native.Nat.{ℕ, ◌+◌, ◌-◌, ◌≤◌, ◌<◌}
 use native.Mathlib.Omega.{arith}
 use native.Mathlib.Decide.{dec_le}
-use lib.ListN.{length, get_or, replicate}
+use lib.ListN.{length, get_or}
+use Rattle.std.specs.Prelude.{Some}
 use Rattle.model.specs.Forms.{Forms, done}
 use Rattle.model.specs.Stack.{Levels}
 use Rattle.rows.specs.Rows.{point_at}
 use Rattle.place.specs.Stack.{Decoded, Put, NextStack}
+use Rattle.place.specs.declared.Found.{Found}
 use Rattle.place.specs.Private.{Level, Stands, Placed, Moved, Finds}
 use Rattle.place.proofs.Decode.{stands_levels, levels_stand}
 
@@ -37,35 +38,25 @@ placed {n = n} {leaves = leaves} {counts = counts} {l = l} h q =
     let (st, d) = levels_stand (get_or q.table.funs (n - 1) done) leaves counts l q.levels h q.decodes in
     record { table = q.table; levels = q.levels; depth = d; stands = st; marked = q.marked }
 
-module _ (w : List ℕ) (l : ℕ) {main : Forms} {leaves counts : List ℕ} {o : Option Levels} {x r v : ℕ} (z : Finds l main leaves counts o x r v) where
-  pub next_none : r ≡ 0 → NextStack w main o leaves counts x (replicate 33 0) (replicate 33 0) 0
-  next_none e = elim z [ inl y ↦ inl (refl, y.1, refl, refl) | inr y ↦ absurd (omega (arith, y.0)) ]
-
-  pub next_some : ((k : ℕ) → 1 ≤ k → k ≤ l → point_at w (get_or leaves k 0) ≡ 1) → (r ≡ 0 → ⊥) → point_at w x ≡ 1 →
-      {new more : List ℕ} → Put leaves new r x → Put counts more r v → NextStack w main o leaves counts x new more r
-  next_some marks nz px {new} {more} p c =
-      elim z [
-        | inl y ↦ absurd (nz y.0)
-        | inr y ↦
-            let (ks, e, m) = y.2 in
-            let (st, d) = moved_stands main leaves counts new more r x v ks m p c in
-            let t = stands_levels main new more ks (omega (arith, y.0)) st in
-            inr (record {
-              least = y.0;
-              most = y.1.0;
-              levels = ks;
-              found = e;
-              decodes = rw d at t;
-              marked = λ k lo hi. elim (dec_le r k) [
-                | yes g ↦ let i : k ≡ r = omega arith in ap (λ (j : ℕ). point_at w (get_or new j 0)) i ∙ ap (λ (j : ℕ). point_at w j) p.here ∙ px
-                | no g ↦ ap (λ (j : ℕ). point_at w j) (p.under k (omega arith)) ∙ marks k lo (omega (arith, y.1.1))
-              ];
-              leaf = p;
-              count = v;
-              visited = c;
-            })
-      ]
-
-  -- It is at most one level up.
-  pub found_small : r ≤ 32
-  found_small = elim z [ inl y ↦ omega (arith, y.0) | inr y ↦ y.1.0 ]
+module _ (w : List ℕ) (l : ℕ) {main : Forms} {leaves counts : List ℕ} {o : Option Levels} {x : ℕ} {f : Found} (z : Finds l main leaves counts o x (Some f)) where
+  pub next_some : ((k : ℕ) → 1 ≤ k → k ≤ l → point_at w (get_or leaves k 0) ≡ 1) → point_at w x ≡ 1 →
+      {new more : List ℕ} → Put leaves new f.at x → Put counts more f.at f.count → NextStack w main o leaves counts x (Some (record { level = f.at; leaves = new; earlier = more }))
+  next_some marks px {new} {more} p c =
+      let r = f.at in
+      let (ks, e, m) = z.2 in
+      let (st, d) = moved_stands main leaves counts new more r x f.count ks m p c in
+      let t = stands_levels main new more ks (omega (arith, z.0)) st in
+      record {
+        least = z.0;
+        most = z.1.0;
+        levels = ks;
+        found = e;
+        decodes = rw d at t;
+        marked = λ k lo hi. elim (dec_le r k) [
+          | yes g ↦ let i : k ≡ r = omega arith in ap (λ (j : ℕ). point_at w (get_or new j 0)) i ∙ ap (λ (j : ℕ). point_at w j) p.here ∙ px
+          | no g ↦ ap (λ (j : ℕ). point_at w j) (p.under k (omega arith)) ∙ marks k lo (omega (arith, z.1.1))
+        ];
+        leaf = p;
+        count = f.count;
+        visited = c;
+      }

@@ -1,86 +1,67 @@
 -- Places in the lines of a level: where a leaf's suffix lies, and that what comes next behind a leaf is a suffix of the same lines. Assumes nothing.
-use mathlib.Core.Path.{◌≡◌, refl, sym, ap, ap₂, ◌∙◌}
+use mathlib.Core.Path.{◌≡◌, refl, sym, ap, ◌∙◌}
 use mathlib.Core.Bool.{Bool, true, false, ◌||◌}
 use mathlib.Core.List.{List}
 use mathlib.Core.Logic.{◌⊎◌, inl, inr}
 use mathlib.Core.Option.{Option, none, some}
-use Prim.Native.Nat.{ℕ, suc, ◌+◌, ◌≤◌, ◌<◌, max}
+use Prim.Native.Nat.{ℕ, suc, ◌+◌, ◌≤◌, ◌<◌}
 use native.Mathlib.Omega.{arith}
 use native.Mathlib.Decide.{dec_le}
+use lib.Dec.{eqb}
 use lib.ListN.{get_or}
-use borrow.Author.Tests.{eq-eqb, ne_eqb}
+use borrow.Author.Tests.{eqb-true, eqb-false, eq-eqb, ne_eqb}
 use Rattle.model.specs.Plan.{Block, Lines, close, leaf_line, call_line, loop_line, if_line}
 use Rattle.model.specs.Forms.{Forms, done, leaf, call, loop, cond, ◌⊕◌, forms}
-use Rattle.model.specs.Places.{◌or◌, when, ◌⊕?◌, passes, seek}
+use Rattle.model.specs.Places.{pick, ◌or◌, when, ◌⊕?◌, passes, seek}
 use Rattle.model.specs.Stack.{from, suffix}
 use Rattle.model.proofs.Places.{⊕-assoc, never, known, or_some, ⊕?-some, when_some, at_some, seek-⊕}
 use Rattle.rows.specs.Rows.{other_at, after_at, Rep}
-use Rattle.place.specs.Private.{Nonempty, ◌▹◌, trail, beyond, next_beyond, quits, scan_answer, tracked}
+use Rattle.place.specs.Private.{Nonempty, next_beyond}
 use Rattle.rows.proofs.Shape.{rep_le}
-use Rattle.place.proofs.Trailing.{number_of, trail_before, trail_past}
-use Rattle.place.proofs.Answers.{verdict_small, look_is, look-⊕, beyond_small, from_cases, suffix_headed, trail_is}
 
--- `beyond` is `next_beyond` and `quits`.
-spread : (u v z : Option Forms) (s k q : Bool) →
-    max (scan_answer u s) (scan_answer v k) ▹ scan_answer z q ≡ max (scan_answer u s ▹ scan_answer z q) (scan_answer v k ▹ scan_answer z q)
-unfolding scan_answer
-spread (some u) (some v) z s k q = refl
-spread (some u) none z s true q = omega (arith, verdict_small z q)
-spread (some u) none z s false q = refl
-spread none (some v) z true k q = omega (arith, verdict_small z q)
-spread none (some v) z false k q = refl
-spread none none z true true q = omega arith
-spread none none z true false q = omega arith
-spread none none z false true q = omega arith
-spread none none z false false q = refl
+pub truth : (p : Bool) → (p ≡ true) ⊎ (p ≡ false)
+truth true = inl refl
+truth false = inr refl
 
-either_verdict : (u v : Option Forms) (s k : Bool) → max (scan_answer u s) (scan_answer v k) ≡ scan_answer (u or v) (s || k)
-unfolding scan_answer
-either_verdict (some u) (some v) s k = refl
-either_verdict (some u) none s true = refl
-either_verdict (some u) none s false = refl
-either_verdict none (some v) true k = refl
-either_verdict none (some v) false k = refl
-either_verdict none none true true = refl
-either_verdict none none true false = refl
-either_verdict none none false true = refl
-either_verdict none none false false = refl
+pub number_of : {b c : Block} → b ≡ c → b.number ≡ c.number
+number_of e = ap (λ (b : Block). b.number) e
 
-both_verdict : (t r : Forms) (x : ℕ) → scan_answer (seek t x) (passes t) ▹ scan_answer (seek r x) (passes r) ≡ scan_answer (seek (t ⊕ r) x) (passes (t ⊕ r))
-both_verdict t r x = rw (← look_is t x, ← look_is r x, ← look-⊕ t r x) (look_is (t ⊕ r) x)
+-- a suffix is never empty.
+headed-⊕ : (f g : Forms) → Nonempty f → Nonempty (f ⊕ g)
+unfolding ◌⊕◌
+headed-⊕ done g h = absurd h
+headed-⊕ (leaf b r) g h = tt
+headed-⊕ (call b fun r) g h = tt
+headed-⊕ (loop b n body r) g h = tt
+headed-⊕ (cond b t e r) g h = tt
 
-pub beyond_is : (f : Forms) (x : ℕ) → Nonempty f → beyond f x ≡ scan_answer (next_beyond f x) (quits f)
-unfolding beyond next_beyond quits
-beyond_is done x h = absurd h
-beyond_is (leaf b r) x h = look_is r x
-beyond_is (call b fun r) x h = look_is r x
-beyond_is (loop b n body r) x h = look_is r x
-beyond_is (cond b t e r) x h =
-    rw (look_is t x, look_is e x, look_is r x) (spread (seek t x) (seek e x) (seek r x) (passes t) (passes e) (passes r)) ∙
-    ap₂ max (both_verdict t r x) (both_verdict e r x) ∙
-    either_verdict (seek (t ⊕ r) x) (seek (e ⊕ r) x) (passes (t ⊕ r)) (passes (e ⊕ r))
+pub from_cases : (b : Block) (n : ℕ) (fs : Forms) (on : Option Forms) (g : Forms) → from b n fs on ≡ some g →
+    ((b.number ≡ n) × (fs ≡ g)) ⊎ ((b.number ≡ n → ⊥) × (on ≡ some g))
+from_cases b n fs on g e = go (eqb b.number n) refl e
+  where
+    go : (q : Bool) → eqb b.number n ≡ q → pick q (some fs) on ≡ some g → ((b.number ≡ n) × (fs ≡ g)) ⊎ ((b.number ≡ n → ⊥) × (on ≡ some g))
+    go true k e = inl (eqb-true b.number n k, cc)
+    go false k e = inr (eqb-false b.number n k, e)
 
--- a suffix is of a leaf in the lines' records.
-suffix_none : (f : Forms) (p : ℕ) → trail f p 0 ≡ 3 → suffix f p ≡ none
-unfolding tracked
-suffix_none f p h =
-    elim (known (suffix f p)) [
-      | inl e ↦ e
-      | inr e ↦ let z : tracked (some e.0) 0 ≡ 3 = ap (λ (o : Option Forms). tracked o 0) (sym e.1) ∙ sym (trail_is f p 0) ∙ h in
-          absurd (omega (arith, z, beyond_small e.0 0 (suffix_headed f p e.0 e.1)))
-    ]
+headed_same : {f g : Forms} → f ≡ g → Nonempty f → Nonempty g
+headed_same e h = rw e at h
 
-pub suffix_before : (w : List ℕ) (lv i e : ℕ) (l : Lines) (G : List Forms) (p : ℕ) → Rep w lv i e l → p < i → suffix (forms G l) p ≡ none
-suffix_before w lv i e l G p h lt = suffix_none (forms G l) p (trail_before w lv i e l G p 0 h lt)
-
-pub suffix_past : (w : List ℕ) (lv i e : ℕ) (l : Lines) (G : List Forms) (p : ℕ) → Rep w lv i e l → e ≤ p → suffix (forms G l) p ≡ none
-suffix_past w lv i e l G p h le = suffix_none (forms G l) p (trail_past w lv i e l G p 0 h le)
-
-pub suffix_in : (w : List ℕ) (lv i e : ℕ) (l : Lines) (G : List Forms) (p : ℕ) (g : Forms) → Rep w lv i e l → suffix (forms G l) p ≡ some g → (i ≤ p) × (p < e)
-suffix_in w lv i e l G p g h s =
-    elim (dec_le i p) [
-      | yes a ↦ elim (dec_le e p) [ yes b ↦ never (sym (suffix_past w lv i e l G p h b) ∙ s) | no b ↦ (a, omega arith) ]
-      | no a ↦ never (sym (suffix_before w lv i e l G p h (omega arith)) ∙ s)
+pub suffix_headed : (f : Forms) (p : ℕ) (g : Forms) → suffix f p ≡ some g → Nonempty g
+unfolding suffix
+suffix_headed done p g e = never e
+suffix_headed (leaf b r) p g e = elim (from_cases b p (leaf b r) (suffix r p) g e) [ inl k ↦ headed_same k.1 tt | inr k ↦ suffix_headed r p g k.1 ]
+suffix_headed (call b fun r) p g e = elim (from_cases b p (call b fun r) (suffix r p) g e) [ inl k ↦ headed_same k.1 tt | inr k ↦ suffix_headed r p g k.1 ]
+suffix_headed (loop b n body r) p g e = elim (from_cases b p (loop b n body r) (suffix r p) g e) [ inl k ↦ headed_same k.1 tt | inr k ↦ suffix_headed r p g k.1 ]
+suffix_headed (cond b t s r) p g e =
+    elim (from_cases b p (cond b t s r) (suffix t p ⊕? r or suffix s p ⊕? r or suffix r p) g e) [
+      | inl k ↦ headed_same k.1 tt
+      | inr k ↦ elim (or_some (suffix t p ⊕? r) (suffix s p ⊕? r or suffix r p) g k.1) [
+        | inl j ↦ let (l, a, c) = ⊕?-some (suffix t p) r g j in headed_same c (headed-⊕ l r (suffix_headed t p l a))
+        | inr j ↦ elim (or_some (suffix s p ⊕? r) (suffix r p) g j.1) [
+          | inl j ↦ let (l, a, c) = ⊕?-some (suffix s p) r g j in headed_same c (headed-⊕ l r (suffix_headed s p l a))
+          | inr j ↦ suffix_headed r p g j.1
+        ]
+      ]
     ]
 
 -- a suffix of what follows, in the whole.
@@ -101,6 +82,47 @@ suffix_then b t s r x k n p = rw (ne_eqb b.number x n, p)
 suffix_else : (b : Block) (t s r : Forms) (x : ℕ) (k : Forms) → (b.number ≡ x → ⊥) → suffix t x ≡ none → suffix s x ≡ some k → suffix (cond b t s r) x ≡ some (k ⊕ r)
 unfolding suffix
 suffix_else b t s r x k n p q = rw (ne_eqb b.number x n, p, q)
+
+-- p lies before the records, or behind them.
+pub suffix_before : (w : List ℕ) (lv i e : ℕ) (l : Lines) (G : List Forms) (p : ℕ) → Rep w lv i e l → p < i → suffix (forms G l) p ≡ none
+unfolding Rep forms suffix
+suffix_before w lv i e close G p h lt = refl
+suffix_before w lv i e (leaf_line b r) G p h lt = from_on b p _ _ (λ z. omega (arith, number_of h.0.1)) ∙ suffix_before w lv (after_at w i) e r G p h.4 (omega arith)
+suffix_before w lv i e (call_line b f r) G p h lt = from_on b p _ _ (λ z. omega (arith, number_of h.0.1)) ∙ suffix_before w lv (after_at w i) e r G p h.4 (omega arith)
+suffix_before w lv i e (loop_line b n body r) G p h lt =
+    from_on b p _ _ (λ z. omega (arith, number_of h.0.1)) ∙ suffix_before w lv (after_at w i) e r G p h.4 (omega (arith, rep_le w (suc lv) (i + 1) (after_at w i) body h.3))
+suffix_before w lv i e (if_line b t s r) G p h lt =
+    let k = rep_le w lv (i + 1) (other_at w i) t h.2 in
+    let m = rep_le w lv (other_at w i) (after_at w i) s h.3 in
+    suffix_rest b (forms G t) (forms G s) (forms G r) p (λ z. omega (arith, number_of h.0.1)) (suffix_before w lv (i + 1) (other_at w i) t G p h.2 (omega arith))
+    (suffix_before w lv (other_at w i) (after_at w i) s G p h.3 (omega arith)) ∙ suffix_before w lv (after_at w i) e r G p h.4 (omega arith)
+
+pub suffix_past : (w : List ℕ) (lv i e : ℕ) (l : Lines) (G : List Forms) (p : ℕ) → Rep w lv i e l → e ≤ p → suffix (forms G l) p ≡ none
+unfolding Rep forms suffix
+suffix_past w lv i e close G p h le = refl
+suffix_past w lv i e (leaf_line b r) G p h le =
+    let k = rep_le w lv (after_at w i) e r h.4 in
+    from_on b p _ _ (λ z. omega (arith, number_of h.0.1)) ∙ suffix_past w lv (after_at w i) e r G p h.4 le
+suffix_past w lv i e (call_line b f r) G p h le =
+    let k = rep_le w lv (after_at w i) e r h.4 in
+    from_on b p _ _ (λ z. omega (arith, number_of h.0.1)) ∙ suffix_past w lv (after_at w i) e r G p h.4 le
+suffix_past w lv i e (loop_line b n body r) G p h le =
+    let k = rep_le w (suc lv) (i + 1) (after_at w i) body h.3 in
+    let m = rep_le w lv (after_at w i) e r h.4 in
+    from_on b p _ _ (λ z. omega (arith, number_of h.0.1)) ∙ suffix_past w lv (after_at w i) e r G p h.4 le
+suffix_past w lv i e (if_line b t s r) G p h le =
+    let k = rep_le w lv (i + 1) (other_at w i) t h.2 in
+    let m = rep_le w lv (other_at w i) (after_at w i) s h.3 in
+    let n = rep_le w lv (after_at w i) e r h.4 in
+    suffix_rest b (forms G t) (forms G s) (forms G r) p (λ z. omega (arith, number_of h.0.1)) (suffix_past w lv (i + 1) (other_at w i) t G p h.2 (omega arith))
+    (suffix_past w lv (other_at w i) (after_at w i) s G p h.3 (omega arith)) ∙ suffix_past w lv (after_at w i) e r G p h.4 le
+
+pub suffix_in : (w : List ℕ) (lv i e : ℕ) (l : Lines) (G : List Forms) (p : ℕ) (g : Forms) → Rep w lv i e l → suffix (forms G l) p ≡ some g → (i ≤ p) × (p < e)
+suffix_in w lv i e l G p g h s =
+    elim (dec_le i p) [
+      | yes a ↦ elim (dec_le e p) [ yes b ↦ never (sym (suffix_past w lv i e l G p h b) ∙ s) | no b ↦ (a, omega arith) ]
+      | no a ↦ never (sym (suffix_before w lv i e l G p h (omega arith)) ∙ s)
+    ]
 
 -- The lines of an if, by where a suffix lies.
 module _ (w : List ℕ) (lv i e : ℕ) (b : Block) (t s r : Lines) (G : List Forms) (h : Rep w lv i e (if_line b t s r)) (x : ℕ) where

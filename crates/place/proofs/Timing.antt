@@ -231,9 +231,6 @@ times_none main times [] h = ((λ z. z), λ z. z)
 times_none main times (g ∷ ls) h = absurd (omega arith)
 
 module _ {w tails turns totals leaves counts : List ℕ} {n l : ℕ} (q : Fares w tails turns totals leaves counts n l) where
-  pub last_function : (1 ≤ n) × (n ≤ 16)
-  last_function = (q.placed.table.count, q.columns.few_functions)
-
   main_total : get_or totals (n - 1) 0 ≡ total C (get_or q.placed.table.funs (n - 1) done)
   main_total = q.columns.totals_are (n - 1) (omega (arith, q.placed.table.count))
 

@@ -22,8 +22,8 @@ use Rattle.place.specs.Stack.{FunctionTable}
 use Rattle.place.specs.Private.{Stands, ground, Enterable, inner_from, inner_to, base_from, base_to}
 use Rattle.rows.proofs.Shape.{rep_le}
 use Rattle.place.proofs.Shape.{rules_more}
-use Rattle.place.proofs.Trailing.{number_of}
-use Rattle.place.proofs.Answers.{from_cases}
+use Rattle.place.proofs.Suffixes.{number_of}
+use Rattle.place.proofs.Suffixes.{from_cases}
 
 -- Lines that begin at the record n open with the suffix at n.
 pub record Stood (w hs : List ℕ) (G : List Forms) (left n e : ℕ) (s : Forms) : Type 0 where

@@ -1,76 +1,79 @@
 -- What only the private functions promise. Nothing of this stands in the contract of a public one.
 -- Assumes nothing: these are definitions.
 use Rattle.model.specs.Forms.{Forms, done, leaf, call, loop, cond, ◌⊕◌}
-use Rattle.std.specs.Prelude.{ℕ, max, ◌+◌, ◌-◌, ◌*◌, ◌≤◌, ◌<◌, Bool, true, false, ◌||◌, ◌&&◌, eqb, ◌≡◌, List, [], ◌∷◌, ◌⊎◌, length, get_or}
+use Rattle.std.specs.Prelude.{Some, None, ℕ, ◌+◌, ◌-◌, ◌*◌, ◌≤◌, ◌<◌, Bool, true, false, ◌||◌, ◌&&◌, eqb, ◌≡◌, List, [], ◌∷◌, ◌⊎◌, length, get_or}
+use Rattle.std.specs.Prelude.{Option as RustOption}
 use Rattle.std.proofs.Math.Option.{Option, none, some}
-use Rattle.model.specs.Plan.{Block}
 use Rattle.model.specs.Places.{pick, ◌or◌, passes, seek, can_end, no_more, no_further}
 use Rattle.model.specs.Stack.{Levels, behind, below, whole, ◌else_at◌, given, onto, seek_at, suffix, turned, inside_of}
 use Rattle.rows.specs.Rows.{kind_at, point_at, detail_at, after_at, isolated_at}
-use Rattle.place.specs.declared.Quiet.{Quiet}
+use Rattle.place.specs.declared.Sight.{Sight}
+use Rattle.place.specs.declared.Found.{Found}
 use Rattle.place.specs.Stack.{FunctionTable}
 use Rattle.place.specs.Times.{Columns}
 
--- The second scan's answer where the first one passes.
-infixr 55 ◌▹◌
-abbrev pub ◌▹◌ : ℕ → ℕ → ℕ
-v ▹ w = pick (eqb v 1) w v
+-- Whether a place is there.
+abbrev pub there : Option Forms → Bool
+there none = false
+there (some f) = true
 
--- The first answer, but where that is 3 (its start was not there) the second.
-infixr 54 ◌⊘◌
-abbrev pub ◌⊘◌ : ℕ → ℕ → ℕ
-v ⊘ w = pick (eqb v 3) w v
+-- What is left to run when forms come in silence to the point sought, if one is.
+abbrev pub sought : Forms → RustOption ℕ → Option Forms
+sought f None = none
+sought f (Some x) = seek f x
 
--- What a scan for x answers at the point i.
-abbrev pub hits : ℕ → ℕ → ℕ
-hits i x = pick (eqb i x) 2 0
+-- What the ways through forms meet: whether some way meets no point, whether none meets one, and whether some way comes in silence to the point sought.
+abbrev pub sight_of : Forms → RustOption ℕ → Sight
+sight_of f x = record { free = passes f; mute = no_more f; meets = there (sought f x) }
 
--- A point is x or stops the scan; a silent block lets it go on.
-abbrev pub at_block : Block → ℕ → ℕ → ℕ
-at_block b x on = pick b.point (hits b.number x) on
+-- Nothing; a point; one behind the other; one or the other.
+abbrev pub nothing : Sight
+nothing = record { free = true; mute = true; meets = false }
 
--- What a scan of the forms for x answers.
-unfoldable pub look : Forms → ℕ → ℕ
-look done x = 1
-look (leaf b r) x = at_block b x (look r x)
-look (call b fun r) x = at_block b x (look r x)
-look (loop b n body r) x = at_block b x (look r x)
-look (cond b t e r) x = at_block b x (max (look t x) (look e x) ▹ look r x)
+abbrev pub is_sought : RustOption ℕ → ℕ → Bool
+is_sought None i = false
+is_sought (Some x) i = eqb i x
+
+abbrev pub sight_at : ℕ → RustOption ℕ → Sight
+sight_at i x = record { free = false; mute = false; meets = is_sought x i }
+
+abbrev pub series : Sight → Sight → Sight
+series x y = record { free = x.free && y.free; mute = x.mute && y.mute; meets = x.meets || (x.free && y.meets) }
+
+abbrev pub either : Sight → Sight → Sight
+either x y = record { free = x.free || y.free; mute = x.mute && y.mute; meets = x.meets || y.meets }
 
 -- The same of what is inside the first form at its own level, behind its block.
-unfoldable pub within_first : Forms → ℕ → ℕ
-within_first done x = 1
-within_first (leaf b r) x = 1
-within_first (call b fun r) x = 1
-within_first (loop b n body r) x = 1
-within_first (cond b t e r) x = max (look t x) (look e x)
+unfoldable pub sight_parts : Forms → RustOption ℕ → Sight
+sight_parts done x = nothing
+sight_parts (leaf b r) x = nothing
+sight_parts (call b fun r) x = nothing
+sight_parts (loop b n body r) x = nothing
+sight_parts (cond b t e r) x = either (sight_of t x) (sight_of e x)
 
--- The same behind the leaf p of the forms' own level; 3 where p is no leaf of it.
-unfoldable pub trail : Forms → ℕ → ℕ → ℕ
-trail done p x = 3
-trail (leaf b r) p x = pick (eqb b.number p) (look r x) (trail r p x)
-trail (call b fun r) p x = pick (eqb b.number p) (look r x) (trail r p x)
-trail (loop b n body r) p x = pick (eqb b.number p) (look r x) (trail r p x)
-trail (cond b t e r) p x =
-    pick (eqb b.number p) (max (look t x) (look e x) ▹ look r x) ((trail t p x ▹ look r x) ⊘ (trail e p x ▹ look r x) ⊘ trail r p x)
+-- The same behind the visit that the forms open with, a loop left and a call passed.
+unfoldable pub sight_beyond : Forms → RustOption ℕ → Sight
+sight_beyond done x = sight_at 0 None
+sight_beyond (leaf b r) x = sight_of r x
+sight_beyond (call b fun r) x = sight_of r x
+sight_beyond (loop b n body r) x = sight_of r x
+sight_beyond (cond b t e r) x = series (either (sight_of t x) (sight_of e x)) (sight_of r x)
 
--- The same of the first form alone.
-unfoldable pub inner : Forms → ℕ → ℕ → ℕ
-inner done p x = 3
-inner (leaf b r) p x = pick (eqb b.number p) 1 3
-inner (call b fun r) p x = pick (eqb b.number p) 1 3
-inner (loop b n body r) p x = pick (eqb b.number p) 1 3
-inner (cond b t e r) p x = pick (eqb b.number p) (max (look t x) (look e x)) (trail t p x ⊘ trail e p x)
+-- The same behind a leaf, if it is there.
+unfoldable pub sight_behind : Option Forms → RustOption ℕ → RustOption Sight
+sight_behind none x = None
+sight_behind (some g) x = Some (sight_beyond g x)
 
--- The same behind the visit that the forms open with, a loop left and a call passed: `trail` at the leaf itself.
-unfoldable pub beyond : Forms → ℕ → ℕ
-beyond done x = 3
-beyond (leaf b r) x = look r x
-beyond (call b fun r) x = look r x
-beyond (loop b n body r) x = look r x
-beyond (cond b t e r) x = max (look t x) (look e x) ▹ look r x
+-- The same behind the leaf p, as far as the first form goes.
+unfoldable pub sight_within : Forms → ℕ → RustOption ℕ → RustOption Sight
+sight_within done p x = None
+sight_within (leaf b r) p x = pick (eqb b.number p) (Some nothing) None
+sight_within (call b fun r) p x = pick (eqb b.number p) (Some nothing) None
+sight_within (loop b n body r) p x = pick (eqb b.number p) (Some nothing) None
+sight_within (cond b t e r) p x =
+    pick (eqb b.number p) (Some (either (sight_of t x) (sight_of e x))) (sight_behind (suffix t p or suffix e p) x)
 
--- What is left to run when they come to x then.
+-- What is left to run when forms come to x behind the visit that they open with, a loop left and a call passed.
 unfoldable pub next_beyond : Forms → ℕ → Option Forms
 next_beyond done x = none
 next_beyond (leaf b r) x = seek r x
@@ -85,17 +88,6 @@ quits (leaf b r) = passes r
 quits (call b fun r) = passes r
 quits (loop b n body r) = passes r
 quits (cond b t e r) = passes (t ⊕ r) || passes (e ⊕ r)
-
--- The number for what the model says: x is found; or not, and the forms can be passed; or neither.
-unfoldable pub scan_answer : Option Forms → Bool → ℕ
-scan_answer (some g) s = 2
-scan_answer none true = 1
-scan_answer none false = 0
-
--- The answer behind a place that is there, or not.
-unfoldable pub tracked : Option Forms → ℕ → ℕ
-tracked none x = 3
-tracked (some g) x = beyond g x
 
 -- What the level above ks runs.
 unfoldable pub ground : Forms → Levels → Option Forms
@@ -135,60 +127,14 @@ unfoldable pub fall_at : Levels → ℕ → Option Levels
 fall_at [] x = none
 fall_at (g ∷ ks) x = onto ks (next_beyond g x) else_at given (quits g) (return_at ks x)
 
--- How quiet forms are: whether some way through them meets no point, and whether none meets one.
-abbrev pub quiet_of : Forms → Quiet
-quiet_of f = record { free = passes f; mute = no_more f }
-
--- Nothing; a point on every way; one behind the other; one or the other.
-abbrev pub empty : Quiet
-empty = record { free = true; mute = true }
-
-abbrev pub shut : Quiet
-shut = record { free = false; mute = false }
-
-abbrev pub series : Quiet → Quiet → Quiet
-series x y = record { free = x.free && y.free; mute = x.mute && y.mute }
-
-abbrev pub either : Quiet → Quiet → Quiet
-either x y = record { free = x.free || y.free; mute = x.mute && y.mute }
-
--- The same of what is inside the first form at its own level, behind its block.
-unfoldable pub quiet_parts : Forms → Quiet
-quiet_parts done = empty
-quiet_parts (leaf b r) = empty
-quiet_parts (call b fun r) = empty
-quiet_parts (loop b n body r) = empty
-quiet_parts (cond b t e r) = either (quiet_of t) (quiet_of e)
-
--- The same behind the visit that the forms open with, a loop left and a call passed.
-unfoldable pub quiet_beyond : Forms → Quiet
-quiet_beyond done = shut
-quiet_beyond (leaf b r) = quiet_of r
-quiet_beyond (call b fun r) = quiet_of r
-quiet_beyond (loop b n body r) = quiet_of r
-quiet_beyond (cond b t e r) = series (either (quiet_of t) (quiet_of e)) (quiet_of r)
-
--- The same behind a leaf that is there; shut where it is not.
-unfoldable pub quiet_behind : Option Forms → Quiet
-quiet_behind none = shut
-quiet_behind (some g) = quiet_beyond g
-
--- The same behind the leaf p, as far as the first form goes.
-unfoldable pub quiet_within : Forms → ℕ → Quiet
-quiet_within done p = shut
-quiet_within (leaf b r) p = pick (eqb b.number p) empty shut
-quiet_within (call b fun r) p = pick (eqb b.number p) empty shut
-quiet_within (loop b n body r) p = pick (eqb b.number p) empty shut
-quiet_within (cond b t e r) p = pick (eqb b.number p) (either (quiet_of t) (quiet_of e)) (quiet_behind (suffix t p or suffix e p))
-
--- The same once the run has left the form that the innermost level opens with (a loop for good), down to the end.
-unfoldable pub quiet_levels : Levels → Quiet
-quiet_levels [] = empty
-quiet_levels (g ∷ ks) = series (quiet_beyond g) (quiet_of (below ks))
+-- What is met once the run has left the form that the innermost level opens with (a loop for good), down to the end.
+unfoldable pub levels_sight : Levels → Sight
+levels_sight [] = nothing
+levels_sight (g ∷ ks) = series (sight_beyond g None) (sight_of (below ks) None)
 
 -- The same behind the visit at a place: whether the run can end, and whether no further point can come.
-abbrev pub quiet_ahead : Levels → Quiet
-quiet_ahead ls = record { free = can_end (whole ls); mute = no_further (whole ls) }
+abbrev pub sight_ahead : Levels → Sight
+sight_ahead ls = record { free = can_end (whole ls); mute = no_further (whole ls); meets = false }
 
 -- The earlier visits of x at level r when it is reported there: a new leaf there, or its loop's next visit.
 abbrev pub visits_there : List ℕ → List ℕ → ℕ → ℕ → ℕ
@@ -203,11 +149,11 @@ pub record Moved (main : Forms) (leaves counts : List ℕ) (r x v : ℕ) (ls : L
   pub stands : Stands main leaves counts under
   pub level : Level main under x v place
 
--- What a search down the levels answers: x's level, or 0 where x cannot come next.
-abbrev pub Lands : Forms → List ℕ → List ℕ → Levels → ℕ → ℕ → Type 0
-Lands main leaves counts ls x r =
-    ((r ≡ 0) × (fall_at ls x ≡ none)) ⊎
-    ((1 ≤ r) × (r ≤ length ls) × ((ks : Levels) × (fall_at ls x ≡ some ks) × Moved main leaves counts r x (visits_there leaves counts r x) ks))
+-- What a search down the levels answers: x's level, or none where x cannot come next.
+abbrev pub Lands : Forms → List ℕ → List ℕ → Levels → ℕ → RustOption ℕ → Type 0
+Lands main leaves counts ls x None = fall_at ls x ≡ none
+Lands main leaves counts ls x (Some r) =
+    (1 ≤ r) × (r ≤ length ls) × ((ks : Levels) × (fall_at ls x ≡ some ks) × Moved main leaves counts r x (visits_there leaves counts r x) ks)
 
 -- Where the records inside the loop or call at h begin, and where they end.
 abbrev pub inner_from : List ℕ → List ℕ → ℕ → ℕ
@@ -236,10 +182,11 @@ pub record Placed (w starts : List ℕ) (n : ℕ) (leaves counts : List ℕ) (l 
   pub stands : Stands (get_or table.funs (n - 1) done) leaves counts levels
   pub marked : (k : ℕ) → 1 ≤ k → k ≤ l → point_at w (get_or leaves k 0) ≡ 1
 
--- What a search for the next place from level l answers: level 0 where there is none; else the level and the earlier visits of x there.
-abbrev pub Finds : ℕ → Forms → List ℕ → List ℕ → Option Levels → ℕ → ℕ → ℕ → Type 0
-Finds l main leaves counts o x r v =
-    ((r ≡ 0) × (o ≡ none)) ⊎ ((1 ≤ r) × ((r ≤ 32) × (r ≤ l + 1)) × ((ks : Levels) × (o ≡ some ks) × Moved main leaves counts r x v ks))
+-- What a search for the next place from level l answers: the level and the earlier visits of x there, or none where there is no such place.
+abbrev pub Finds : ℕ → Forms → List ℕ → List ℕ → Option Levels → ℕ → RustOption Found → Type 0
+Finds l main leaves counts o x None = o ≡ none
+Finds l main leaves counts o x (Some f) =
+    (1 ≤ f.at) × ((f.at ≤ 32) × (f.at ≤ l + 1)) × ((ks : Levels) × (o ≡ some ks) × Moved main leaves counts f.at x f.count ks)
 
 -- The leaf p is a loop that may turn again after `count` earlier visits.
 abbrev pub MayTurn : List ℕ → ℕ → ℕ → Type 0

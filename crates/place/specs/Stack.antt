@@ -1,5 +1,6 @@
 -- The place of a run as the state keeps it, leaf numbers and visit counts by level, on a row of records. Assumes nothing: these are definitions.
-use Rattle.std.specs.Prelude.{ℕ, zero, suc, ◌+◌, ◌-◌, ◌≤◌, ◌<◌, ◌≡◌, List, [], ◌∷◌, ◌⊎◌, length, get_or, replicate}
+use Rattle.std.specs.Prelude.{Some, None, ℕ, zero, suc, ◌+◌, ◌-◌, ◌≤◌, ◌<◌, ◌≡◌, List, [], ◌∷◌, length, get_or}
+use Rattle.std.specs.Prelude.{Option as RustOption}
 use Rattle.std.proofs.Math.Option.{Option, none, some}
 use Rattle.model.specs.Forms.{Forms, done, leaf, call, loop, cond}
 use Rattle.model.specs.Places.{Traceable}
@@ -7,6 +8,7 @@ use Rattle.model.specs.Levels.{Frame}
 use Rattle.model.specs.Stack.{decode, Levels}
 use Rattle.rows.specs.Rows.{point_at}
 use Rattle.place.specs.Pieces.{Spanned}
+use Rattle.place.specs.declared.Place.{Place}
 
 -- No form lies deeper than `left` levels (rule 7).
 unfoldable pub Shallow : ℕ → Forms → Type 0
@@ -59,10 +61,10 @@ pub record Stacked (w : List ℕ) (main : Forms) (o : Option Levels) (old olds :
   pub count : ℕ
   pub visited : Put olds counts l count
 
--- The same; or, where there is no such place, level 0 and 0 in every entry.
-abbrev pub NextStack : List ℕ → Forms → Option Levels → List ℕ → List ℕ → ℕ → List ℕ → List ℕ → ℕ → Type 0
-NextStack w main o old olds x leaves counts l =
-    ((l ≡ 0) × (o ≡ none) × (leaves ≡ replicate 33 0) × (counts ≡ replicate 33 0)) ⊎ Stacked w main o old olds x leaves counts l
+-- The place p is such a stack; or there is no such place, and no p.
+abbrev pub NextStack : List ℕ → Forms → Option Levels → List ℕ → List ℕ → ℕ → RustOption Place → Type 0
+NextStack w main o old olds x None = o ≡ none
+NextStack w main o old olds x (Some p) = Stacked w main o old olds x p.leaves p.earlier p.level
 
 -- The state's stack is a place of some run of the table: it decodes, and each of its leaves is a point.
 pub record Decodes (w : List ℕ) (main : Forms) (leaves counts : List ℕ) (l : ℕ) : Type 0 where

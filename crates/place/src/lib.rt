@@ -11,28 +11,14 @@ ghost use Rattle.rows.specs.Answers.{Says};
 ghost use Rattle.place.specs.Pieces.{Spanned};
 ghost use Rattle.place.specs.Stack.{FunctionTable, Decodes, Decoded, Put, NextStack};
 ghost use Rattle.place.specs.Private.{MayTurn, Enters, Counted, Settled, StackStands, Enterable, Running, Placed, Lands, Finds, fall_at, inner_from};
-ghost use Rattle.place.specs.Private.{inner_to, base_from, base_to, look, within_first, hits, trail, inner};
-ghost use Rattle.place.specs.Private.{empty, shut, series, either, quiet_of, quiet_parts, quiet_within, quiet_behind, quiet_levels, quiet_ahead};
+ghost use Rattle.place.specs.Private.{inner_to, base_from, base_to, nothing, sight_at, series, either, sight_of, sight_parts, sight_within, sight_behind};
+ghost use Rattle.place.specs.Private.{levels_sight, sight_ahead};
 ghost use Rattle.place.specs.Private.{Opens, LevelFits, Fares};
 ghost use Rattle.place.specs.Private.{inner_time, first_time, level_time};
 ghost use Rattle.place.specs.Times.{CostedStack, Clocked, TimesAt};
 
-use rows::{
-    AFTER, CALL, DETAIL, IF, INNER_BRACKETS, ISOLATED, KIND, LOOP, MAX_FUNCTIONS, MAX_LEVEL, OTHER,
-    POINT,
-};
-
-// Answer of a scan: another point comes first.
-const STOP: u64 = 0;
-
-// Answer of a scan: the forms can be passed in silence.
-const PASS: u64 = 1;
-
-// Answer of a scan: the forms come to the point in silence.
-const MEET: u64 = 2;
-
-// Answer of a scan: the leaf that it was to start behind is not there.
-const ABSENT: u64 = 3;
+use rows::{AFTER, DETAIL, ISOLATED, Kind, MAX_FUNCTIONS, MAX_LEVEL, OTHER, POINT};
+use std::ops::Range;
 
 // As many levels can be open in a run.
 const LEVELS: usize = MAX_LEVEL as usize;
@@ -46,192 +32,241 @@ pub type ByLevel = [u64; ENTRIES];
 // A number for each function.
 pub type Totals = [u64; MAX_FUNCTIONS];
 
-// What a scan for x answers at the point i.
-fn hit(i: usize, x: usize) -> u64
-    ensures { result ≡ hits i x }
-{
-    if i == x { MEET } else { STOP }
+// What the ways through some forms meet: `free`, some way meets no point; `mute`, none meets one; `meets`, some way comes in silence to the point sought.
+#[derive(Clone, Copy)]
+struct Sight {
+    free: bool,
+    mute: bool,
+    meets: bool,
 }
 
-// What a scan for x answers of what stands inside the form at i at its own level: the parts of an if.
-#[cycle(inside_scan)]
-fn inside(row: &[u64], i: usize, to: usize, x: usize, left: usize) -> u64
+impl Sight {
+    // Nothing is met.
+    fn nothing() -> Sight
+        ensures { result ≡ nothing }
+    {
+        Sight {
+            free: true,
+            mute: true,
+            meets: false,
+        }
+    }
+
+    // The point i is met, where x is sought.
+    fn at(i: usize, x: Option<usize>) -> Sight
+        ensures { result ≡ sight_at i x }
+    {
+        Sight {
+            free: false,
+            mute: false,
+            meets: x == Some(i),
+        }
+    }
+
+    // This, and then the next.
+    fn then(self, next: Sight) -> Sight
+        ensures { result ≡ series self next }
+    {
+        Sight {
+            free: self.free && next.free,
+            mute: self.mute && next.mute,
+            meets: self.meets || self.free && next.meets,
+        }
+    }
+
+    // This or the other.
+    fn or(self, other: Sight) -> Sight
+        ensures { result ≡ either self other }
+    {
+        Sight {
+            free: self.free || other.free,
+            mute: self.mute && other.mute,
+            meets: self.meets || other.meets,
+        }
+    }
+}
+
+// What is met inside the form at i at its own level: in the parts of an if. (Inlined, so that a walk makes no call at a form without parts.)
+#[cycle(parts_scan)]
+#[inline(always)]
+fn parts(row: &[u64], i: usize, to: usize, x: Option<usize>) -> Sight
     requires i_lt_to { i < to }
     requires to_in_bounds { to * 8 ≤ length row.now }
-    requires piece { Piece row.now left i to }
-    ensures { (p : Piece row.now left i to) (G : List Forms) → result ≡ within_first (forms G p.part.lines) x }
+    requires piece { (left : ℕ) × Piece row.now left i to }
+    ensures { (left : ℕ) (p : Piece row.now left i to) (G : List Forms) → result ≡ sight_parts (forms G p.part.lines) x }
 {
-    if rows::get(row, i, KIND) != IF {
-        return PASS;
+    if rows::kind_of(row, i) != Some(Kind::If) {
+        return Sight::nothing();
     }
     let other = rows::index(row, i, OTHER);
     let after = rows::index(row, i, AFTER);
-    let a = scan(row, i + 1, other, x, left - 2);
-    let b = scan(row, other, after, x, left - 2);
-    rows::larger(a, b)
+    let first = scan(row, i + 1, other, x);
+    let second = scan(row, other, after, x);
+    first.or(second)
 }
 
-// Whether the forms from `from` up to `to` come to the point x in silence (2), or else can be passed in silence (1), or neither (0).
-#[cycle(inside_scan)]
-fn scan(row: &[u64], from: usize, to: usize, x: usize, left: usize) -> u64
+// What the forms from `from` up to `to` meet.
+#[cycle(parts_scan)]
+fn scan(row: &[u64], from: usize, to: usize, x: Option<usize>) -> Sight
     requires to_in_bounds { to * 8 ≤ length row.now }
-    requires piece { Piece row.now left from to }
-    ensures { (p : Piece row.now left from to) (G : List Forms) → result ≡ look (forms G p.part.lines) x }
+    requires piece { (left : ℕ) × Piece row.now left from to }
+    ensures { (left : ℕ) (p : Piece row.now left from to) (G : List Forms) → result ≡ sight_of (forms G p.part.lines) x }
 {
+    let mut passed = Sight::nothing();
     let mut i = from;
     while i < to {
         if rows::get(row, i, POINT) == 1 {
-            return hit(i, x);
+            return passed.then(Sight::at(i, x));
         }
-        let v = inside(row, i, to, x, left);
-        if v != PASS {
-            return v;
+        let form = parts(row, i, to, x);
+        passed = passed.then(form);
+        if !form.free {
+            return passed;
         }
         i = rows::index(row, i, AFTER);
     }
-    PASS
+    passed
 }
 
-// What a scan for x answers behind the leaf p of the form at i, as far as the form goes; 3 where p is no leaf of its level.
+// What is met behind the leaf p of the form at i, as far as the form goes; none where p is no leaf of its level.
 #[cycle(behind_within)]
-fn within(row: &[u64], i: usize, to: usize, p: usize, x: usize, left: usize) -> u64
+fn within(row: &[u64], i: usize, to: usize, p: usize, x: Option<usize>) -> Option<Sight>
     requires i_lt_to { (i < to) × (i ≤ p) × (p < after_at row.now i) }
     requires to_in_bounds { to * 8 ≤ length row.now }
-    requires piece { Piece row.now left i to }
-    ensures { (q : Piece row.now left i to) (G : List Forms) → result ≡ inner (forms G q.part.lines) p x }
+    requires piece { (left : ℕ) × Piece row.now left i to }
+    ensures { (left : ℕ) (q : Piece row.now left i to) (G : List Forms) → result ≡ sight_within (forms G q.part.lines) p x }
 {
     if p == i {
-        return inside(row, i, to, x, left);
+        return Some(parts(row, i, to, x));
     }
-    if rows::get(row, i, KIND) != IF {
-        return ABSENT;
+    if rows::kind_of(row, i) != Some(Kind::If) {
+        return None;
     }
     let other = rows::index(row, i, OTHER);
     if p < other {
-        return behind(row, i + 1, other, p, x, left - 2);
+        return behind(row, i + 1, other, p, x);
     }
     let after = rows::index(row, i, AFTER);
-    behind(row, other, after, p, x, left - 2)
+    behind(row, other, after, p, x)
 }
 
-// What a scan for x answers behind the leaf p of the forms from `from` up to `to`; 3 where p is no leaf of their level.
+// What is met behind the leaf p of the forms from `from` up to `to`; none where p is no leaf of their level.
 #[cycle(behind_within)]
-fn behind(row: &[u64], from: usize, to: usize, p: usize, x: usize, left: usize) -> u64
+fn behind(row: &[u64], from: usize, to: usize, p: usize, x: Option<usize>) -> Option<Sight>
     requires to_in_bounds { to * 8 ≤ length row.now }
-    requires piece { Piece row.now left from to }
-    ensures { (q : Piece row.now left from to) (G : List Forms) → result ≡ trail (forms G q.part.lines) p x }
+    requires piece { (left : ℕ) × Piece row.now left from to }
+    ensures { (left : ℕ) (q : Piece row.now left from to) (G : List Forms) → result ≡ sight_behind (suffix (forms G q.part.lines) p) x }
 {
     if p < from {
-        return ABSENT;
+        return None;
     }
     let mut i = from;
     while i < to {
         let after = rows::after(row, i);
         if p < after {
-            let v = within(row, i, to, p, x, left);
-            if v != PASS {
-                return v;
+            let form = within(row, i, to, p, x)?;
+            if !form.free {
+                return Some(form);
             }
-            return scan(row, after, to, x, left);
+            let rest = scan(row, after, to, x);
+            return Some(form.then(rest));
         }
         i = after;
     }
-    ABSENT
+    None
 }
 
-// The records from `from` up to `to`.
-#[derive(Clone, Copy)]
-pub struct Records {
-    pub from: usize,
-    pub to: usize,
-}
-
-// The number at f, as an index.
-fn entry(starts: &[u64], f: usize) -> usize
-    requires { f < length starts.now }
-    ensures { result ≡ get_or starts.now f 0 }
+// The records of the function f.
+fn function_at(starts: &[u64], f: usize) -> Range<usize>
+    requires { f + 1 < length starts.now }
+    ensures { (result.start ≡ get_or starts.now f 0) × (result.end ≡ get_or starts.now (f + 1) 0) }
 {
-    starts[f] as usize
+    starts[f] as usize..starts[f + 1] as usize
 }
 
-// The leaf reported last at level l.
-fn leaf_at(leaves: &ByLevel, l: usize) -> usize
-    requires { l ≤ 32 }
-    ensures { result ≡ get_or leaves.now l 0 }
+// The records of the main function, the last of n.
+fn main_at(starts: &[u64], n: usize) -> Range<usize>
+    requires { (1 ≤ n) × (n < length starts.now) }
+    ensures { (result.start ≡ get_or starts.now (n - 1) 0) × (result.end ≡ get_or starts.now n 0) }
 {
-    leaves[l] as usize
+    function_at(starts, n - 1)
 }
 
 // The records inside the loop or call at `head`.
-fn opening(row: &[u64], starts: &[u64], head: usize) -> Records
+fn opening(row: &[u64], starts: &[u64], head: usize) -> Range<usize>
     requires { Enterable row.now starts.now head }
-    ensures { (result.from ≡ inner_from row.now starts.now head) × (result.to ≡ inner_to row.now starts.now head) }
+    ensures { (result.start ≡ inner_from row.now starts.now head) × (result.end ≡ inner_to row.now starts.now head) }
 {
-    if rows::get(row, head, KIND) == LOOP {
-        let to = rows::index(row, head, AFTER);
-        return Records {
-            from: head + 1,
-            to: to,
-        };
+    if rows::kind_of(row, head) == Some(Kind::Loop) {
+        head + 1..rows::index(row, head, AFTER)
+    } else {
+        function_at(starts, rows::index(row, head, DETAIL))
     }
-    let f = rows::index(row, head, DETAIL);
-    let from = entry(starts, f);
-    let to = entry(starts, f + 1);
-    Records { from: from, to: to }
 }
 
 // The records of the level l, over the leaves reported last at those below it.
-fn span(row: &[u64], starts: &[u64], n: usize, leaves: &ByLevel, l: usize) -> Records
+fn span(row: &[u64], starts: &[u64], n: usize, leaves: &ByLevel, l: usize) -> Range<usize>
     requires le_l { (1 ≤ l) × (l ≤ 32) }
-    requires running { Running row.now starts.now n leaves.now l }
-    ensures { (result.from ≡ base_from row.now starts.now n leaves.now l)
-        × (result.to ≡ base_to row.now starts.now n leaves.now l) }
+    requires main { (1 ≤ n) × (n < length starts.now) }
+    requires enterable { 2 ≤ l → Enterable row.now starts.now (get_or leaves.now (l - 1) 0) }
+    ensures { (result.start ≡ base_from row.now starts.now n leaves.now l)
+        × (result.end ≡ base_to row.now starts.now n leaves.now l) }
 {
     if l == 1 {
-        let from = entry(starts, n - 1);
-        let to = entry(starts, n);
-        return Records { from: from, to: to };
+        main_at(starts, n)
+    } else {
+        opening(row, starts, leaves[l - 1] as usize)
     }
-    let head = leaf_at(leaves, l - 1);
-    opening(row, starts, head)
 }
 
-// The level where the run comes to x once it has left the form of the leaf at level l; 0 where it cannot come to x.
-fn fall(row: &[u64], starts: &[u64], n: usize, leaves: &ByLevel, l: usize, x: usize) -> usize
+// What is met inside the loop or call at `head`.
+fn enclosed(row: &[u64], starts: &[u64], head: usize, x: Option<usize>) -> Sight
+    requires enterable { Enterable row.now starts.now head }
+    requires head_in_bounds { inner_to row.now starts.now head * 8 ≤ length row.now }
+    requires piece { Piece row.now 62 (inner_from row.now starts.now head) (inner_to row.now starts.now head) }
+    ensures { (p : Piece row.now 62 (inner_from row.now starts.now head)
+        (inner_to row.now starts.now head)) (G : List Forms) → result ≡ sight_of (forms G p.part.lines) x }
+{
+    let inner = opening(row, starts, head);
+    scan(row, inner.start, inner.end, x)
+}
+
+// The level where the run comes to x once it has left the form of the leaf at level l; none where it cannot come to x.
+// Kept beside `levels_sight`: this ends at the level where x is met, and that joins what all levels meet; one function would be no plainer.
+fn fall(
+    row: &[u64],
+    starts: &[u64],
+    n: usize,
+    leaves: &ByLevel,
+    l: usize,
+    x: usize,
+) -> Option<usize>
     requires le_l { (1 ≤ l) × (l ≤ 32) }
     requires running { Running row.now starts.now n leaves.now l }
     ensures { (q : Running row.now starts.now n leaves.now l)
         → Lands (get_or q.table.funs (n - 1) done) leaves.now q.counts q.levels x result }
 {
-    let s = span(row, starts, n, leaves, l);
-    let from = s.from;
-    let to = s.to;
-    let here = leaf_at(leaves, l);
-    let v = behind(row, from, to, here, x, INNER_BRACKETS);
-    if v == MEET {
-        return l;
+    let level = span(row, starts, n, leaves, l);
+    let here = leaves[l] as usize;
+    let sight = behind(row, level.start, level.end, here, Some(x))?;
+    if sight.meets {
+        return Some(l);
     }
-    if v != PASS {
-        return 0;
+    if l == 1 || !sight.free {
+        return None;
     }
-    if l == 1 {
-        return 0;
+    let head = leaves[l - 1] as usize;
+    if rows::kind_of(row, head) != Some(Kind::Loop) {
+        return fall(row, starts, n, leaves, l - 1, x);
     }
-    let head = leaf_at(leaves, l - 1);
-    if rows::get(row, head, KIND) == LOOP {
-        if head == x {
-            return l - 1;
-        }
-        return 0;
-    }
-    fall(row, starts, n, leaves, l - 1, x)
+    if head == x { Some(l - 1) } else { None }
 }
 
-// The level where a point comes next, or 0, and its earlier visits there.
+// The level where a point comes next, and its earlier visits there.
 #[derive(Clone, Copy)]
-pub struct Found {
-    pub at: usize,
-    pub count: u64,
+struct Found {
+    at: usize,
+    count: u64,
 }
 
 // Where x comes next once the form of the leaf at `level` is left.
@@ -243,37 +278,20 @@ fn below(
     earlier: &ByLevel,
     level: usize,
     x: usize,
-) -> Found
+) -> Option<Found>
     requires le_level { (1 ≤ level) × (level ≤ 32) }
     requires placed { Placed row.now starts.now n leaves.now earlier.now level }
     ensures { (q : Placed row.now starts.now n leaves.now earlier.now level)
-        → Finds level (get_or q.table.funs (n - 1) done) leaves.now earlier.now (fall_at q.levels x) x result.at result.count }
+        → Finds level (get_or q.table.funs (n - 1) done) leaves.now earlier.now (fall_at q.levels x) x result }
 {
-    let r = fall(row, starts, n, leaves, level, x);
-    if r == 0 {
-        return Found { at: 0, count: 0 };
+    let at = fall(row, starts, n, leaves, level, x)?;
+    if leaves[at] as usize == x {
+        return Some(Found {
+            at,
+            count: earlier[at] + 1,
+        });
     }
-    if leaf_at(leaves, r) == x {
-        return Found {
-            at: r,
-            count: earlier[r] + 1,
-        };
-    }
-    Found { at: r, count: 0 }
-}
-
-// What a scan for x answers inside the loop or call at `head`.
-fn sought(row: &[u64], starts: &[u64], head: usize, x: usize) -> u64
-    requires enterable { Enterable row.now starts.now head }
-    requires head_in_bounds { inner_to row.now starts.now head * 8 ≤ length row.now }
-    requires piece { Piece row.now 62 (inner_from row.now starts.now head) (inner_to row.now starts.now head) }
-    ensures { (p : Piece row.now 62 (inner_from row.now starts.now head)
-        (inner_to row.now starts.now head)) (G : List Forms) → result ≡ look (forms G p.part.lines) x }
-{
-    let s = opening(row, starts, head);
-    let from = s.from;
-    let to = s.to;
-    scan(row, from, to, x, INNER_BRACKETS)
+    Some(Found { at, count: 0 })
 }
 
 // Whether the leaf p is a loop that may turn again after `count` earlier visits.
@@ -281,14 +299,7 @@ fn may_turn(row: &[u64], p: usize, count: u64) -> bool
     requires { p * 8 + 8 ≤ length row.now }
     ensures { Says result (MayTurn row.now p count) }
 {
-    if rows::get(row, p, KIND) != LOOP {
-        return false;
-    }
-    if count < rows::get(row, p, DETAIL) {
-        true
-    } else {
-        false
-    }
+    rows::kind_of(row, p) == Some(Kind::Loop) && count < rows::get(row, p, DETAIL)
 }
 
 // Where x comes next inside the loop that was reported at level l, or at its next visit, where x cannot come once the loop is left.
@@ -300,32 +311,31 @@ fn round_again(
     earlier: &ByLevel,
     l: usize,
     x: usize,
-) -> Found
+) -> Option<Found>
     requires le_l { (1 ≤ l) × (l ≤ 32) × (kind_at row.now (get_or leaves.now l 0) ≡ 2) }
     requires placed { Placed row.now starts.now n leaves.now earlier.now l }
     requires x_value { (q : Placed row.now starts.now n leaves.now earlier.now l) → fall_at q.levels x ≡ none }
     ensures { (q : Placed row.now starts.now n leaves.now earlier.now l)
-        → Finds l (get_or q.table.funs (n - 1) done) leaves.now earlier.now (onward_at q.levels x) x result.at result.count }
+        → Finds l (get_or q.table.funs (n - 1) done) leaves.now earlier.now (onward_at q.levels x) x result }
 {
-    let here = leaf_at(leaves, l);
-    let count = earlier[l];
-    if !may_turn(row, here, count) {
-        return Found { at: 0, count: 0 };
+    let here = leaves[l] as usize;
+    if !may_turn(row, here, earlier[l]) {
+        return None;
     }
-    let v = sought(row, starts, here, x);
-    if v == MEET {
-        return Found {
+    let sight = enclosed(row, starts, here, Some(x));
+    if sight.meets {
+        return Some(Found {
             at: l + 1,
             count: 0,
-        };
+        });
     }
-    if v == PASS {
-        if here == x {
-            let more = count + 1;
-            return Found { at: l, count: more };
-        }
+    if sight.free && here == x {
+        return Some(Found {
+            at: l,
+            count: earlier[l] + 1,
+        });
     }
-    Found { at: 0, count: 0 }
+    None
 }
 
 // Where x comes next behind the report at level l.
@@ -337,50 +347,39 @@ fn find(
     earlier: &ByLevel,
     l: usize,
     x: usize,
-) -> Found
+) -> Option<Found>
     requires le_l { (1 ≤ l) × (l ≤ 32) }
     requires placed { Placed row.now starts.now n leaves.now earlier.now l }
     ensures { (q : Placed row.now starts.now n leaves.now earlier.now l)
-        → Finds l (get_or q.table.funs (n - 1) done) leaves.now earlier.now (onward_at q.levels x) x result.at result.count }
+        → Finds l (get_or q.table.funs (n - 1) done) leaves.now earlier.now (onward_at q.levels x) x result }
 {
-    let here = leaf_at(leaves, l);
-    let kind = rows::get(row, here, KIND);
+    let here = leaves[l] as usize;
+    let kind = rows::kind_of(row, here);
     let under = below(row, starts, n, leaves, earlier, l, x);
-    if kind == CALL {
-        let v = sought(row, starts, here, x);
-        if v == MEET {
-            return Found {
+    if kind == Some(Kind::Call) {
+        let sight = enclosed(row, starts, here, Some(x));
+        if sight.meets {
+            return Some(Found {
                 at: l + 1,
                 count: 0,
-            };
+            });
         }
-        if v == PASS {
-            return under;
-        }
-        return Found { at: 0, count: 0 };
+        return if sight.free { under } else { None };
     }
-    if kind != LOOP {
-        return under;
+    if kind == Some(Kind::Loop) && under.is_none() {
+        return round_again(row, starts, n, leaves, earlier, l, x);
     }
-    if under.at > 0 {
-        return under;
-    }
-    round_again(row, starts, n, leaves, earlier, l, x)
+    under
 }
 
 // v at l, and 0 above it.
-fn put(a: ByLevel, l: usize, v: u64) -> ByLevel
+fn put(mut a: ByLevel, l: usize, v: u64) -> ByLevel
     requires { l ≤ 32 }
     ensures { Put a result l v }
 {
-    let mut b = a;
-    b[l] = v;
-    let mut k = l + 1;
-    while k < ENTRIES {
-        b[k] = 0;
-        k += 1;
-    }
-    b
+    a[l] = v;
+    a[l + 1..].fill(0);
+    a
 }
 
 // Whether every number above level l is 0.
@@ -388,17 +387,10 @@ pub fn zero_above(a: ByLevel, l: usize) -> bool
     requires { l ≤ 32 }
     ensures { Says result ((k : ℕ) → l < k → get_or a k 0 ≡ 0) }
 {
-    let mut j = l + 1;
-    while j < ENTRIES {
-        if a[j] != 0 {
-            return false;
-        }
-        j += 1;
-    }
-    true
+    a[l + 1..].iter().all(|number| *number == 0)
 }
 
-// The place of a run: its level (0: none), the leaf reported last at each level up to it, and that leaf's earlier visits there.
+// The place of a run: its level, the leaf reported last at each level up to it, and that leaf's earlier visits there.
 #[derive(Clone, Copy)]
 pub struct Place {
     pub level: usize,
@@ -406,38 +398,31 @@ pub struct Place {
     pub earlier: ByLevel,
 }
 
-// The place when the point x is reported next; where x cannot come next, level 0 and zeros in both arrays.
-pub fn next_place(row: &[u64], starts: &[u64], n: usize, place: Place, x: usize) -> Place
+// The place when the point x is reported next; none where x cannot come next.
+pub fn next_place(row: &[u64], starts: &[u64], n: usize, place: Place, x: usize) -> Option<Place>
     requires le_level { (1 ≤ place.level) × (place.level ≤ 32) }
     requires x_value { point_at row.now x ≡ 1 }
     requires decoded { Decoded row.now starts.now n place.leaves place.earlier place.level }
     ensures { (q : Decoded row.now starts.now n place.leaves place.earlier place.level)
-        → NextStack row.now (get_or q.table.funs (n - 1) done) (onward_at q.levels x) place.leaves place.earlier x
-        result.leaves result.earlier result.level }
+        → NextStack row.now (get_or q.table.funs (n - 1) done) (onward_at q.levels x) place.leaves place.earlier x result }
 {
-    let leaves = place.leaves;
-    let earlier = place.earlier;
-    let level = place.level;
-    let f = find(row, starts, n, &leaves, &earlier, level, x);
-    let l = f.at;
-    let count = f.count;
-    if l == 0 {
-        return Place {
-            level: 0,
-            leaves: [0; ENTRIES],
-            earlier: [0; ENTRIES],
-        };
-    }
-    let new = put(leaves, l, x as u64);
-    let counts = put(earlier, l, count);
-    Place {
-        level: l,
-        leaves: new,
-        earlier: counts,
-    }
+    let found = find(
+        row,
+        starts,
+        n,
+        &place.leaves,
+        &place.earlier,
+        place.level,
+        x,
+    )?;
+    Some(Place {
+        level: found.at,
+        leaves: put(place.leaves, found.at, x as u64),
+        earlier: put(place.earlier, found.at, found.count),
+    })
 }
 
-// The place when the point x is reported first; where x cannot come first, level 0 and zeros in both arrays.
+// The place when the point x is reported first; none where x cannot come first.
 pub fn first_place(
     row: &[u64],
     starts: &[u64],
@@ -445,246 +430,62 @@ pub fn first_place(
     leaves: ByLevel,
     earlier: ByLevel,
     x: usize,
-) -> Place
+) -> Option<Place>
     requires x_value { point_at row.now x ≡ 1 }
     requires function_table { FunctionTable row.now starts.now n }
     ensures { (p : FunctionTable row.now starts.now n)
-        → NextStack row.now (get_or p.funs (n - 1) done) (onto [] (seek (get_or p.funs (n - 1) done) x)) leaves earlier x
-        result.leaves result.earlier result.level }
+        → NextStack row.now (get_or p.funs (n - 1) done) (onto [] (seek (get_or p.funs (n - 1) done) x)) leaves earlier x result }
 {
-    let from = entry(starts, n - 1);
-    let to = entry(starts, n);
-    let v = scan(row, from, to, x, INNER_BRACKETS);
-    if v != MEET {
-        return Place {
-            level: 0,
-            leaves: [0; ENTRIES],
-            earlier: [0; ENTRIES],
-        };
+    if !main_sight(row, starts, n, Some(x)).meets {
+        return None;
     }
-    let new = put(leaves, 1, x as u64);
-    let counts = put(earlier, 1, 0);
-    Place {
+    Some(Place {
         level: 1,
-        leaves: new,
-        earlier: counts,
-    }
+        leaves: put(leaves, 1, x as u64),
+        earlier: put(earlier, 1, 0),
+    })
 }
 
-// How quiet forms are: `free`, some way through them meets no point; `mute`, none meets one.
-#[derive(Clone, Copy)]
-struct Quiet {
-    free: bool,
-    mute: bool,
-}
-
-// Nothing.
-fn empty() -> Quiet
-    ensures { result ≡ empty }
-{
-    Quiet {
-        free: true,
-        mute: true,
-    }
-}
-
-// A point on every way.
-fn shut() -> Quiet
-    ensures { result ≡ shut }
-{
-    Quiet {
-        free: false,
-        mute: false,
-    }
-}
-
-// Whether both hold.
-fn both(a: bool, b: bool) -> bool
-    ensures { result ≡ (a && b) }
-{
-    if a { b } else { false }
-}
-
-// In series: x, and then y.
-fn series(x: Quiet, y: Quiet) -> Quiet
-    ensures { result ≡ series x y }
-{
-    Quiet {
-        free: both(x.free, y.free),
-        mute: both(x.mute, y.mute),
-    }
-}
-
-// x or y.
-fn either(x: Quiet, y: Quiet) -> Quiet
-    ensures { result ≡ either x y }
-{
-    let mute = both(x.mute, y.mute);
-    if x.free {
-        return Quiet {
-            free: true,
-            mute: mute,
-        };
-    }
-    let free = y.free;
-    Quiet {
-        free: free,
-        mute: mute,
-    }
-}
-
-// How quiet it is inside the form at i at its own level: in the parts of an if.
-#[cycle(quiet_forms_quiet_parts)]
-fn quiet_parts(row: &[u64], i: usize, to: usize, left: usize) -> Quiet
-    requires i_lt_to { i < to }
-    requires to_in_bounds { to * 8 ≤ length row.now }
-    requires piece { Piece row.now left i to }
-    ensures { (p : Piece row.now left i to) (G : List Forms) → result ≡ quiet_parts (forms G p.part.lines) }
-{
-    if rows::get(row, i, KIND) != IF {
-        return empty();
-    }
-    let other = rows::index(row, i, OTHER);
-    let after = rows::index(row, i, AFTER);
-    let a = quiet_forms(row, i + 1, other, left - 2);
-    let b = quiet_forms(row, other, after, left - 2);
-    either(a, b)
-}
-
-// How quiet the forms from `from` up to `to` are.
-#[cycle(quiet_forms_quiet_parts)]
-fn quiet_forms(row: &[u64], from: usize, to: usize, left: usize) -> Quiet
-    requires to_in_bounds { to * 8 ≤ length row.now }
-    requires piece { Piece row.now left from to }
-    ensures { (p : Piece row.now left from to) (G : List Forms) → result ≡ quiet_of (forms G p.part.lines) }
-{
-    let mut passed = empty();
-    let mut i = from;
-    while i < to {
-        if rows::get(row, i, POINT) == 1 {
-            return shut();
-        }
-        let v = quiet_parts(row, i, to, left);
-        if !v.free {
-            return shut();
-        }
-        passed = series(passed, v);
-        i = rows::index(row, i, AFTER);
-    }
-    passed
-}
-
-// How quiet it is behind the leaf p of the form at i, as far as the form goes; shut where p is no leaf of its level.
-#[cycle(quiet_behind_quiet_within)]
-fn quiet_within(row: &[u64], i: usize, to: usize, p: usize, left: usize) -> Quiet
-    requires i_lt_to { (i < to) × (i ≤ p) × (p < after_at row.now i) }
-    requires to_in_bounds { to * 8 ≤ length row.now }
-    requires piece { Piece row.now left i to }
-    ensures { (q : Piece row.now left i to) (G : List Forms) → result ≡ quiet_within (forms G q.part.lines) p }
-{
-    if p == i {
-        return quiet_parts(row, i, to, left);
-    }
-    if rows::get(row, i, KIND) != IF {
-        return shut();
-    }
-    let other = rows::index(row, i, OTHER);
-    if p < other {
-        return quiet_behind(row, i + 1, other, p, left - 2);
-    }
-    let after = rows::index(row, i, AFTER);
-    quiet_behind(row, other, after, p, left - 2)
-}
-
-// How quiet it is behind the leaf p of the forms from `from` up to `to`; shut where p is no leaf of their level.
-#[cycle(quiet_behind_quiet_within)]
-fn quiet_behind(row: &[u64], from: usize, to: usize, p: usize, left: usize) -> Quiet
-    requires to_in_bounds { to * 8 ≤ length row.now }
-    requires piece { Piece row.now left from to }
-    ensures { (q : Piece row.now left from to) (G : List Forms) → result ≡ quiet_behind (suffix (forms G q.part.lines) p) }
-{
-    if p < from {
-        return shut();
-    }
-    let mut i = from;
-    while i < to {
-        let after = rows::after(row, i);
-        if p < after {
-            let v = quiet_within(row, i, to, p, left);
-            if !v.free {
-                return shut();
-            }
-            let x = quiet_forms(row, after, to, left);
-            return series(v, x);
-        }
-        i = after;
-    }
-    shut()
-}
-
-// How quiet it is once the form of the leaf at level l is left, level by level down to the end. (An open loop comes back to its condition, which is a point.)
-fn quiet_levels(row: &[u64], starts: &[u64], n: usize, leaves: &ByLevel, l: usize) -> Quiet
+// What is met once the form of the leaf at level l is left, level by level down to the end. (An open loop comes back to its condition, which is a point.)
+fn levels_sight(row: &[u64], starts: &[u64], n: usize, leaves: &ByLevel, l: usize) -> Sight
     requires le_l { (1 ≤ l) × (l ≤ 32) }
     requires running { Running row.now starts.now n leaves.now l }
-    ensures { (q : Running row.now starts.now n leaves.now l) → result ≡ quiet_levels q.levels }
+    ensures { (q : Running row.now starts.now n leaves.now l) → result ≡ levels_sight q.levels }
 {
-    let s = span(row, starts, n, leaves, l);
-    let from = s.from;
-    let to = s.to;
-    let here = leaf_at(leaves, l);
-    let v = quiet_behind(row, from, to, here, INNER_BRACKETS);
-    if l == 1 {
-        return v;
+    let level = span(row, starts, n, leaves, l);
+    let here = leaves[l] as usize;
+    let Some(sight) = behind(row, level.start, level.end, here, None) else {
+        unreachable!()
+    };
+    if l == 1 || !sight.free {
+        return sight;
     }
-    if !v.free {
-        return shut();
+    let head = leaves[l - 1] as usize;
+    if rows::kind_of(row, head) == Some(Kind::Loop) {
+        return sight.then(Sight::at(head, None));
     }
-    let head = leaf_at(leaves, l - 1);
-    if rows::get(row, head, KIND) == LOOP {
-        return shut();
-    }
-    let x = quiet_levels(row, starts, n, leaves, l - 1);
-    series(v, x)
+    sight.then(levels_sight(row, starts, n, leaves, l - 1))
 }
 
-// How quiet it is inside the call at `head`.
-fn quiet_inside(row: &[u64], starts: &[u64], head: usize) -> Quiet
-    requires enterable { Enterable row.now starts.now head }
-    requires head_in_bounds { inner_to row.now starts.now head * 8 ≤ length row.now }
-    requires piece { Piece row.now 62 (inner_from row.now starts.now head) (inner_to row.now starts.now head) }
-    ensures { (p : Piece row.now 62 (inner_from row.now starts.now head)
-        (inner_to row.now starts.now head)) (G : List Forms) → result ≡ quiet_of (forms G p.part.lines) }
-{
-    let s = opening(row, starts, head);
-    let from = s.from;
-    let to = s.to;
-    quiet_forms(row, from, to, INNER_BRACKETS)
-}
-
-// How quiet it is behind the report of this place.
-fn quiet_ahead(row: &[u64], starts: &[u64], n: usize, place: Place) -> Quiet
+// What is met behind the report of this place.
+fn ahead(row: &[u64], starts: &[u64], n: usize, place: Place) -> Sight
     requires le_level { (1 ≤ place.level) × (place.level ≤ 32) }
     requires decoded { Decoded row.now starts.now n place.leaves place.earlier place.level }
     ensures { (q : Decoded row.now starts.now n place.leaves place.earlier place.level)
-        → result ≡ quiet_ahead q.levels }
+        → result ≡ sight_ahead q.levels }
 {
-    let leaves = place.leaves;
-    let earlier = place.earlier;
-    let level = place.level;
-    let q = quiet_levels(row, starts, n, &leaves, level);
-    let here = leaf_at(&leaves, level);
-    if rows::get(row, here, KIND) == CALL {
-        let v = quiet_inside(row, starts, here);
-        return series(v, q);
+    let here = place.leaves[place.level] as usize;
+    let under = levels_sight(row, starts, n, &place.leaves, place.level);
+    if rows::kind_of(row, here) == Some(Kind::Call) {
+        return enclosed(row, starts, here, None).then(under);
     }
-    if may_turn(row, here, earlier[level]) {
-        let free = q.free;
-        return Quiet {
-            free: free,
+    if may_turn(row, here, place.earlier[place.level]) {
+        return Sight {
             mute: false,
+            ..under
         };
     }
-    q
+    under
 }
 
 // Whether the run can end behind the report of this place.
@@ -694,8 +495,7 @@ pub fn can_end(row: &[u64], starts: &[u64], n: usize, place: Place) -> bool
     ensures { (q : Decoded row.now starts.now n place.leaves place.earlier place.level)
         → result ≡ can_end (whole q.levels) }
 {
-    let q = quiet_ahead(row, starts, n, place);
-    q.free
+    ahead(row, starts, n, place).free
 }
 
 // Whether no run meets a further point behind the report of this place.
@@ -705,18 +505,16 @@ pub fn last_point(row: &[u64], starts: &[u64], n: usize, place: Place) -> bool
     ensures { (q : Decoded row.now starts.now n place.leaves place.earlier place.level)
         → result ≡ no_further (whole q.levels) }
 {
-    let q = quiet_ahead(row, starts, n, place);
-    q.mute
+    ahead(row, starts, n, place).mute
 }
 
-// How quiet the main function is.
-fn quiet_main(row: &[u64], starts: &[u64], n: usize) -> Quiet
+// What the main function meets.
+fn main_sight(row: &[u64], starts: &[u64], n: usize, x: Option<usize>) -> Sight
     requires { FunctionTable row.now starts.now n }
-    ensures { (p : FunctionTable row.now starts.now n) → result ≡ quiet_of (get_or p.funs (n - 1) done) }
+    ensures { (p : FunctionTable row.now starts.now n) → result ≡ sight_of (get_or p.funs (n - 1) done) x }
 {
-    let from = entry(starts, n - 1);
-    let to = entry(starts, n);
-    quiet_forms(row, from, to, INNER_BRACKETS)
+    let main = main_at(starts, n);
+    scan(row, main.start, main.end, x)
 }
 
 // Whether the run can end before any report.
@@ -724,8 +522,7 @@ pub fn first_end(row: &[u64], starts: &[u64], n: usize) -> bool
     requires { FunctionTable row.now starts.now n }
     ensures { (p : FunctionTable row.now starts.now n) → result ≡ passes (get_or p.funs (n - 1) done) }
 {
-    let q = quiet_main(row, starts, n);
-    q.free
+    main_sight(row, starts, n, None).free
 }
 
 // Whether no run meets a point.
@@ -733,8 +530,7 @@ pub fn no_point(row: &[u64], starts: &[u64], n: usize) -> bool
     requires { FunctionTable row.now starts.now n }
     ensures { (p : FunctionTable row.now starts.now n) → result ≡ no_more (get_or p.funs (n - 1) done) }
 {
-    let q = quiet_main(row, starts, n);
-    q.mute
+    main_sight(row, starts, n, None).mute
 }
 
 // Whether the leaf at `head` is open after `count` earlier visits: a call, or a loop that may turn again.
@@ -742,10 +538,7 @@ fn enters(row: &[u64], head: usize, count: u64) -> bool
     requires { head * 8 + 8 ≤ length row.now }
     ensures { Says result (Enters row.now head count) }
 {
-    if rows::get(row, head, KIND) == CALL {
-        return true;
-    }
-    may_turn(row, head, count)
+    rows::kind_of(row, head) == Some(Kind::Call) || may_turn(row, head, count)
 }
 
 // Whether the leaf p can have had `count` earlier visits.
@@ -753,13 +546,11 @@ fn counted(row: &[u64], p: usize, count: u64) -> bool
     requires { p * 8 + 8 ≤ length row.now }
     ensures { Says result (Counted row.now p count) }
 {
-    if rows::get(row, p, KIND) == LOOP {
-        if count <= rows::get(row, p, DETAIL) {
-            return true;
-        }
-        return false;
+    if rows::kind_of(row, p) == Some(Kind::Loop) {
+        count <= rows::get(row, p, DETAIL)
+    } else {
+        count == 0
     }
-    if count == 0 { true } else { false }
 }
 
 // Whether p is a point of the level that runs the records from `from` up to `to`, and can have had `count` earlier visits there.
@@ -768,13 +559,10 @@ fn settled(row: &[u64], from: usize, to: usize, p: usize, count: u64) -> bool
     requires piece { Piece row.now 62 from to }
     ensures { (n : ℕ) (G : List Forms) (f : Forms) → Spanned row.now G n from to f → Says result (Settled row.now f p count) }
 {
-    if behind(row, from, to, p, p, INNER_BRACKETS) == ABSENT {
+    if behind(row, from, to, p, None).is_none() {
         return false;
     }
-    if rows::get(row, p, POINT) != 1 {
-        return false;
-    }
-    counted(row, p, count)
+    rows::get(row, p, POINT) == 1 && counted(row, p, count)
 }
 
 // Whether the stack holds up to level l.
@@ -797,22 +585,11 @@ fn holds(
     if !holds(row, starts, n, leaves, earlier, l - 1) {
         return false;
     }
-    let here = leaf_at(leaves, l);
-    let count = earlier[l];
-    if l == 1 {
-        let from = entry(starts, n - 1);
-        let to = entry(starts, n);
-        return settled(row, from, to, here, count);
-    }
-    let head = leaf_at(leaves, l - 1);
-    let earlier = earlier[l - 1];
-    if !enters(row, head, earlier) {
+    if l > 1 && !enters(row, leaves[l - 1] as usize, earlier[l - 1]) {
         return false;
     }
-    let s = opening(row, starts, head);
-    let from = s.from;
-    let to = s.to;
-    settled(row, from, to, here, count)
+    let level = span(row, starts, n, leaves, l);
+    settled(row, level.start, level.end, leaves[l] as usize, earlier[l])
 }
 
 // Whether the place is one of some run of the table: its stack decodes and its leaves are points.
@@ -821,16 +598,9 @@ pub fn place_ok(row: &[u64], starts: &[u64], n: usize, place: Place) -> bool
     ensures { (p : FunctionTable row.now starts.now n)
         → Says result (Decodes row.now (get_or p.funs (n - 1) done) place.leaves place.earlier place.level) }
 {
-    let leaves = place.leaves;
-    let earlier = place.earlier;
-    let level = place.level;
-    if level == 0 {
-        return false;
-    }
-    if level > LEVELS {
-        return false;
-    }
-    holds(row, starts, n, &leaves, &earlier, level)
+    place.level != 0
+        && place.level <= LEVELS
+        && holds(row, starts, n, &place.leaves, &place.earlier, place.level)
 }
 
 // What remains at a first visit of a leaf with this tail inside the loop or call at `head`, where `time` remained at the visit of `head`.
@@ -838,14 +608,11 @@ fn inner_time(row: &[u64], tails: &[u64], totals: &Totals, head: usize, time: u6
     requires { Opens row.now tails.now totals.now head time tail }
     ensures { result ≡ inner_time row.now tails.now totals.now head time tail }
 {
-    if rows::get(row, head, KIND) == LOOP {
-        let all = tails[head];
-        return time - (all - tail);
+    if rows::kind_of(row, head) == Some(Kind::Loop) {
+        return time - (tails[head] - tail);
     }
     let f = rows::index(row, head, DETAIL);
-    let cost = rows::get(row, head, ISOLATED);
-    let total = totals[f];
-    time - cost - total + tail
+    time - rows::get(row, head, ISOLATED) - totals[f] + tail
 }
 
 // What remains at a first visit of the leaf of level l.
@@ -863,14 +630,12 @@ fn first_time(
         (get_or tails.now (get_or leaves.now l 0) 0) }
     ensures { result ≡ first_time row.now tails.now totals.now leaves.now times.now l }
 {
-    let x = leaf_at(leaves, l);
-    let tail = tails[x];
+    let tail = tails[leaves[l] as usize];
     if l == 1 {
         return tail;
     }
-    let head = leaf_at(leaves, l - 1);
-    let time = times[l - 1];
-    inner_time(row, tails, totals, head, time, tail)
+    let head = leaves[l - 1] as usize;
+    inner_time(row, tails, totals, head, times[l - 1], tail)
 }
 
 // What remains at the leaf of level l: a round less for each earlier visit there.
@@ -890,10 +655,7 @@ fn level_time(
         earlier.now times.now l }
 {
     let first = first_time(row, tails, totals, leaves, times, l);
-    let x = leaf_at(leaves, l);
-    let count = earlier[l];
-    let turn = turns[x];
-    first - count * turn
+    first - earlier[l] * turns[leaves[l] as usize]
 }
 
 // The remaining times with that of the place's level, and 0 above it.
@@ -911,11 +673,17 @@ pub fn next_times(
         totals.now place.leaves place.earlier place.level times)
         → TimesAt (get_or q.costed.decoded.table.funs (q.n - 1) done) result q.costed.decoded.levels × ((k : ℕ) → place.level < k → get_or result k 0 ≡ 0) }
 {
-    let leaves = place.leaves;
-    let earlier = place.earlier;
-    let level = place.level;
-    let time = level_time(row, tails, turns, totals, &leaves, &earlier, &times, level);
-    put(times, level, time)
+    let time = level_time(
+        row,
+        tails,
+        turns,
+        totals,
+        &place.leaves,
+        &place.earlier,
+        &times,
+        place.level,
+    );
+    put(times, place.level, time)
 }
 
 // Whether the remaining times up to level l are those of the place, and level 0 holds the total.
@@ -937,17 +705,10 @@ fn times_hold(
         → Says result (TimesAt (get_or q.placed.table.funs (n - 1) done) times.now q.placed.levels) }
 {
     if l == 0 {
-        let total = totals[n - 1];
-        if times[0] == total {
-            return true;
-        }
-        return false;
+        return times[0] == totals[n - 1];
     }
-    if !times_hold(row, n, tails, turns, totals, leaves, earlier, times, l - 1) {
-        return false;
-    }
-    let time = level_time(row, tails, turns, totals, leaves, earlier, times, l);
-    if times[l] == time { true } else { false }
+    times_hold(row, n, tails, turns, totals, leaves, earlier, times, l - 1)
+        && times[l] == level_time(row, tails, turns, totals, leaves, earlier, times, l)
 }
 
 // Whether the remaining times up to the place's level are those of the place, and level 0 holds the total.
@@ -966,10 +727,15 @@ pub fn times_ok(
         totals.now place.leaves place.earlier n place.level)
         → Says result (TimesAt (get_or q.decoded.table.funs (n - 1) done) times q.decoded.levels) }
 {
-    let leaves = place.leaves;
-    let earlier = place.earlier;
-    let level = place.level;
     times_hold(
-        row, n, tails, turns, totals, &leaves, &earlier, &times, level,
+        row,
+        n,
+        tails,
+        turns,
+        totals,
+        &place.leaves,
+        &place.earlier,
+        &times,
+        place.level,
     )
 }

@@ -7,6 +7,7 @@ use mathlib.Core.List.{[], ◌∷◌, flat_map}
 use lib.IntN.{pos, negsuc}
 use Rattle.text.specs.Text.{bytes}
 use Rattle.text.specs.Spelling.{decimal, numerals}
+use Rattle.model.specs.declared.Refusal.TheVariants.{Astray}
 use Rattle.model.specs.declared.Word.TheVariants.{Go, Suspend, Stay}
 use Rattle.model.specs.declared.Ending.TheVariants.{Resume, Ended}
 use Rattle.model.specs.declared.Answer.TheVariants.{Refused, Decided, Closed}
@@ -62,6 +63,6 @@ unfolding answer_line ending_text late_mark
 late_end = refl
 
 -- A fifth visit of plan A's loop (m4).
-refused_call : answer_line (Refused 17) ≡ bytes "refused 17\n"
+refused_call : answer_line (Refused Astray) ≡ bytes "refused 17\n"
 unfolding answer_line number_field decimal numerals
 refused_call = refl

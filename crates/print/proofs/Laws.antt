@@ -6,11 +6,22 @@ use mathlib.Core.Bool.{Bool, true, false}
 use native.Mathlib.Numerals.{add-one}
 use native.Mathlib.Omega.{arith}
 use lib.Dec.{leb}
-use lib.ListN.{length, take, get_or, set, length-append, length-take, length-set}
+use lib.ListN.{length, take, drop, get_or, set, length-append, length-take, length-set}
 use lib.Seq.{sets, take-suc, take-nil, take-length, set_out, length-sets}
 use borrow.Author.Tests.{leb-true, leb-false}
+use borrow.Rule.Slice.PartMut.{put_mid}
+use native.Mathlib.Decide.{dec_le}
+use lib.Seq.{paste}
+use Rattle.std.proofs.lemmas.Slice.{put_mid-paste}
+use Rattle.std.proofs.lemmas.List.Edits.{paste_none, paste_all, sets-eq}
 use Rattle.text.specs.Spelling.{decimal}
 use Rattle.text.proofs.Decimal.{decimal_digit, decimal_step, decimal_length, tens}
+use Rattle.model.specs.declared.Word.{Word}
+use Rattle.model.specs.declared.Word.TheVariants.{Go, Suspend, Stay}
+use Rattle.model.specs.declared.Ending.{Ending}
+use Rattle.model.specs.declared.Ending.TheVariants.{Resume, Ended}
+use Rattle.text.specs.Text.{bytes}
+use Rattle.print.specs.Lines.{number_field, number_fields, numbers_line, word_text, ending_text, late_mark}
 use Rattle.print.specs.Printed.{Printed, PrintedWithin}
 
 -- STORES IN A ROW
@@ -47,23 +58,38 @@ stores_behind xs ys l at i e = by (leb (at + length xs) (length l)) refl
 pub same_size : (l : List ℕ) (at : ℕ) (xs : List ℕ) {m : List ℕ} → m ≡ sets l at xs → length m ≡ length l
 same_size l at xs e = ap length e ∙ length-sets l at xs
 
--- One byte more of a text.
-pub byte_more : (text l : List ℕ) (at i : ℕ) {m : List ℕ} {end : ℕ} → i < length text → end ≡ at + i → m ≡ sets l at (take i text) →
-    set m end (get_or text i 0) ≡ sets l at (take (i + 1) text)
-byte_more text l at i h e p =
-    let k : at + i ≡ at + length (take i text) = omega (arith, length-take i text) in
-    rw (e, add-one i, take-suc text i 0 h, p) (stores_join (take i text) (get_or text i 0 ∷ []) l at (at + i) k)
-
 -- Bytes that there is no room for are not stored.
 cut : (text l : List ℕ) (at n : ℕ) → n ≡ min (length text) (length l - at) → sets l at (take n text) ≡ sets l at text
 cut [] l at n e = ap (sets l at) (take-nil n)
 cut (x ∷ xs) l at zero e = sym (stores_out (x ∷ xs) l at (omega arith))
 cut (x ∷ xs) l at (suc n) e = cut xs (set l at x) (suc at) n (omega (arith, length-set l at x))
 
--- All bytes of a text that there is room for.
-pub all_bytes : (text l : List ℕ) (at n : ℕ) {m : List ℕ} {end : ℕ} → n ≡ min (length text) (length l - at) → end ≡ at + n → m ≡ sets l at (take n text) →
-    Printed l at text m end
-all_bytes text l at n e k p = record { stored = p ∙ cut text l at n e; after = omega arith }
+-- A text that is pasted where there is room for it is stored.
+pasted_all : (xs l : List ℕ) (at n : ℕ) → n ≡ length xs → at + n ≤ length l → paste l at xs n ≡ sets l at xs
+pasted_all xs l at n e h =
+    paste_all l at xs n e ∙ rw e (sym (append_assoc (take at l) xs (drop (at + length xs) l)) ∙ sym (sets-eq xs l at (omega arith)))
+
+-- As many bytes of a text were copied as there is room for.
+pub copied : (old text part : List ℕ) (at start count : ℕ) → start ≡ min at (length old) → count ≡ min (length text) (length old - start)
+    → part ≡ take count text → Printed old at text (put_mid start (start + count - start) old part) (at + count)
+copied old text part at start count from many got = record { stored = pasted ∙ fits; after = omega arith }
+  where
+    size : count ≡ length (take count text)
+    size = omega (arith, length-take count text)
+
+    pasted : put_mid start (start + count - start) old part ≡ paste old start (take count text) count
+    pasted = put_mid-paste start _ old part (take count text) count got (omega arith) size
+
+    fits : paste old start (take count text) count ≡ sets old at text
+    fits =
+        elim (dec_le at (length old)) [
+          | yes h ↦
+              let here : start ≡ at = omega arith in
+              rw here (pasted_all (take count text) old at count size (omega arith) ∙ cut text old at count (omega arith))
+          | no h ↦
+              let none : count ≡ 0 = omega arith in
+              rw none (sym (paste_none old start (take 0 text)) ∙ sym (stores_out text old at (omega arith)))
+        ]
 
 -- TEXTS IN A ROW
 
@@ -89,6 +115,10 @@ joined {xs} {ys} p q = record {
 -- A text has at most as many bytes as it is long.
 pub whole : {l m xs : List ℕ} {at e : ℕ} → Printed l at xs m e → PrintedWithin (length xs) l at xs m e
 whole p = record { printed = p; short = omega arith }
+
+-- A short text that was written is this one.
+pub written : {most : ℕ} {l m xs text : List ℕ} {at e : ℕ} → text ≡ xs → length xs ≤ most → Printed l at text m e → PrintedWithin most l at xs m e
+written q h p = record { printed = rw (← q) p; short = h }
 
 -- What has at most so many bytes has at most more.
 pub wider : {most more : ℕ} {l m xs : List ℕ} {at e : ℕ} → most ≤ more → PrintedWithin most l at xs m e → PrintedWithin more l at xs m e
@@ -143,6 +173,32 @@ last_digit {n} h d p q = rw (decimal_step n h, ← d) (behind p q)
 -- A number of 64 bits has at most 20 digits.
 pub digits_most : (n : ℕ) → n < 2 ^ 64 → length (decimal n) ≤ 20
 digits_most n h = decimal_length 19 n (unfold tens in omega arith)
+
+-- A line of a word and one number, and of a word and two.
+pub one_number : (word : List ℕ) (a : ℕ) → numbers_line word (a ∷ []) ≡ word ++ (number_field a ++ bytes "\n")
+unfolding numbers_line number_fields flat_map
+one_number word a = rw (append-nil (number_field a))
+
+pub two_numbers : (word : List ℕ) (a b : ℕ) → numbers_line word (a ∷ b ∷ []) ≡ word ++ (number_field a ++ (number_field b ++ bytes "\n"))
+unfolding numbers_line number_fields flat_map
+two_numbers word a b = rw (append-nil (number_field b), append_assoc (number_field a) (number_field b) (bytes "\n"))
+
+-- The words of a decision and of an end, and the late mark, are short.
+pub word_short : (w : Word) → length (word_text w) ≤ 7
+unfolding word_text
+word_short Go = omega arith
+word_short Suspend = omega arith
+word_short Stay = omega arith
+
+pub ending_short : (e : Ending) → length (ending_text e) ≤ 6
+unfolding ending_text
+ending_short Resume = omega arith
+ending_short Ended = omega arith
+
+pub mark_short : (late : Bool) → length (late_mark late) ≤ 3
+unfolding late_mark
+mark_short true = omega arith
+mark_short false = omega arith
 
 -- WHOLE TEXTS
 

@@ -12,6 +12,7 @@ use Rattle.model.specs.declared.Ending.{Ending}
 use Rattle.model.specs.declared.Ending.TheVariants.{Resume, Ended}
 use Rattle.model.specs.declared.Answer.{Answer}
 use Rattle.model.specs.declared.Answer.TheVariants.{Refused, Decided, Closed}
+use Rattle.model.specs.Refusals.{number_of}
 use Rattle.print.specs.Lines.{number_field, signed_field, late_mark, word_text, ending_text, answer_line, ticks_line}
 
 -- Words and fields have no line feed.
@@ -43,7 +44,7 @@ ends_end Ended late = ends_mark late
 
 ends_answer : (a : Answer) → ends (answer_line a) ≡ true
 unfolding answer_line ends nothing
-ends_answer (Refused n) = ends_field n (10 ∷ [])
+ends_answer (Refused n) = ends_field (number_of n) (10 ∷ [])
 ends_answer (Decided w r m late) =
     ends_word w (number_field r ++ (signed_field m ++ late_mark late)) ∙
     (ends_field r (signed_field m ++ late_mark late) ∙ (ends_signed m (late_mark late) ∙ ends_mark late))

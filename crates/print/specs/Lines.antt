@@ -10,6 +10,7 @@ use Rattle.model.specs.declared.Ending.{Ending}
 use Rattle.model.specs.declared.Ending.TheVariants.{Resume, Ended}
 use Rattle.model.specs.declared.Answer.{Answer}
 use Rattle.model.specs.declared.Answer.TheVariants.{Refused, Decided, Closed}
+use Rattle.model.specs.Refusals.{number_of}
 
 -- A further field of a line: one space, then a number in decimal.
 unfoldable pub number_field : ℕ → List ℕ
@@ -59,7 +60,7 @@ refused_plan_line number line = bytes "refused" ++ (number_field number ++ (numb
 -- The line of an answer: a refusal's number; of a release or a report the word, the remaining time, the margin and the late mark; of an end the word and the
 -- late mark.
 unfoldable pub answer_line : Answer → List ℕ
-answer_line (Refused number) = bytes "refused" ++ (number_field number ++ bytes "\n")
+answer_line (Refused refusal) = bytes "refused" ++ (number_field (number_of refusal) ++ bytes "\n")
 answer_line (Decided w remaining margin late) = word_text w ++ (number_field remaining ++ (signed_field margin ++ late_mark late))
 answer_line (Closed w late) = ending_text w ++ late_mark late
 

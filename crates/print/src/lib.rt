@@ -1,10 +1,11 @@
 // The lines that the programs print (document 01, 'Calls' and 'Plans worked through'; document 02, L1), each at a place of a lent buffer, as far as it has
 // room.
+// A buffer and a place go in and the next place comes out, with no struct of both: callers carry the place on, and each line would make and undo it (d).
+// No `Display`: what is written is cut at the end of a lent buffer, and a writer that cuts would be this crate again, with `write!` around it (d).
 #![tactic(auto)]
 
-ghost use Rattle.std.specs.Prelude.{◌≡◌, [], ◌∷◌, ◌+◌, ◌*◌, ◌<◌, length, nat_abs};
+ghost use Rattle.std.specs.Prelude.{◌≡◌, [], ◌∷◌, ◌+◌, ◌*◌, ◌<◌, length};
 ghost use Rattle.text.specs.Spelling.{decimal};
-ghost use Rattle.model.specs.declared.Answer.TheVariants.{Refused, Decided, Closed};
 ghost use Rattle.print.specs.Printed.{Printed, PrintedWithin};
 ghost use Rattle.print.specs.Lines.{number_field, signed_field, late_mark, word_text, ending_text, number_fields};
 ghost use Rattle.print.specs.Lines.{numbers_line, refused_plan_line, ticks_line, answer_line};
@@ -19,17 +20,10 @@ pub const SIZE: usize = 128;
 pub fn put_bytes(out: &mut [u8], at: usize, text: &[u8]) -> usize
     ensures { Printed out.old at text.now out.new result }
 {
-    let mut end = at;
-    let mut i = 0;
-    while i < text.len() {
-        if end >= out.len() {
-            return end;
-        }
-        out[end] = text[i];
-        end += 1;
-        i += 1;
-    }
-    end
+    let start = at.min(out.len());
+    let count = text.len().min(out.len() - start);
+    out[start..start + count].copy_from_slice(&text[..count]);
+    at + count
 }
 
 // Writes one byte at a place, if there is room, and gives the place after it.
@@ -43,23 +37,16 @@ fn put_byte(out: &mut [u8], at: usize, b: u8) -> usize
     at + 1
 }
 
-// Gives the byte of a digit.
-fn digit(d: u64) -> u8
-    requires { d < 10 }
-    ensures { result ≡ d + 48 }
-{
-    d as u8 + b'0'
-}
-
 // Writes a number in decimal at a place, the digits of its tenth, then its last digit, and gives the place after it.
 pub fn put_number(out: &mut [u8], at: usize, n: u64) -> usize
     ensures { Printed out.old at (decimal n) out.new result }
 {
-    if n < TEN {
-        return put_byte(out, at, digit(n));
-    }
-    let last = put_number(out, at, n / TEN);
-    put_byte(out, last, digit(n % TEN))
+    let last = if n < TEN {
+        at
+    } else {
+        put_number(out, at, n / TEN)
+    };
+    put_byte(out, last, (n % TEN) as u8 + b'0')
 }
 
 // Writes a further field of a line, a number.
@@ -70,56 +57,46 @@ fn put_field(out: &mut [u8], at: usize, n: u64) -> usize
     put_number(out, first, n)
 }
 
-// Gives the size of a signed number. That of a negative one is one more than its distance from -1, which is a signed number too.
-fn size(z: i64) -> u64
-    ensures { result ≡ nat_abs z }
-{
-    if z < 0 {
-        return (-1 - z) as u64 + 1;
-    }
-    z as u64
-}
-
 // Writes a further field of a line, a signed number.
 fn put_signed(out: &mut [u8], at: usize, z: i64) -> usize
     ensures { PrintedWithin 22 out.old at (signed_field z) out.new result }
 {
-    if z < 0 {
-        let minus = put_bytes(out, at, b" -");
-        return put_number(out, minus, size(z));
-    }
-    let first = put_byte(out, at, b' ');
-    put_number(out, first, size(z))
+    let first = if z < 0 {
+        put_bytes(out, at, b" -")
+    } else {
+        put_byte(out, at, b' ')
+    };
+    put_number(out, first, z.unsigned_abs())
 }
 
-// Writes the late mark and ends the line.
-fn put_mark(out: &mut [u8], at: usize, late: bool) -> usize
-    ensures { PrintedWithin 3 out.old at (late_mark late) out.new result }
+// Gives the late mark, with the line feed that ends its line.
+#[tactic(auto, unfolding(crate::specs::Lines::late_mark))]
+fn late_mark(late: bool) -> &'static [u8]
+    ensures { result.now ≡ late_mark late }
 {
-    if late {
-        return put_bytes(out, at, b" 1\n");
-    }
-    put_bytes(out, at, b" 0\n")
+    if late { b" 1\n" } else { b" 0\n" }
 }
 
-// Writes the word of a decision at a place.
-fn put_word(out: &mut [u8], at: usize, word: Word) -> usize
-    ensures { PrintedWithin 7 out.old at (word_text word) out.new result }
+// Gives the word of a decision.
+#[tactic(auto, unfolding(crate::specs::Lines::word_text))]
+fn word_text(word: Word) -> &'static [u8]
+    ensures { result.now ≡ word_text word }
 {
     match word {
-        Word::Go => put_bytes(out, at, b"go"),
-        Word::Suspend => put_bytes(out, at, b"suspend"),
-        Word::Stay => put_bytes(out, at, b"stay"),
+        Word::Go => b"go",
+        Word::Suspend => b"suspend",
+        Word::Stay => b"stay",
     }
 }
 
-// Writes the word of an end at a place.
-fn put_ending(out: &mut [u8], at: usize, ending: Ending) -> usize
-    ensures { PrintedWithin 6 out.old at (ending_text ending) out.new result }
+// Gives the word of an end.
+#[tactic(auto, unfolding(crate::specs::Lines::ending_text))]
+fn ending_text(ending: Ending) -> &'static [u8]
+    ensures { result.now ≡ ending_text ending }
 {
     match ending {
-        Ending::Resume => put_bytes(out, at, b"resume"),
-        Ending::Ended => put_bytes(out, at, b"ended"),
+        Ending::Resume => b"resume",
+        Ending::Ended => b"ended",
     }
 }
 
@@ -128,10 +105,8 @@ fn put_fields(out: &mut [u8], at: usize, numbers: &[u64]) -> usize
     ensures { PrintedWithin (length numbers.now * 21) out.old at (number_fields numbers.now) out.new result }
 {
     let mut end = at;
-    let mut i = 0;
-    while i < numbers.len() {
-        end = put_field(out, end, numbers[i]);
-        i += 1;
+    for n in numbers {
+        end = put_field(out, end, *n);
     }
     end
 }
@@ -150,10 +125,7 @@ pub fn numbers_line(out: &mut [u8], at: usize, word: &[u8], numbers: &[u64]) -> 
 pub fn refused_plan_line(out: &mut [u8], at: usize, number: u64, line: u64) -> usize
     ensures { PrintedWithin 128 out.old at (refused_plan_line number line) out.new result }
 {
-    let first = put_bytes(out, at, b"refused");
-    let second = put_field(out, first, number);
-    let end = put_field(out, second, line);
-    put_byte(out, end, b'\n')
+    numbers_line(out, at, b"refused", &[number, line])
 }
 
 // Writes the ticks of a release at a place: shared, suspended and their sum; and gives the place after them.
@@ -161,43 +133,8 @@ pub fn ticks_line(out: &mut [u8], at: usize, shared: u64, suspended: u64, sum: u
     ensures { PrintedWithin 63 out.old at (ticks_line shared suspended sum) out.new result }
 {
     let first = put_number(out, at, shared);
-    let second = put_field(out, first, suspended);
-    let end = put_field(out, second, sum);
+    let end = put_fields(out, first, &[suspended, sum]);
     put_byte(out, end, b'\n')
-}
-
-// Writes the line of a refused call at a place.
-fn refused_call_line(out: &mut [u8], at: usize, number: u64) -> usize
-    ensures { PrintedWithin 29 out.old at (answer_line (Refused number)) out.new result }
-{
-    let first = put_bytes(out, at, b"refused");
-    let end = put_field(out, first, number);
-    put_byte(out, end, b'\n')
-}
-
-// Writes the answer of a release or a report at a place.
-fn decision_line(
-    out: &mut [u8],
-    at: usize,
-    word: Word,
-    remaining: u64,
-    margin: i64,
-    late: bool,
-) -> usize
-    ensures { PrintedWithin 53 out.old at (answer_line (Decided word remaining margin late)) out.new result }
-{
-    let first = put_word(out, at, word);
-    let second = put_field(out, first, remaining);
-    let third = put_signed(out, second, margin);
-    put_mark(out, third, late)
-}
-
-// Writes the answer of an end at a place.
-fn end_line(out: &mut [u8], at: usize, ending: Ending, late: bool) -> usize
-    ensures { PrintedWithin 9 out.old at (answer_line (Closed ending late)) out.new result }
-{
-    let first = put_ending(out, at, ending);
-    put_mark(out, first, late)
 }
 
 // Writes the line of an answer at a place, and gives the place after it.
@@ -205,10 +142,16 @@ pub fn answer_line(out: &mut [u8], at: usize, answer: Answer) -> usize
     ensures { PrintedWithin 53 out.old at (answer_line answer) out.new result }
 {
     match answer {
-        Answer::Refused(number) => refused_call_line(out, at, number),
-        Answer::Decided(word, remaining, margin, late) => decision_line(
-            out, at, word, remaining, margin, late,
-        ),
-        Answer::Closed(ending, late) => end_line(out, at, ending, late),
+        Answer::Refused(refusal) => numbers_line(out, at, b"refused", &[u64::from(refusal)]),
+        Answer::Decided(word, remaining, margin, late) => {
+            let first = put_bytes(out, at, word_text(word));
+            let second = put_field(out, first, remaining);
+            let third = put_signed(out, second, margin);
+            put_bytes(out, third, late_mark(late))
+        }
+        Answer::Closed(ending, late) => {
+            let first = put_bytes(out, at, ending_text(ending));
+            put_bytes(out, first, late_mark(late))
+        }
     }
 }

@@ -1,5 +1,5 @@
 -- The refusals 3 to 7 and 19 as facts: what the machine asks of a form, and of forms line by line; and that this is what the measures of a tree say.
-use Prim.Native.Nat.{ℕ, suc, ◌+◌, ◌^◌, ◌≤◌, ◌<◌}
+use Prim.Native.Nat.{ℕ, ◌+◌, ◌^◌, ◌≤◌, ◌<◌}
 use mathlib.Core.Path.{◌≡◌, refl}
 use mathlib.Core.List.{List, [], ◌∷◌, ◌++◌}
 use mathlib.Core.Bool.{Bool, true, false}
@@ -14,6 +14,8 @@ use Rattle.model.specs.Levels.{height}
 use Rattle.model.specs.Places.{bit}
 use Rattle.model.proofs.Bits.{bit_below}
 use Rattle.model.specs.Acceptance.{size, depth, Numbered, Costs, Ranged}
+use Rattle.std.specs.Prelude.{Option, None}
+use Rattle.model.specs.declared.Refusal.{Refusal}
 use Rattle.reader.specs.Machine.{refuse_unless, fault}
 use Rattle.reader.specs.Print.{leaf_form, call_form, loop_form, if_form}
 
@@ -29,23 +31,23 @@ Allowed room d L n hs (Call k f c m) = (f ≤ 15) × (c ≤ 2 ^ 20) × (m ≤ 2 
 Allowed room d L n hs (Loop k b c m) = (1 ≤ b) × (b ≤ 65535) × (c ≤ 2 ^ 20) × (m ≤ 2 ^ 20) × (n < room) × (c ≤ m) × (bit k ≤ c) × (L ≤ 32) × (d < 64)
 Allowed room d L n hs (If k c m) = (c ≤ 2 ^ 20) × (m ≤ 2 ^ 20) × (n < room) × (c ≤ m) × (bit k ≤ c) × (L ≤ 32) × (d < 64)
 
-le_ok : (a b k later : ℕ) → refuse_unless (leb a b) (suc k) later ≡ 0 → (a ≤ b) × (later ≡ 0)
+le_ok : (a b : ℕ) (k : Refusal) (later : Option Refusal) → refuse_unless (leb a b) k later ≡ None → (a ≤ b) × (later ≡ None)
 le_ok a b k later = go (leb a b) refl
   where
-    go : (t : Bool) → leb a b ≡ t → refuse_unless t (suc k) later ≡ 0 → (a ≤ b) × (later ≡ 0)
+    go : (t : Bool) → leb a b ≡ t → refuse_unless t k later ≡ None → (a ≤ b) × (later ≡ None)
     go true h e = (leb-true a b h, e)
-    go false h e = absurd (omega arith)
+    go false h e = cc
 
-lt_ok : (a b k later : ℕ) → refuse_unless (ltb a b) (suc k) later ≡ 0 → (a < b) × (later ≡ 0)
+lt_ok : (a b : ℕ) (k : Refusal) (later : Option Refusal) → refuse_unless (ltb a b) k later ≡ None → (a < b) × (later ≡ None)
 lt_ok a b k later = go (ltb a b) refl
   where
-    go : (t : Bool) → ltb a b ≡ t → refuse_unless t (suc k) later ≡ 0 → (a < b) × (later ≡ 0)
+    go : (t : Bool) → ltb a b ≡ t → refuse_unless t k later ≡ None → (a < b) × (later ≡ None)
     go true h e = (ltb-true a b h, e)
-    go false h e = absurd (omega arith)
+    go false h e = cc
 
 module _ (room d L n : ℕ) (hs : List ℕ) where
   -- A form that keeps this meets no refusal.
-  pub no_fault : (f : Form) → Allowed room d L n hs f → fault room d L n hs f ≡ 0
+  pub no_fault : (f : Form) → Allowed room d L n hs f → fault room d L n hs f ≡ None
   unfolding fault
   no_fault (Task D t) (a, b, c, e) = rw (le-leb 1 D a, le-leb D (2 ^ 40) b, le-leb t (2 ^ 20) c, lt-ltb d 64 e)
   no_fault Fun (a, b) = rw (lt-ltb (length hs) 16 a, lt-ltb d 64 b)
@@ -60,51 +62,51 @@ module _ (room d L n : ℕ) (hs : List ℕ) where
   no_fault (If k c m) (p, q, r, s, z, t, u) = rw (le-leb c (2 ^ 20) p, le-leb m (2 ^ 20) q, lt-ltb n room r, le-leb c m s, le-leb (bit k) c z, le-leb L 32 t, lt-ltb d 64 u)
 
   -- A form that meets no refusal keeps it.
-  pub allowed : (f : Form) → fault room d L n hs f ≡ 0 → Allowed room d L n hs f
+  pub allowed : (f : Form) → fault room d L n hs f ≡ None → Allowed room d L n hs f
   unfolding fault
   allowed (Task D t) e =
-      let (a, e) = le_ok 1 D 2 _ e in
-      let (b, e) = le_ok D (2 ^ 40) 2 _ e in
-      let (c, e) = le_ok t (2 ^ 20) 2 _ e in
-      (a, b, c, (lt_ok d 64 6 _ e).0)
-  allowed Fun e = let (a, e) = lt_ok (length hs) 16 3 _ e in (a, (lt_ok d 64 6 _ e).0)
-  allowed Then e = (lt_ok d 64 6 _ e).0
-  allowed Else e = (lt_ok d 64 6 _ e).0
+      let (a, e) = le_ok 1 D _ _ e in
+      let (b, e) = le_ok D (2 ^ 40) _ _ e in
+      let (c, e) = le_ok t (2 ^ 20) _ _ e in
+      (a, b, c, (lt_ok d 64 _ _ e).0)
+  allowed Fun e = let (a, e) = lt_ok (length hs) 16 _ _ e in (a, (lt_ok d 64 _ _ e).0)
+  allowed Then e = (lt_ok d 64 _ _ e).0
+  allowed Else e = (lt_ok d 64 _ _ e).0
   allowed Close e = tt
   allowed (Leaf k c m) e =
-      let (p, e) = le_ok c (2 ^ 20) 2 _ e in
-      let (q, e) = le_ok m (2 ^ 20) 2 _ e in
-      let (r, e) = lt_ok n room 3 _ e in
-      let (s, e) = le_ok c m 4 _ e in
-      let (z, e) = le_ok (bit k) c 18 _ e in
-      (p, q, r, s, z, (le_ok L 32 6 _ e).0)
+      let (p, e) = le_ok c (2 ^ 20) _ _ e in
+      let (q, e) = le_ok m (2 ^ 20) _ _ e in
+      let (r, e) = lt_ok n room _ _ e in
+      let (s, e) = le_ok c m _ _ e in
+      let (z, e) = le_ok (bit k) c _ _ e in
+      (p, q, r, s, z, (le_ok L 32 _ _ e).0)
   allowed (Call k f c m) e =
-      let (o, e) = le_ok f 15 2 _ e in
-      let (p, e) = le_ok c (2 ^ 20) 2 _ e in
-      let (q, e) = le_ok m (2 ^ 20) 2 _ e in
-      let (r, e) = lt_ok n room 3 _ e in
-      let (s, e) = le_ok c m 4 _ e in
-      let (z, e) = le_ok (bit k) c 18 _ e in
-      let (u, e) = lt_ok f (length hs) 5 _ e in
-      (o, p, q, r, s, z, u, (le_ok (L + get_or hs f 0) 32 6 _ e).0)
+      let (o, e) = le_ok f 15 _ _ e in
+      let (p, e) = le_ok c (2 ^ 20) _ _ e in
+      let (q, e) = le_ok m (2 ^ 20) _ _ e in
+      let (r, e) = lt_ok n room _ _ e in
+      let (s, e) = le_ok c m _ _ e in
+      let (z, e) = le_ok (bit k) c _ _ e in
+      let (u, e) = lt_ok f (length hs) _ _ e in
+      (o, p, q, r, s, z, u, (le_ok (L + get_or hs f 0) 32 _ _ e).0)
   allowed (Loop k b c m) e =
-      let (v, e) = le_ok 1 b 2 _ e in
-      let (o, e) = le_ok b 65535 2 _ e in
-      let (p, e) = le_ok c (2 ^ 20) 2 _ e in
-      let (q, e) = le_ok m (2 ^ 20) 2 _ e in
-      let (r, e) = lt_ok n room 3 _ e in
-      let (s, e) = le_ok c m 4 _ e in
-      let (z, e) = le_ok (bit k) c 18 _ e in
-      let (t, e) = le_ok L 32 6 _ e in
-      (v, o, p, q, r, s, z, t, (lt_ok d 64 6 _ e).0)
+      let (v, e) = le_ok 1 b _ _ e in
+      let (o, e) = le_ok b 65535 _ _ e in
+      let (p, e) = le_ok c (2 ^ 20) _ _ e in
+      let (q, e) = le_ok m (2 ^ 20) _ _ e in
+      let (r, e) = lt_ok n room _ _ e in
+      let (s, e) = le_ok c m _ _ e in
+      let (z, e) = le_ok (bit k) c _ _ e in
+      let (t, e) = le_ok L 32 _ _ e in
+      (v, o, p, q, r, s, z, t, (lt_ok d 64 _ _ e).0)
   allowed (If k c m) e =
-      let (p, e) = le_ok c (2 ^ 20) 2 _ e in
-      let (q, e) = le_ok m (2 ^ 20) 2 _ e in
-      let (r, e) = lt_ok n room 3 _ e in
-      let (s, e) = le_ok c m 4 _ e in
-      let (z, e) = le_ok (bit k) c 18 _ e in
-      let (t, e) = le_ok L 32 6 _ e in
-      (p, q, r, s, z, t, (lt_ok d 64 6 _ e).0)
+      let (p, e) = le_ok c (2 ^ 20) _ _ e in
+      let (q, e) = le_ok m (2 ^ 20) _ _ e in
+      let (r, e) = lt_ok n room _ _ e in
+      let (s, e) = le_ok c m _ _ e in
+      let (z, e) = le_ok (bit k) c _ _ e in
+      let (t, e) = le_ok L 32 _ _ e in
+      (p, q, r, s, z, t, (lt_ok d 64 _ _ e).0)
 
 -- FORMS LINE BY LINE: d brackets are open, L is the level, n leaves stand before.
 unfoldable pub Good : ℕ → List ℕ → ℕ → ℕ → ℕ → Lines → Type 0

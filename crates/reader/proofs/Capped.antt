@@ -1,10 +1,12 @@
 -- Numbers from 2^41 on are all alike, since no range goes so far: the reader makes the same of a line whose numbers are held at 2^41.
-use Prim.Native.Nat.{ℕ, zero, suc, ◌^◌, ◌≤◌, ◌<◌}
+use Prim.Native.Nat.{ℕ, ◌^◌, ◌≤◌, ◌<◌}
 use mathlib.Core.Path.{◌≡◌, refl, sym, ap, ◌∙◌}
 use mathlib.Core.List.{List, []}
 use mathlib.Core.Bool.{Bool, true, false}
 use native.Mathlib.Omega.{arith}
 use lib.Dec.{leb, ltb}
+use Rattle.std.specs.Prelude.{Option, None, Some}
+use Rattle.model.specs.declared.Refusal.{Refusal}
 use borrow.Author.Tests.{leb-true}
 use Rattle.text.specs.declared.Form.{Form}
 use Rattle.text.specs.declared.Form.TheVariants.{Task, Fun, Then, Else, Close, Leaf, Call, Loop, If}
@@ -22,33 +24,33 @@ abbrev cap : ℕ → ℕ
 cap = capped (2 ^ 41)
 
 -- two tests alike: what follows need only be the same where they hold
-both : (t u : Bool) (k x y : ℕ) → t ≡ u → (u ≡ true → x ≡ y) → refuse_unless t k x ≡ refuse_unless u k y
+both : (t u : Bool) (k : Refusal) (x y : Option Refusal) → t ≡ u → (u ≡ true → x ≡ y) → refuse_unless t k x ≡ refuse_unless u k y
 both t true k x y e h = rw e (h refl)
 both t false k x y e h = rw e
 
-high : (a b k x y : ℕ) → b < 2 ^ 41 → (a ≤ b → cap a ≡ a → x ≡ y) → refuse_unless (leb (cap a) b) k x ≡ refuse_unless (leb a b) k y
+high : (a b : ℕ) (k : Refusal) (x y : Option Refusal) → b < 2 ^ 41 → (a ≤ b → cap a ≡ a → x ≡ y) → refuse_unless (leb (cap a) b) k x ≡ refuse_unless (leb a b) k y
 high a b k x y h g =
     both (leb (cap a) b) (leb a b) k x y (cap_high (2 ^ 41) a b h) (λ e. let l : a ≤ b = leb-true a b e in g l (cap_same (2 ^ 41) a (omega arith)))
 
 module _ (room d L n : ℕ) (hs : List ℕ) where
   -- of costs, with what follows
-  costs : (k : Bool) (c m : ℕ) (x y : ℕ) → (cap c ≡ c → cap m ≡ m → x ≡ y) →
-      refuse_unless (leb (cap c) (2 ^ 20)) 3 (refuse_unless (leb (cap m) (2 ^ 20)) 3 (refuse_unless (ltb n room) 4 (refuse_unless (leb (cap c) (cap m)) 5
-      (refuse_unless (leb (bit k) (cap c)) 19 x)))) ≡
-      refuse_unless (leb c (2 ^ 20)) 3 (refuse_unless (leb m (2 ^ 20)) 3 (refuse_unless (ltb n room) 4 (refuse_unless (leb c m) 5 (refuse_unless (leb (bit k) c) 19 y))))
-  costs k c m x y h = high c (2 ^ 20) 3 _ _ (omega arith) (λ l e. high m (2 ^ 20) 3 _ _ (omega arith) (λ l' e'. rw (e, e', h e e')))
+  costs : (k : Bool) (c m : ℕ) (x y : Option Refusal) → (cap c ≡ c → cap m ≡ m → x ≡ y) →
+      refuse_unless (leb (cap c) (2 ^ 20)) Refusal.Range (refuse_unless (leb (cap m) (2 ^ 20)) Refusal.Range (refuse_unless (ltb n room) Refusal.Count (refuse_unless (leb (cap c) (cap m)) Refusal.Load
+      (refuse_unless (leb (bit k) (cap c)) Refusal.Costless x)))) ≡
+      refuse_unless (leb c (2 ^ 20)) Refusal.Range (refuse_unless (leb m (2 ^ 20)) Refusal.Range (refuse_unless (ltb n room) Refusal.Count (refuse_unless (leb c m) Refusal.Load (refuse_unless (leb (bit k) c) Refusal.Costless y))))
+  costs k c m x y h = high c (2 ^ 20) Refusal.Range _ _ (omega arith) (λ l e. high m (2 ^ 20) Refusal.Range _ _ (omega arith) (λ l' e'. rw (e, e', h e e')))
 
   cap_fault : (f : Form) → fault room d L n hs (cap_form f) ≡ fault room d L n hs f
   unfolding fault
   cap_fault (Task x y) =
-      both _ _ 3 _ _ (cap_low (2 ^ 41) x (omega arith)) (λ _. high x (2 ^ 40) 3 _ _ (omega arith) (λ l e. high y (2 ^ 20) 3 _ _ (omega arith) (λ l' e'. refl)))
+      both _ _ Refusal.Range _ _ (cap_low (2 ^ 41) x (omega arith)) (λ _. high x (2 ^ 40) Refusal.Range _ _ (omega arith) (λ l e. high y (2 ^ 20) Refusal.Range _ _ (omega arith) (λ l' e'. refl)))
   cap_fault Fun = refl
   cap_fault Then = refl
   cap_fault Else = refl
   cap_fault Close = refl
   cap_fault (Leaf k c m) = costs k c m _ _ (λ e e'. refl)
-  cap_fault (Call k f c m) = high f 15 3 _ _ (omega arith) (λ l q. costs k c m _ _ (λ e e'. rw q))
-  cap_fault (Loop k b c m) = both _ _ 3 _ _ (cap_low (2 ^ 41) b (omega arith)) (λ _. high b 65535 3 _ _ (omega arith) (λ l q. costs k c m _ _ (λ e e'. refl)))
+  cap_fault (Call k f c m) = high f 15 Refusal.Range _ _ (omega arith) (λ l q. costs k c m _ _ (λ e e'. rw q))
+  cap_fault (Loop k b c m) = both _ _ Refusal.Range _ _ (cap_low (2 ^ 41) b (omega arith)) (λ _. high b 65535 Refusal.Range _ _ (omega arith) (λ l q. costs k c m _ _ (λ e e'. refl)))
   cap_fault (If k c m) = costs k c m _ _ (λ e e'. refl)
 
 -- where nothing is at fault nothing was held
@@ -66,16 +68,16 @@ uncapped room d L n hs (Loop k b c m) (v, o, p, q, r, s, z, t, u) =
 uncapped room d L n hs (If k c m) (p, q, r, s, z, t, u) = rw (cap_same (2 ^ 41) c (omega arith), cap_same (2 ^ 41) m (omega arith))
 
 -- where something is, only that matters: which fault, and whether the form may stand there
-verdict : Next → ℕ → Turn
-verdict stuck k = stop 2
-verdict (to S) k = stop (suc k)
+verdict : Next → Refusal → Turn
+verdict stuck k = stop Refusal.Form
+verdict (to S) k = stop k
 
-form_first_verdict : (x : Next) (k n : ℕ) → form_first x (suc k) n ≡ verdict x k
+form_first_verdict : (x : Next) (k : Refusal) (n : ℕ) → form_first x (Some k) n ≡ verdict x k
 unfolding verdict
 form_first_verdict stuck k n = refl
 form_first_verdict (to S) k n = refl
 
-cap_verdict : (S : ParserState) (n k : ℕ) (f : Form) → verdict (next S n (cap_form f)) k ≡ verdict (next S n f) k
+cap_verdict : (S : ParserState) (n : ℕ) (k : Refusal) (f : Form) → verdict (next S n (cap_form f)) k ≡ verdict (next S n f) k
 unfolding verdict
 cap_verdict start n j (Task x y) = refl
 cap_verdict start n j Fun = refl
@@ -145,10 +147,10 @@ cap_verdict (done p) n j (If k c m) = refl
 pub turn_capped : (room : ℕ) (S : ParserState) (n : ℕ) (f : Form) → line_turn room S n (form (cap_form f)) ≡ line_turn room S n (form f)
 turn_capped room S n f = here (fault room (brackets S) (level S) n (heights [] (functions_of S)) f) refl
   where
-    here : (k : ℕ) → fault room (brackets S) (level S) n (heights [] (functions_of S)) f ≡ k → line_turn room S n (form (cap_form f)) ≡ line_turn room S n (form f)
-    here zero e = ap (λ x. line_turn room S n (form x)) (uncapped room (brackets S) (level S) n (heights [] (functions_of S)) f (allowed room (brackets S) (level S) n (heights [] (functions_of S)) f e))
-    here (suc k) e =
-        let q : fault room (brackets S) (level S) n (heights [] (functions_of S)) (cap_form f) ≡ suc k = cap_fault room (brackets S) (level S) n (heights [] (functions_of S)) f ∙ e in
+    here : (k : Option Refusal) → fault room (brackets S) (level S) n (heights [] (functions_of S)) f ≡ k → line_turn room S n (form (cap_form f)) ≡ line_turn room S n (form f)
+    here None e = ap (λ x. line_turn room S n (form x)) (uncapped room (brackets S) (level S) n (heights [] (functions_of S)) f (allowed room (brackets S) (level S) n (heights [] (functions_of S)) f e))
+    here (Some k) e =
+        let q : fault room (brackets S) (level S) n (heights [] (functions_of S)) (cap_form f) ≡ Some k = cap_fault room (brackets S) (level S) n (heights [] (functions_of S)) f ∙ e in
         rw (q, e) (form_first_verdict (next S n (cap_form f)) k (counted n (cap_form f)) ∙ (cap_verdict S n k f ∙ sym (form_first_verdict (next S n f) k (counted n f))))
 
 -- A line whose form, with its numbers held, is g: what reading a line gives.

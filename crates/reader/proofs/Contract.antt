@@ -1,12 +1,14 @@
 -- The contract of a recursion that reads forms, and one law for each kind of line. Such a recursion holds no stack: everything is said for all that
 -- may be open around (p, K) and for all forms before (fs). It holds the heights hs of the closed functions, d open brackets, the level L, n leaves and
 -- the line number i; it gives back the leaves m, the line j, the height h and the records rs of what it read, and the lines ks that are left.
-use Prim.Native.Nat.{ℕ, suc, ◌+◌, ◌≤◌, ◌<◌, max}
+use Prim.Native.Nat.{ℕ, ◌+◌, ◌≤◌, ◌<◌, max}
 use mathlib.Core.Path.{◌≡◌, refl, sym, ap, ap₂, ◌∙◌}
 use mathlib.Core.List.{List, [], ◌∷◌, ◌++◌, append-nil}
 use mathlib.Core.Bool.{Bool}
 use native.Mathlib.Omega.{arith}
 use lib.ListN.{length, get_or}
+use Rattle.std.specs.Prelude.{None, Some}
+use Rattle.model.specs.declared.Refusal.{Refusal}
 use Rattle.text.specs.declared.Form.{Form}
 use Rattle.text.specs.declared.Form.TheVariants.{Task, Fun, Then, Else, Close, Leaf, Call, Loop, If}
 use Rattle.text.specs.Grammar.{no_form, form, line_form}
@@ -32,21 +34,21 @@ judge room S n i {us} {l} {ks} f z a = ap (run room S n i) z ∙ ap (λ (t : Tur
 
 -- A form that may stand there and meets none of the refusals 3 to 7 and 19 is taken.
 pub taken : (room : ℕ) (S S' : ParserState) (n i : ℕ) {us : List (List ℕ)} {l : List ℕ} {ks : List (List ℕ)} (f : Form) → us ≡ l ∷ ks → Held l f → next S n f ≡ to S' →
-    fault room (brackets S) (level S) n (heights [] (functions_of S)) f ≡ 0 → run room S n i us ≡ run room S' (counted n f) (i + 1) ks
+    fault room (brackets S) (level S) n (heights [] (functions_of S)) f ≡ None → run room S n i us ≡ run room S' (counted n f) (i + 1) ks
 taken room S S' n i f z a b c = judge room S n i f z a ∙ rw (b, c)
 
 -- A form that may stand there and meets one of them is refused by it, at its line.
-pub broken : (room : ℕ) (S S' : ParserState) (n i k : ℕ) {us : List (List ℕ)} {l : List ℕ} {ks : List (List ℕ)} (f : Form) → us ≡ l ∷ ks → Held l f → next S n f ≡ to S' →
-    fault room (brackets S) (level S) n (heights [] (functions_of S)) f ≡ suc k → run room S n i us ≡ refused (suc k) i
+pub broken : (room : ℕ) (S S' : ParserState) (n i : ℕ) (k : Refusal) {us : List (List ℕ)} {l : List ℕ} {ks : List (List ℕ)} (f : Form) → us ≡ l ∷ ks → Held l f → next S n f ≡ to S' →
+    fault room (brackets S) (level S) n (heights [] (functions_of S)) f ≡ Some k → run room S n i us ≡ refused k i
 broken room S S' n i k f z a b c = judge room S n i f z a ∙ rw (b, c)
 
 -- A form that may not stand there is refused by 2.
 pub misplaced : (room : ℕ) (S : ParserState) (n i : ℕ) {us : List (List ℕ)} {l : List ℕ} {ks : List (List ℕ)} (f : Form) → us ≡ l ∷ ks → Held l f → next S n f ≡ stuck →
-    run room S n i us ≡ refused 2 i
+    run room S n i us ≡ refused Refusal.Form i
 misplaced room S n i f z a b = judge room S n i f z a ∙ rw b
 
 -- A line that is no form is refused by 2.
-pub no_line : (room : ℕ) (S : ParserState) (n i : ℕ) {us : List (List ℕ)} {l : List ℕ} {ks : List (List ℕ)} → us ≡ l ∷ ks → line_form l ≡ no_form → run room S n i us ≡ refused 2 i
+pub no_line : (room : ℕ) (S : ParserState) (n i : ℕ) {us : List (List ℕ)} {l : List ℕ} {ks : List (List ℕ)} → us ≡ l ∷ ks → line_form l ≡ no_form → run room S n i us ≡ refused Refusal.Form i
 unfolding run
 no_line room S n i z a = ap (run room S n i) z ∙ rw a
 
@@ -92,12 +94,12 @@ in_else_stands p K b ts fs st = record { known = st.known; opened = ap (λ x. x 
 
 module _ (room : ℕ) {hs : List ℕ} {d L : ℕ} (n i : ℕ) {us : List (List ℕ)} {l : List ℕ} {ks : List (List ℕ)} (z : us ≡ l ∷ ks) (p : Plan) (K : Around) (fs : Lines) (st : Stands p K hs d L) where
   -- A loop's line leads into its body.
-  pub loop_opens : (k : Bool) (b c v : ℕ) → Held l (Loop k b c v) → fault room d L n hs (Loop k b c v) ≡ 0 →
+  pub loop_opens : (k : Bool) (b c v : ℕ) → Held l (Loop k b c v) → fault room d L n hs (Loop k b c v) ≡ None →
       run room (body p K fs) n i us ≡ run room (body p (in_loop (block n k c v) b fs K) close) (n + 1) (i + 1) ks
   unfolding brackets level functions_of
   loop_opens k b c v a e = taken room (body p K fs) _ n i (Loop k b c v) z a refl (rw (st.known, st.opened, st.floor) e)
 
-  module _ (k : Bool) (c v : ℕ) (a : Held l (If k c v)) (e : fault room d L n hs (If k c v) ≡ 0) where
+  module _ (k : Bool) (c v : ℕ) (a : Held l (If k c v)) (e : fault room d L n hs (If k c v) ≡ None) where
     -- An if's line leads to where its then part must come.
     pub if_opens : run room (body p K fs) n i us ≡ run room (await_then p K (block n k c v) fs) (n + 1) (i + 1) ks
     unfolding brackets level functions_of
@@ -173,7 +175,7 @@ module _ {room : ℕ} {hs : List ℕ} {d L : ℕ} where
         }
 
     -- A leaf line.
-    pub forming_leaf : (k : Bool) (c v : ℕ) → Held l (Leaf k c v) → fault room d L m hs (Leaf k c v) ≡ 0 →
+    pub forming_leaf : (k : Bool) (c v : ℕ) → Held l (Leaf k c v) → fault room d L m hs (Leaf k c v) ≡ None →
         Forming room hs d L n i ls (m + 1) (j + 1) (max h 1) (rs ++ entry 0 (block m k c v) 0 0 (m + 1) L) ks
     unfolding size height records brackets level functions_of
     forming_leaf k c v a b =
@@ -181,7 +183,7 @@ module _ {room : ℕ} {hs : List ℕ} {d L : ℕ} where
         (λ p K fs st. taken room (body p K fs) _ m j (Leaf k c v) z a refl (rw (st.known, st.opened, st.floor) b))
 
     -- A call line.
-    pub forming_call : (k : Bool) (f c v : ℕ) → Held l (Call k f c v) → fault room d L m hs (Call k f c v) ≡ 0 →
+    pub forming_call : (k : Bool) (f c v : ℕ) → Held l (Call k f c v) → fault room d L m hs (Call k f c v) ≡ None →
         Forming room hs d L n i ls (m + 1) (j + 1) (max h (1 + get_or hs f 0)) (rs ++ entry 1 (block m k c v) f 0 (m + 1) L) ks
     unfolding size height records brackets level functions_of
     forming_call k f c v a b =
@@ -189,7 +191,7 @@ module _ {room : ℕ} {hs : List ℕ} {d L : ℕ} where
         (λ p K fs st. taken room (body p K fs) _ m j (Call k f c v) z a refl (rw (st.known, st.opened, st.floor) b))
 
     -- A loop: its line, and its body by the same contract with one bracket and one level more.
-    pub forming_loop : (k : Bool) (b c v : ℕ) → Held l (Loop k b c v) → fault room d L m hs (Loop k b c v) ≡ 0 →
+    pub forming_loop : (k : Bool) (b c v : ℕ) → Held l (Loop k b c v) → fault room d L m hs (Loop k b c v) ≡ None →
         {m' j' h' : ℕ} {rs' : List ℕ} {ks' : List (List ℕ)} → Enclosed room hs (d + 1) (L + 1) (m + 1) (j + 1) ks m' j' h' rs' ks' →
         Forming room hs d L n i ls m' j' (max h (1 + h')) (rs ++ (entry 2 (block m k c v) b 0 m' L ++ rs')) ks'
     unfolding size height records ◌⧺◌
@@ -199,7 +201,7 @@ module _ {room : ℕ} {hs : List ℕ} {d L : ℕ} where
         (λ p K fs st. loop_opens room m j z p K fs st k b c v a e ∙ got.same p (in_loop (block m k c v) b fs K) close (in_loop_stands p K (block m k c v) b fs st))
 
     -- An if: its line, `(then`, the then part with two brackets more, `(else`, the else part with two brackets more, and its `)`.
-    pub forming_if : (k : Bool) (c v : ℕ) → Held l (If k c v) → fault room d L m hs (If k c v) ≡ 0 → d + 1 < 64 →
+    pub forming_if : (k : Bool) (c v : ℕ) → Held l (If k c v) → fault room d L m hs (If k c v) ≡ None → d + 1 < 64 →
         {l₁ : List ℕ} {ks₁ : List (List ℕ)} → ks ≡ l₁ ∷ ks₁ → Held l₁ Then →
         {m₁ j₁ h₁ : ℕ} {rs₁ : List ℕ} {us₂ : List (List ℕ)} → Enclosed room hs (d + 2) L (m + 1) (j + 1 + 1) ks₁ m₁ j₁ h₁ rs₁ us₂ →
         {l₂ : List ℕ} {ks₂ : List (List ℕ)} → us₂ ≡ l₂ ∷ ks₂ → Held l₂ Else →
@@ -235,7 +237,7 @@ pub record Reading (room : ℕ) (ls : List (List ℕ)) (p : Plan) (n i : ℕ) (h
   pub same : run room start 0 1 ls ≡ run room (task p) n i us
 
 -- The task line.
-pub reading_start : (room : ℕ) {ls : List (List ℕ)} {l : List ℕ} {ks : List (List ℕ)} (D T : ℕ) → ls ≡ l ∷ ks → Held l (Task D T) → fault room 0 0 0 [] (Task D T) ≡ 0 →
+pub reading_start : (room : ℕ) {ls : List (List ℕ)} {l : List ℕ} {ks : List (List ℕ)} (D T : ℕ) → ls ≡ l ∷ ks → Held l (Task D T) → fault room 0 0 0 [] (Task D T) ≡ None →
     Reading room ls (record { deadline = D; switch = T; functions = [] }) 0 2 [] [] (0 ∷ []) ks
 unfolding sizes heights brackets level functions_of records_all bounds
 reading_start room D T z a b = record { sized = refl; known = refl; rows = refl; bounded = refl; same = taken room start _ 0 1 (Task D T) z a refl b }
@@ -247,12 +249,12 @@ in_fun_stands g = record { known = g.known; opened = refl; floor = refl }
 
 module _ {room : ℕ} {ls : List (List ℕ)} {p : Plan} {n i : ℕ} {hs rs bs : List ℕ} {us : List (List ℕ)} (g : Reading room ls p n i hs rs bs us) {l : List ℕ} {ks : List (List ℕ)} (z : us ≡ l ∷ ks) where
   -- A function's line leads into its body, with two brackets, at level 1.
-  pub fun_opens : Held l Fun → fault room 1 0 n hs Fun ≡ 0 → run room start 0 1 ls ≡ run room (body p in_fun close) n (i + 1) ks
+  pub fun_opens : Held l Fun → fault room 1 0 n hs Fun ≡ None → run room start 0 1 ls ≡ run room (body p in_fun close) n (i + 1) ks
   unfolding brackets level functions_of
   fun_opens a b = g.same ∙ taken room (task p) (body p in_fun close) n i Fun z a refl (rw g.known b)
 
   -- A function: its line, and its body by the contract.
-  pub reading_fun : Held l Fun → fault room 1 0 n hs Fun ≡ 0 → {m j h : ℕ} {rs' : List ℕ} {ks' : List (List ℕ)} → (got : Enclosed room hs 2 1 n (i + 1) ks m j h rs' ks') →
+  pub reading_fun : Held l Fun → fault room 1 0 n hs Fun ≡ None → {m j h : ℕ} {rs' : List ℕ} {ks' : List (List ℕ)} → (got : Enclosed room hs 2 1 n (i + 1) ks m j h rs' ks') →
       Reading room ls (with_function p got.forms) m j (hs ++ (h ∷ [])) (rs ++ rs') (bs ++ (m ∷ [])) ks'
   unfolding ◌⧺◌
   reading_fun a b {m} {j} {h} {rs'} {ks'} got =

@@ -10,7 +10,6 @@ pub mod OneRow
 pub mod Capped
 pub mod Contract
 pub mod Halts
-pub mod Faults
 pub mod Stores
 pub mod Bodies
 pub mod Tasks

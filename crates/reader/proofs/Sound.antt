@@ -1,12 +1,14 @@
 -- What the reader accepts is the text of the plan that it finds, and that plan keeps the rules: every step keeps an invariant of the state, and adds
 -- its form to those that were read (`Steps`).
-use Prim.Native.Nat.{ℕ, zero, suc, ◌+◌, ◌^◌, ◌≤◌, ◌<◌, min}
+use Prim.Native.Nat.{ℕ, ◌+◌, ◌^◌, ◌≤◌, ◌<◌, min}
 use mathlib.Core.Path.{◌≡◌, refl, sym, ap, ap₂, ◌∙◌, subst}
 use mathlib.Core.List.{List, [], ◌∷◌, ◌++◌, append_assoc, append-nil, map}
 use mathlib.Core.Bool.{Bool, true, false}
 use native.Mathlib.Omega.{arith}
 use lib.ListN.{length, length-append}
 use lib.Dec.{leb}
+use Rattle.std.specs.Prelude.{Option, None, Some}
+use Rattle.model.specs.declared.Refusal.{Refusal}
 use Rattle.text.specs.Text.{lines}
 use Rattle.model.specs.Places.{pick}
 use Rattle.text.specs.declared.Form.{Form}
@@ -122,24 +124,24 @@ module _ (room : ℕ) where
       (o, w, omega (arith, size-⧺ fs l))
 
 -- THE RUN
-never_plan : {A : Type 0} {p : Plan} {k i : ℕ} → refused k i ≡ plan p → A
-never_plan e = let z : ◌≡◌ {A = ℕ} 0 1 = cc in absurd (omega arith)
+never_plan : {A : Type 0} {p : Plan} {k : Refusal} {i : ℕ} → refused k i ≡ plan p → A
+never_plan e = cc
 
 -- a line by which the machine went on
 pub record Went (room : ℕ) (S : ParserState) (n : ℕ) (f : Form) (S' : ParserState) (n' : ℕ) : Type 0 where
   pub step : next S n f ≡ to S'
   pub leaves : n' ≡ counted n f
-  pub faultless : fault room (brackets S) (level S) n (heights [] (functions_of S)) f ≡ 0
+  pub faultless : fault room (brackets S) (level S) n (heights [] (functions_of S)) f ≡ None
 
 went : (room : ℕ) (S : ParserState) (n i : ℕ) (f : Form) (then : ParserState → ℕ → Outcome) (p : Plan) → onwards (line_turn room S n (form f)) i then ≡ plan p →
     (S' : ParserState) × (n' : ℕ) × Went room S n f S' n' × (then S' n' ≡ plan p)
 went room S n i f then p e = here (next S n f) (fault room (brackets S) (level S) n (heights [] (functions_of S)) f) refl refl e
   where
-    here : (x : Next) (k : ℕ) → next S n f ≡ x → fault room (brackets S) (level S) n (heights [] (functions_of S)) f ≡ k → onwards (form_first x k (counted n f)) i then ≡ plan p →
+    here : (x : Next) (k : Option Refusal) → next S n f ≡ x → fault room (brackets S) (level S) n (heights [] (functions_of S)) f ≡ k → onwards (form_first x k (counted n f)) i then ≡ plan p →
         (S' : ParserState) × (n' : ℕ) × Went room S n f S' n' × (then S' n' ≡ plan p)
     here stuck k a b e = never_plan e
-    here (to S') zero a b e = (S', counted n f, record { step = a; leaves = refl; faultless = b }, e)
-    here (to S') (suc k) a b e = never_plan e
+    here (to S') None a b e = (S', counted n f, record { step = a; leaves = refl; faultless = b }, e)
+    here (to S') (Some k) a b e = never_plan e
 
 -- The lines of an accepted text are spelled forms.
 unspelled : (room : ℕ) (ls : List (List ℕ)) (S : ParserState) (n i : ℕ) (p : Plan) → run room S n i ls ≡ plan p →
@@ -233,6 +235,6 @@ sound row text p e = here (leb (length text) 65536) e
         let (w, h) = well_formed row p m i in
         (printed_as text fs p s z, w, h)
 
-    here : (x : Bool) → pick x (run (min 512 row) start 0 1 (lines text)) (refused 1 0) ≡ plan p → (text ≡ print p) × Formed p × Fits row p
+    here : (x : Bool) → pick x (run (min 512 row) start 0 1 (lines text)) (refused Refusal.Oversize 0) ≡ plan p → (text ≡ print p) × Formed p × Fits row p
     here true e = reading e
     here false e = never_plan e

@@ -12,23 +12,18 @@ use Rattle.model.specs.Plan.{Lines, Plan}
 use Rattle.model.specs.Levels.{heights}
 use Rattle.text.specs.declared.Form.{Form}
 use Rattle.text.specs.declared.Form.TheVariants.{Task, Fun, Then, Else, Close, Leaf, Call, Loop, If}
-use Rattle.text.specs.declared.Read.{Read}
-use Rattle.text.specs.declared.Read.TheVariants.{Unread, Line}
 use Rattle.text.specs.Text.{lines, line_at}
 use Rattle.text.specs.Grammar.{no_form, line_form, read_at, Found, Means}
 use Rattle.text.proofs.Theorems.{read_means, lines_found, lines_at, lines_end}
-use Rattle.reader.specs.declared.Answer.{Answer}
-use Rattle.reader.specs.declared.Answer.TheVariants.{Accepted, Refused}
+use Rattle.std.specs.Prelude.{Option, None, Some, Result, Ok, Err}
+use Rattle.model.specs.declared.Refusal.{Refusal}
+use Rattle.reader.specs.declared.RefusedAt.{RefusedAt}
 use Rattle.reader.specs.declared.Raw.{Raw}
-use Rattle.reader.specs.declared.Member.{Member}
-use Rattle.reader.specs.declared.Member.TheVariants.{Neither, Function, End}
-use Rattle.reader.specs.declared.Head.{Head}
-use Rattle.reader.specs.declared.Head.TheVariants.{Not, Opens}
 use Rattle.reader.specs.Machine.{start, task, done, brackets, level, functions_of, stuck, in_task, closed_task, with_function, fault, run, outcome}
 use Rattle.reader.specs.Outcome.{Outcome, plan, refused}
 use Rattle.rows.specs.Records.{records, row_of}
-use Rattle.reader.specs.Raw.{padded, refused_raw, accepted_raw, raw_of, row_left, Written}
-use Rattle.reader.specs.Private.{of_task, member_of, judged_head, first_line, ended_raw, Halted, FormsDone, TextAt}
+use Rattle.reader.specs.Raw.{padded, raw_with, raw_of, row_left, Written}
+use Rattle.reader.specs.Private.{of_task, judged_head, first_line, ended_raw, Halted, FormsDone, TextAt}
 use Rattle.reader.proofs.Allowed.{no_fault}
 use Rattle.reader.proofs.Capped.{Held, found_held}
 use Rattle.rows.proofs.Records.{records_all_length, bounds_length}
@@ -67,39 +62,40 @@ padded_same (suc N) (x ∷ xs) (suc j) h = padded_same N xs j (omega arith)
 -- THE ANSWER
 
 -- A refusal is answered by itself.
-pub text_refused : {s : List ℕ} {room : ℕ} {R₀ R : List ℕ} {r : Raw} (k j : ℕ) → run room start 0 1 (lines s) ≡ refused k j → r ≡ refused_raw k j → TextAt s room R₀ R r
-text_refused {R₀ = R₀} {R} k j e q = record { answers = q ∙ ap raw_of (sym e); writes = subst (λ o. Written o R₀ R) (sym e) tt }
+pub text_refused : {s : List ℕ} {room : ℕ} {R₀ R : List ℕ} {k : Refusal} {j : ℕ} → run room start 0 1 (lines s) ≡ refused k j →
+    TextAt s room R₀ R (Err (record { refusal = k; line = j }))
+text_refused {R₀ = R₀} {R} e = record { answers = ap raw_of (sym e); writes = subst (λ o. Written o R₀ R) (sym e) tt }
 
 -- A plan is answered by its numbers.
-text_plan : {s : List ℕ} {room : ℕ} {R₀ R : List ℕ} {r : Raw} (p : Plan) → run room start 0 1 (lines s) ≡ plan p → r ≡ raw_of (plan p) → R ≡ sets R₀ 0 (row_of p) → TextAt s room R₀ R r
+text_plan : {s : List ℕ} {room : ℕ} {R₀ R : List ℕ} {r : Result Raw RefusedAt} (p : Plan) → run room start 0 1 (lines s) ≡ plan p → r ≡ raw_of (plan p) → R ≡ sets R₀ 0 (row_of p) → TextAt s room R₀ R r
 text_plan {R₀ = R₀} {R} p e q f = record { answers = q ∙ ap raw_of (sym e); writes = subst (λ o. Written o R₀ R) (sym e) f }
 
 -- THE FIRST LINE
 
-abbrev pub HeadAt : List ℕ → ℕ → Head → Type 0
-HeadAt s room (Not k) = run room start 0 1 (lines s) ≡ refused k 1
-HeadAt s room (Opens D t e) = Found s 0 (Task D t) e × (of_task D t ≡ 0)
+abbrev pub HeadAt : List ℕ → ℕ → Result (ℕ × ℕ × ℕ) Refusal → Type 0
+HeadAt s room (Err k) = run room start 0 1 (lines s) ≡ refused k 1
+HeadAt s room (Ok q) = Found s 0 (Task q.0 q.1) q.2 × (of_task q.0 q.1 ≡ None)
 
 module _ (s : List ℕ) (room : ℕ) where
-  judged_at : (D t e : ℕ) → Found s 0 (Task D t) e → (x : ℕ) → of_task D t ≡ x → HeadAt s room (judged_head x D t e)
+  judged_at : (D t e : ℕ) → Found s 0 (Task D t) e → (x : Option Refusal) → of_task D t ≡ x → HeadAt s room (judged_head x D t e)
   unfolding brackets level functions_of fault heights
-  judged_at D t e w zero q = (w, q)
-  judged_at D t e w (suc x) q = broken room start (task (record { deadline = D; switch = t; functions = [] })) 0 1 x (Task D t) (lines_found w) (found_held w) refl q
+  judged_at D t e w None q = (w, q)
+  judged_at D t e w (Some x) q = broken room start (task (record { deadline = D; switch = t; functions = [] })) 0 1 x (Task D t) (lines_found w) (found_held w) refl q
 
-  head_at : (r : Read) → Means s 0 r → HeadAt s room (first_line r)
-  head_at Unread w = no_line_at s 0 w (λ q. start_end room q) (λ l ks z a. no_line room start 0 1 z a)
-  head_at (Line (Task D t) e) w = judged_at D t e w (of_task D t) refl
-  head_at (Line Fun e) w = misplaced room start 0 1 Fun (lines_found w) (found_held w) refl
-  head_at (Line Then e) w = misplaced room start 0 1 Then (lines_found w) (found_held w) refl
-  head_at (Line Else e) w = misplaced room start 0 1 Else (lines_found w) (found_held w) refl
-  head_at (Line Close e) w = misplaced room start 0 1 Close (lines_found w) (found_held w) refl
-  head_at (Line (Leaf k c m) e) w = misplaced room start 0 1 (Leaf k c m) (lines_found w) (found_held w) refl
-  head_at (Line (Call k f c m) e) w = misplaced room start 0 1 (Call k f c m) (lines_found w) (found_held w) refl
-  head_at (Line (Loop k b c m) e) w = misplaced room start 0 1 (Loop k b c m) (lines_found w) (found_held w) refl
-  head_at (Line (If k c m) e) w = misplaced room start 0 1 (If k c m) (lines_found w) (found_held w) refl
+  head_at : (r : Option (Form × ℕ)) → Means s 0 r → HeadAt s room (first_line r)
+  head_at None w = no_line_at s 0 w (λ q. start_end room q) (λ l ks z a. no_line room start 0 1 z a)
+  head_at (Some (Task D t, e)) w = judged_at D t e w (of_task D t) refl
+  head_at (Some (Fun, e)) w = misplaced room start 0 1 Fun (lines_found w) (found_held w) refl
+  head_at (Some (Then, e)) w = misplaced room start 0 1 Then (lines_found w) (found_held w) refl
+  head_at (Some (Else, e)) w = misplaced room start 0 1 Else (lines_found w) (found_held w) refl
+  head_at (Some (Close, e)) w = misplaced room start 0 1 Close (lines_found w) (found_held w) refl
+  head_at (Some (Leaf k c m, e)) w = misplaced room start 0 1 (Leaf k c m) (lines_found w) (found_held w) refl
+  head_at (Some (Call k f c m, e)) w = misplaced room start 0 1 (Call k f c m) (lines_found w) (found_held w) refl
+  head_at (Some (Loop k b c m, e)) w = misplaced room start 0 1 (Loop k b c m) (lines_found w) (found_held w) refl
+  head_at (Some (If k c m, e)) w = misplaced room start 0 1 (If k c m) (lines_found w) (found_held w) refl
 
   -- What `task_line` answers is so.
-  pub head_means : {r : Head} → r ≡ first_line (read_at s 0) → HeadAt s room r
+  pub head_means : {r : Result (ℕ × ℕ × ℕ) Refusal} → r ≡ first_line (read_at s 0) → HeadAt s room r
   head_means q = subst (HeadAt s room) (sym q) (head_at (read_at s 0) (read_means s 0 (read_at s 0) refl))
 
 -- A LINE IN THE TASK
@@ -110,30 +106,42 @@ pub data Strays (us : List (List ℕ)) : Type 0 where
   unread : (l : List ℕ) (ks : List (List ℕ)) → us ≡ l ∷ ks → line_form l ≡ no_form → Strays us
   other : (l : List ℕ) (ks : List (List ℕ)) (f : Form) → us ≡ l ∷ ks → Held l f → ((p : Plan) → in_task p f ≡ stuck) → Strays us
 
-abbrev pub MemberAt : List ℕ → ℕ → Member → Type 0
-MemberAt s at Neither = Strays (lines (drop at s))
-MemberAt s at (Function e) = Found s at Fun e
-MemberAt s at (End e) = Found s at Close e
+-- A line in the task is a function's or the closing bracket; or it is neither.
+abbrev pub is_member : Option (Form × ℕ) → Bool
+is_member None = false
+is_member (Some (Task d t, e)) = false
+is_member (Some (Fun, e)) = true
+is_member (Some (Then, e)) = false
+is_member (Some (Else, e)) = false
+is_member (Some (Close, e)) = true
+is_member (Some (Leaf k c m, e)) = false
+is_member (Some (Call k f c m, e)) = false
+is_member (Some (Loop k b c m, e)) = false
+is_member (Some (If k c m, e)) = false
 
 module _ (s : List ℕ) (at : ℕ) where
   another : (f : Form) (e : ℕ) → Found s at f e → ((p : Plan) → in_task p f ≡ stuck) → Strays (lines (drop at s))
   another f e w a = other (line_at s at) (lines (drop e s)) f (lines_found w) (found_held w) a
 
-  member_at : (r : Read) → Means s at r → MemberAt s at (member_of r)
-  member_at Unread w = no_line_at s at w (λ q. no_more q) (λ l ks z a. unread l ks z a)
-  member_at (Line (Task x y) e) w = another (Task x y) e w (λ p. refl)
-  member_at (Line Fun e) w = w
-  member_at (Line Then e) w = another Then e w (λ p. refl)
-  member_at (Line Else e) w = another Else e w (λ p. refl)
-  member_at (Line Close e) w = w
-  member_at (Line (Leaf k c m) e) w = another (Leaf k c m) e w (λ p. refl)
-  member_at (Line (Call k f c m) e) w = another (Call k f c m) e w (λ p. refl)
-  member_at (Line (Loop k b c m) e) w = another (Loop k b c m) e w (λ p. refl)
-  member_at (Line (If k c m) e) w = another (If k c m) e w (λ p. refl)
+  strays_at : (r : Option (Form × ℕ)) → Means s at r → is_member r ≡ false → Strays (lines (drop at s))
+  strays_at None w h = no_line_at s at w (λ q. no_more q) (λ l ks z a. unread l ks z a)
+  strays_at (Some (Task x y, e)) w h = another (Task x y) e w (λ p. refl)
+  strays_at (Some (Fun, e)) w h = cc
+  strays_at (Some (Then, e)) w h = another Then e w (λ p. refl)
+  strays_at (Some (Else, e)) w h = another Else e w (λ p. refl)
+  strays_at (Some (Close, e)) w h = cc
+  strays_at (Some (Leaf k c m, e)) w h = another (Leaf k c m) e w (λ p. refl)
+  strays_at (Some (Call k f c m, e)) w h = another (Call k f c m) e w (λ p. refl)
+  strays_at (Some (Loop k b c m, e)) w h = another (Loop k b c m) e w (λ p. refl)
+  strays_at (Some (If k c m, e)) w h = another (If k c m) e w (λ p. refl)
 
-  -- What `in_task` answers is so.
-  pub member_means : {r : Member} → r ≡ member_of (read_at s at) → MemberAt s at r
-  member_means q = subst (MemberAt s at) (sym q) (member_at (read_at s at) (read_means s at (read_at s at) refl))
+  -- What `line` answers there is neither.
+  pub strays_means : {r : Option (Form × ℕ)} → r ≡ read_at s at → is_member r ≡ false → Strays (lines (drop at s))
+  strays_means {r} q h = strays_at r (read_means s at r q) h
+
+  -- What `line` answers there is found.
+  pub member_means : {f : Form} {e : ℕ} → Some (f, e) ≡ read_at s at → Found s at f e
+  member_means {f} {e} q = read_means s at (Some (f, e)) q
 
 -- THE FUNCTIONS, one after the other
 
@@ -157,7 +165,7 @@ pub record Holding (s : List ℕ) (room D t : ℕ) (R₀ : List ℕ) (at i n own
   pub fits : n ≤ room
 
 -- Behind the task line.
-pub holding_start : {s : List ℕ} {room D t e : ℕ} (R : List ℕ) → Found s 0 (Task D t) e → of_task D t ≡ 0 → Holding s room D t R e 2 0 0 (padded 17 []) (padded 16 []) R
+pub holding_start : {s : List ℕ} {room D t e : ℕ} (R : List ℕ) → Found s 0 (Task D t) e → of_task D t ≡ None → Holding s room D t R e 2 0 0 (padded 17 []) (padded 16 []) R
 unfolding fault
 holding_start {s} {room} {D} {t} R w q =
     record {
@@ -193,55 +201,55 @@ module _ {s : List ℕ} {room D t : ℕ} {R₀ : List ℕ} {at i n own : ℕ} {b
   held_length = ap length g.heights_held ∙ length_padded 16 g.tall
 
   -- The line is neither a function's nor the closing bracket.
-  pub holding_neither : {r : Raw} → Strays (lines (drop at s)) → r ≡ refused_raw 2 i → TextAt s room R₀ R r
-  holding_neither (no_more e) q = text_refused 2 i (task_end g.reading e) q
-  holding_neither (unread l ks z a) q = text_refused 2 i (task_unread g.reading z a) q
-  holding_neither (other l ks f z a b) q = text_refused 2 i (task_misplaced g.reading z f a (b g.read)) q
+  pub holding_neither : Strays (lines (drop at s)) → TextAt s room R₀ R (Err (record { refusal = Refusal.Form; line = i }))
+  holding_neither (no_more e) = text_refused (task_end g.reading e)
+  holding_neither (unread l ks z a) = text_refused (task_unread g.reading z a)
+  holding_neither (other l ks f z a b) = text_refused (task_misplaced g.reading z f a (b g.read))
 
   module _ {e : ℕ} (w : Found s at Close e) where
     -- The task closes and holds no function.
-    holding_empty : {r : Raw} → own ≡ 0 → r ≡ refused_raw 2 i → TextAt s room R₀ R r
-    holding_empty o q =
-        text_refused 2 i (task_misplaced g.reading (lines_found w) Close (found_held w) (closed_empty g.read g.read.functions (sym g.counted ∙ o))) q
+    holding_empty : own ≡ 0 → TextAt s room R₀ R (Err (record { refusal = Refusal.Form; line = i }))
+    holding_empty o = text_refused (task_misplaced g.reading (lines_found w) Close (found_held w) (closed_empty g.read g.read.functions (sym g.counted ∙ o)))
 
     module _ (o : own ≡ 0 → ⊥) where
       closes : run room start 0 1 (lines s) ≡ run room (done g.read) n (i + 1) (lines (drop e s))
       closes = reading_end g.reading (lines_found w) (found_held w) (omega (arith, g.counted, o))
 
       -- The text goes on behind the task.
-      holding_on : {r : Raw} → e < length s → r ≡ refused_raw 2 (i + 1) → TextAt s room R₀ R r
-      holding_on h q = text_refused 2 (i + 1) (closes ∙ done_on room n (i + 1) g.read (lines_at s e h)) q
+      holding_on : e < length s → TextAt s room R₀ R (Err (record { refusal = Refusal.Form; line = i + 1 }))
+      holding_on h = text_refused (closes ∙ done_on room n (i + 1) g.read (lines_at s e h))
 
       -- The text ends behind the task.
-      holding_end : {r : Raw} → length s ≤ e → r ≡ accepted_raw D t n own bs hs → TextAt s room R₀ R r
-      holding_end h q =
+      holding_end : length s ≤ e → TextAt s room R₀ R (Ok (raw_with D t n own bs hs))
+      holding_end h =
           text_plan g.read (closes ∙ done_end room n (i + 1) g.read (lines_end s e h))
-          (q ∙ rw (g.same_deadline, g.same_switch, g.reading.sized, g.counted, g.bounds_held, g.heights_held, g.reading.bounded, ← g.reading.known) refl)
+          (rw (g.same_deadline, g.same_switch, g.reading.sized, g.counted, g.bounds_held, g.heights_held, g.reading.bounded, ← g.reading.known) refl)
           (g.filled ∙ ap (sets R₀ 0) g.reading.rows)
 
     -- What is answered where the task closes.
-    pub holding_ended : {raw r : Raw} → raw ≡ accepted_raw D t n own bs hs → r ≡ ended_raw (length s) e i raw → TextAt s room R₀ R r
-    holding_ended {raw} {r} a q = here (eqb own 0) refl (ltb e (length s)) refl
+    pub holding_ended : {r : Result Raw RefusedAt} → r ≡ ended_raw (length s) e i (raw_with D t n own bs hs) → TextAt s room R₀ R r
+    holding_ended {r} q = subst (λ x. TextAt s room R₀ R x) (sym q) (here (eqb own 0) refl (ltb e (length s)) refl)
       where
-        here : (x : Bool) → eqb own 0 ≡ x → (y : Bool) → ltb e (length s) ≡ y → TextAt s room R₀ R r
-        here true h y k = holding_empty (eqb-true own 0 h) (q ∙ rw (a, h))
-        here false h true k = holding_on (eqb-false own 0 h) (ltb-true e (length s) k) (q ∙ rw (a, h, k))
-        here false h false k = holding_end (eqb-false own 0 h) (ltb-false e (length s) k) (q ∙ rw (a, h, k))
+        here : (x : Bool) → eqb own 0 ≡ x → (y : Bool) → ltb e (length s) ≡ y → TextAt s room R₀ R (ended_raw (length s) e i (raw_with D t n own bs hs))
+        here true h y k = rw h (holding_empty (eqb-true own 0 h))
+        here false h true k = rw (h, k) (holding_on (eqb-false own 0 h) (ltb-true e (length s) k))
+        here false h false k = rw (h, k) (holding_end (eqb-false own 0 h) (ltb-false e (length s) k))
 
   module _ {e : ℕ} (w : Found s at Fun e) where
     -- A 17th function.
-    pub holding_full : {r : Raw} → own ≡ 16 → r ≡ refused_raw 4 i → TextAt s room R₀ R r
+    pub holding_full : own ≡ 16 → TextAt s room R₀ R (Err (record { refusal = Refusal.Count; line = i }))
     unfolding fault
-    holding_full o q = text_refused 4 i (task_full g.reading (lines_found w) 3 (found_held w) (rw (le-ltb (length g.tall) 16 (omega (arith, g.measured))))) q
+    holding_full o = text_refused (task_full g.reading (lines_found w) Refusal.Count (found_held w) (rw (le-ltb (length g.tall) 16 (omega (arith, g.measured)))))
 
     module _ (o : own ≡ 16 → ⊥) where
-      no_fun_fault : fault room 1 0 n g.tall Fun ≡ 0
+      no_fun_fault : fault room 1 0 n g.tall Fun ≡ None
       no_fun_fault = no_fault room 1 0 n g.tall Fun (omega (arith, g.measured, g.few, o), omega arith)
 
       -- A function whose body is refused.
-      pub holding_stopped : {r : Raw} {R' : List ℕ} (k j : ℕ) → Halted room (take own hs) 2 1 n (i + 1) (lines (drop e s)) k j → r ≡ refused_raw k j → TextAt s room R₀ R' r
-      holding_stopped k j x q =
-          text_refused k j (task_fun g.reading (lines_found w) (found_held w) no_fun_fault (refuses (subst (λ y. Halted room y 2 1 n (i + 1) (lines (drop e s)) k j) held_heights x))) q
+      pub holding_stopped : {R' : List ℕ} {x : RefusedAt} → Halted room (take own hs) 2 1 n (i + 1) (lines (drop e s)) x.refusal x.line → TextAt s room R₀ R' (Err x)
+      holding_stopped {x = x} h =
+          text_refused (task_fun g.reading (lines_found w) (found_held w) no_fun_fault
+          (refuses (subst (λ y. Halted room y 2 1 n (i + 1) (lines (drop e s)) x.refusal x.line) held_heights h)))
 
       -- One more function.
       pub holding_fun : {a j m h : ℕ} {R' : List ℕ} → FormsDone s room (take own hs) 2 1 e (i + 1) n R R' a j m h →
@@ -273,27 +281,23 @@ module _ {s : List ℕ} {room D t : ℕ} {R₀ : List ℕ} {at i n own : ℕ} {b
 -- THE WHOLE TEXT
 
 -- A text over 65,536 bytes is oversize.
-pub raw_oversize : (row : ℕ) (s R₀ R : List ℕ) {r : Raw} → 65536 < length s → r ≡ refused_raw 1 0 → (r ≡ raw_of (outcome row s)) × Written (outcome row s) R₀ R
-raw_oversize row s R₀ R h q = (q ∙ ap raw_of (sym (outcome_oversize row s h)), subst (λ o. Written o R₀ R) (sym (outcome_oversize row s h)) tt)
+pub raw_oversize : (row : ℕ) (s R₀ R : List ℕ) → 65536 < length s →
+    (Err (record { refusal = Refusal.Oversize; line = 0 }) ≡ raw_of (outcome row s)) × Written (outcome row s) R₀ R
+raw_oversize row s R₀ R h = (ap raw_of (sym (outcome_oversize row s h)), subst (λ o. Written o R₀ R) (sym (outcome_oversize row s h)) tt)
 
 -- Any other text is what the machine makes of its lines.
-pub raw_lines : (row : ℕ) (s R₀ R : List ℕ) {room : ℕ} {r : Raw} → length s ≤ 65536 → room ≡ min 512 row → TextAt s room R₀ R r →
+pub raw_lines : (row : ℕ) (s R₀ R : List ℕ) {room : ℕ} {r : Result Raw RefusedAt} → length s ≤ 65536 → room ≡ min 512 row → TextAt s room R₀ R r →
     (r ≡ raw_of (outcome row s)) × Written (outcome row s) R₀ R
-raw_lines row s R₀ R h e w =
-    let lines_outcome = ap (λ x. run x start 0 1 (lines s)) e ∙ sym (outcome_lines row s h) in
-    (w.answers ∙ ap raw_of lines_outcome, subst (λ o. Written o R₀ R) lines_outcome w.writes)
-
--- 1 for accepted, 0 for refused.
-abbrev accepts : Answer → ℕ
-accepts Accepted = 1
-accepts (Refused k j) = 0
+raw_lines row s R₀ R h q w =
+    let e = ap (λ x. run x start 0 1 (lines s)) q ∙ sym (outcome_lines row s h) in
+    (w.answers ∙ ap raw_of e, subst (λ o. Written o R₀ R) e w.writes)
 
 -- The row of an accepted text is the one that was written.
-pub row_accepted : (o : Outcome) (R₀ R : List ℕ) {r : Raw} → r ≡ raw_of o → r.answer ≡ Accepted → Written o R₀ R → R ≡ row_left o R₀
-row_accepted (plan p) R₀ R e a w = w
-row_accepted (refused k j) R₀ R e a w = let q : ◌≡◌ {A = ℕ} 1 0 = sym (ap accepts a) ∙ ap (λ x. accepts x.answer) e in absurd (omega arith)
+pub row_accepted : (o : Outcome) (R₀ R : List ℕ) {raw : Raw} → Ok raw ≡ raw_of o → Written o R₀ R → R ≡ row_left o R₀
+row_accepted (plan p) R₀ R e w = w
+row_accepted (refused k j) R₀ R e w = cc
 
 -- The row of a refused text is the one that was lent.
-pub row_refused : (o : Outcome) (R₀ : List ℕ) {r : Raw} {k j : ℕ} → r ≡ raw_of o → r.answer ≡ Refused k j → R₀ ≡ row_left o R₀
-row_refused (plan p) R₀ e a = let q : ◌≡◌ {A = ℕ} 0 1 = sym (ap accepts a) ∙ ap (λ x. accepts x.answer) e in absurd (omega arith)
-row_refused (refused k j) R₀ e a = refl
+pub row_refused : (o : Outcome) (R₀ : List ℕ) {x : RefusedAt} → Err x ≡ raw_of o → R₀ ≡ row_left o R₀
+row_refused (plan p) R₀ e = cc
+row_refused (refused k j) R₀ e = refl

@@ -6,6 +6,7 @@ use mathlib.Core.List.{List}
 use mathlib.Core.Logic.{◌↔◌}
 use native.Mathlib.Omega.{arith}
 use lib.ListN.{length, get_or}
+use Rattle.model.specs.declared.Refusal.{Refusal}
 use Rattle.model.specs.Plan.{Plan}
 use Rattle.model.specs.Acceptance.{sizes, Formed, Fits}
 use Rattle.reader.specs.Machine.{outcome}
@@ -47,11 +48,10 @@ print_one p q v w e =
     cc
 
 -- A refused text is that of no plan that keeps the rules 3 to 7 and 19 and fits the lent row.
-pub refused_none : (row : ℕ) (text : List ℕ) (k j : ℕ) → outcome row text ≡ refused k j → (p : Plan) → Formed p → Fits row p → text ≡ print p → ⊥
+pub refused_none : (row : ℕ) (text : List ℕ) (k : Refusal) (j : ℕ) → outcome row text ≡ refused k j → (p : Plan) → Formed p → Fits row p → text ≡ print p → ⊥
 refused_none row text k j e p w fit q =
     let a : plan p ≡ refused k j = sym (complete row p w fit) ∙ (ap (outcome row) (sym q) ∙ e) in
-    let z : ◌≡◌ {A = ℕ} 0 1 = cc in
-    omega arith
+    cc
 
 -- The row of a plan has eight numbers for each leaf.
 pub row_length : (p : Plan) → length (row_of p) ≡ 8 * sizes p.functions

@@ -1,7 +1,8 @@
 -- What the reader is to make of a text (01, 'A plan, one form a line' and 'Calls', refusals 1 to 7, and 19 of 02): a machine that takes one line at a time and
 -- holds what was read and which brackets are open.
 -- Assumes nothing: these are definitions.
-use Rattle.std.specs.Prelude.{ℕ, zero, suc, ◌+◌, ◌^◌, min, List, [], ◌∷◌, ◌++◌, Bool, length, get_or, leb, ltb, eqb}
+use Rattle.std.specs.Prelude.{ℕ, ◌+◌, ◌^◌, min, List, [], ◌∷◌, ◌++◌, Bool, length, get_or, leb, ltb, eqb, Option, None, Some}
+use Rattle.model.specs.declared.Refusal.{Refusal}
 use Rattle.model.specs.Plan.{Block, Lines, close, leaf_line, call_line, loop_line, if_line, Plan}
 use Rattle.model.specs.Levels.{heights}
 use Rattle.text.specs.declared.Form.{Form}
@@ -162,67 +163,67 @@ tag_of (Call k f c m) = 6
 tag_of (Loop k b c m) = 7
 tag_of (If k c m) = 8
 
--- Only the line with this number may stand there.
-abbrev pub only : ℕ → Form → ParserState → Next
-only t f S = pick (eqb (tag_of f) t) (to S) stuck
+-- Only a line of the kind of x may stand there.
+abbrev pub only : Form → Form → ParserState → Next
+only x f S = pick (eqb (tag_of f) (tag_of x)) (to S) stuck
 
 -- An if is followed by exactly one `(then` and one `(else` part, in that order, and by its `)` (01); behind the closed task nothing may stand.
 abbrev pub next : ParserState → ℕ → Form → Next
 next start n f = in_start f
 next (task p) n f = in_task p f
 next (body p K fs) n f = in_body n p K fs f
-next (await_then p K b fs) n f = only 2 f (body p (in_then b fs K) close)
-next (await_else p K b then fs) n f = only 3 f (body p (in_else b then fs K) close)
-next (await_close p K b then else fs) n f = only 4 f (body p K (fs ⧺ if_line b then else close))
+next (await_then p K b fs) n f = only Then f (body p (in_then b fs K) close)
+next (await_else p K b then fs) n f = only Else f (body p (in_else b then fs K) close)
+next (await_close p K b then else fs) n f = only Close f (body p K (fs ⧺ if_line b then else close))
 next (done p) n f = stuck
 
 -- REFUSALS 3, 4, 5, 19, 6 AND 7, in this order whatever the order of the fields
 
--- Where the test fails, refusal k; where it holds, what the later tests say.
-abbrev pub refuse_unless : Bool → ℕ → ℕ → ℕ
-refuse_unless ok k later = pick ok later k
+-- Where the test fails, this refusal; where it holds, what the later tests say.
+abbrev pub refuse_unless : Bool → Refusal → Option Refusal → Option Refusal
+refuse_unless ok k later = pick ok later (Some k)
 
 -- Of a leaf, call, loop or if line: C and M from 0 to 2^20, else range (3); n leaves read and room in the lent row for one more, else count (4);
 -- M not below C, else load (5); C not 0 if it is a point, else costless (19); then what its kind asks.
-abbrev pub of_leaf : ℕ → ℕ → Bool → ℕ → ℕ → ℕ → ℕ
+abbrev pub of_leaf : ℕ → ℕ → Bool → ℕ → ℕ → Option Refusal → Option Refusal
 of_leaf room n k c m later =
-    refuse_unless (leb c (2 ^ 20)) 3
-    (refuse_unless (leb m (2 ^ 20)) 3
-    (refuse_unless (ltb n room) 4
-    (refuse_unless (leb c m) 5
-    (refuse_unless (leb (bit k) c) 19 later))))
+    refuse_unless (leb c (2 ^ 20)) Refusal.Range
+    (refuse_unless (leb m (2 ^ 20)) Refusal.Range
+    (refuse_unless (ltb n room) Refusal.Count
+    (refuse_unless (leb c m) Refusal.Load
+    (refuse_unless (leb (bit k) c) Refusal.Costless later))))
 
--- The first of the refusals range (3), count (4), load (5), costless (19), target (6) and depth (7) that a form meets, or 0 for none. The lent row
+-- The first of the refusals range (3), count (4), load (5), costless (19), target (6) and depth (7) that a form meets, or none. The lent row
 -- has room for so many leaves and n are read; d brackets are open; L is the level; hs are the heights of the closed functions, so that `length hs` is
 -- the number of the function that is being read.
-unfoldable pub fault : ℕ → ℕ → ℕ → ℕ → List ℕ → Form → ℕ
+unfoldable pub fault : ℕ → ℕ → ℕ → ℕ → List ℕ → Form → Option Refusal
 fault room d L n hs (Task D t) =
-    refuse_unless (leb 1 D) 3
-    (refuse_unless (leb D (2 ^ 40)) 3
-    (refuse_unless (leb t (2 ^ 20)) 3
-    (refuse_unless (ltb d 64) 7 0)))
+    refuse_unless (leb 1 D) Refusal.Range
+    (refuse_unless (leb D (2 ^ 40)) Refusal.Range
+    (refuse_unless (leb t (2 ^ 20)) Refusal.Range
+    (refuse_unless (ltb d 64) Refusal.Depth None)))
 fault room d L n hs Fun =
-    refuse_unless (ltb (length hs) 16) 4
-    (refuse_unless (ltb d 64) 7 0)
-fault room d L n hs Then = refuse_unless (ltb d 64) 7 0
-fault room d L n hs Else = refuse_unless (ltb d 64) 7 0
-fault room d L n hs Close = 0
-fault room d L n hs (Leaf k c m) = of_leaf room n k c m (refuse_unless (leb L 32) 7 0)
+    refuse_unless (ltb (length hs) 16) Refusal.Count
+    (refuse_unless (ltb d 64) Refusal.Depth None)
+fault room d L n hs Then = refuse_unless (ltb d 64) Refusal.Depth None
+fault room d L n hs Else = refuse_unless (ltb d 64) Refusal.Depth None
+fault room d L n hs Close = None
+fault room d L n hs (Leaf k c m) = of_leaf room n k c m (refuse_unless (leb L 32) Refusal.Depth None)
 fault room d L n hs (Call k f c m) =
-    refuse_unless (leb f 15) 3
+    refuse_unless (leb f 15) Refusal.Range
     (of_leaf room n k c m
-    (refuse_unless (ltb f (length hs)) 6
-    (refuse_unless (leb (L + get_or hs f 0) 32) 7 0)))
+    (refuse_unless (ltb f (length hs)) Refusal.Target
+    (refuse_unless (leb (L + get_or hs f 0) 32) Refusal.Depth None)))
 fault room d L n hs (Loop k b c m) =
-    refuse_unless (leb 1 b) 3
-    (refuse_unless (leb b 65535) 3
+    refuse_unless (leb 1 b) Refusal.Range
+    (refuse_unless (leb b 65535) Refusal.Range
     (of_leaf room n k c m
-    (refuse_unless (leb L 32) 7
-    (refuse_unless (ltb d 64) 7 0))))
+    (refuse_unless (leb L 32) Refusal.Depth
+    (refuse_unless (ltb d 64) Refusal.Depth None))))
 fault room d L n hs (If k c m) =
     of_leaf room n k c m
-    (refuse_unless (leb L 32) 7
-    (refuse_unless (ltb d 64) 7 0))
+    (refuse_unless (leb L 32) Refusal.Depth
+    (refuse_unless (ltb d 64) Refusal.Depth None))
 
 -- The number of leaves after a form: leaf, call, loop and if lines are leaves (01).
 abbrev pub counted : ℕ → Form → ℕ
@@ -238,20 +239,20 @@ counted n (If k c m) = n + 1
 
 -- ONE LINE
 
--- The reader refuses by a number (stop), or goes on in a state, with the leaves read (go).
+-- The reader refuses (stop), or goes on in a state, with the leaves read (go).
 pub data Turn : Type 0 where
-  stop : ℕ → Turn
+  stop : Refusal → Turn
   go : ParserState → ℕ → Turn
 
 -- Form (2) comes before the others.
-abbrev pub form_first : Next → ℕ → ℕ → Turn
-form_first stuck k n = stop 2
-form_first (to S) zero n = go S n
-form_first (to S) (suc k) n = stop (suc k)
+abbrev pub form_first : Next → Option Refusal → ℕ → Turn
+form_first stuck x n = stop Refusal.Form
+form_first (to S) None n = go S n
+form_first (to S) (Some k) n = stop k
 
 -- A line that is no form of the grammar is refused by 2.
 abbrev pub line_turn : ℕ → ParserState → ℕ → Line → Turn
-line_turn room S n no_form = stop 2
+line_turn room S n no_form = stop Refusal.Form
 line_turn room S n (form f) =
     form_first (next S n f) (fault room (brackets S) (level S) n (heights [] (functions_of S)) f) (counted n f)
 
@@ -259,12 +260,12 @@ line_turn room S n (form f) =
 
 -- A text that ends early is refused by 2 at the line after the last, i.
 abbrev pub finish : ParserState → ℕ → Outcome
-finish start i = refused 2 i
-finish (task p) i = refused 2 i
-finish (body p K fs) i = refused 2 i
-finish (await_then p K b fs) i = refused 2 i
-finish (await_else p K b then fs) i = refused 2 i
-finish (await_close p K b then else fs) i = refused 2 i
+finish start i = refused Refusal.Form i
+finish (task p) i = refused Refusal.Form i
+finish (body p K fs) i = refused Refusal.Form i
+finish (await_then p K b fs) i = refused Refusal.Form i
+finish (await_else p K b then fs) i = refused Refusal.Form i
+finish (await_close p K b then else fs) i = refused Refusal.Form i
 finish (done p) i = plan p
 
 -- A refusal carries the number of its line, i; else the reader goes on.
@@ -279,4 +280,4 @@ run room S n i (l ∷ ls) = onwards (line_turn room S n (line_form l)) i (λ S' 
 
 -- What the reader is to make of a text, for a lent row of so many records, of which the first 512 are used. Oversize (1) comes first, with line 0.
 unfoldable pub outcome : ℕ → List ℕ → Outcome
-outcome row text = pick (leb (length text) 65536) (run (min 512 row) start 0 1 (lines text)) (refused 1 0)
+outcome row text = pick (leb (length text) 65536) (run (min 512 row) start 0 1 (lines text)) (refused Refusal.Oversize 0)

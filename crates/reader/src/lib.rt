@@ -2,34 +2,34 @@
 // document 02, L2).
 #![tactic(auto)]
 
-ghost use Rattle.std.specs.Prelude.{◌≡◌, [], ◌∷◌, ◌+◌, ◌*◌, ◌<◌, ◌≤◌, min, length, take, leb};
+ghost use Rattle.std.specs.Prelude.{◌≡◌, ◌≢◌, [], ◌∷◌, ◌+◌, ◌*◌, ◌<◌, ◌≤◌, length, leb};
+ghost use Rattle.std.specs.Result.{result_err};
 ghost use Rattle.std.proofs.lemmas.List.Edits.{sets};
 ghost use Rattle.text.specs.Grammar.{read_at, Found};
-ghost use Rattle.reader.specs.Machine.{tag_of, fault, of_leaf, refuse_unless, outcome};
-ghost use Rattle.model.specs.Places.{bit};
-ghost use Rattle.text.specs.declared.Form.TheVariants.{Task, If};
-ghost use Rattle.reader.specs.Raw.{refused_raw, accepted_raw, raw_of, row_left, Written};
-ghost use Rattle.reader.specs.Private.{first_of, of_bound, of_open, of_target, body_fault, step_of, sign_of, member_of, of_task, first_line};
-ghost use Rattle.reader.specs.Private.{ended_raw, FormsAt, FormAt, TextAt};
+ghost use Rattle.reader.specs.Machine.{of_leaf, refuse_unless, outcome};
+ghost use Rattle.text.specs.declared.Form.TheVariants.{Task};
+ghost use Rattle.reader.specs.Raw.{raw_of, row_left, Written};
+ghost use Rattle.reader.specs.Private.{of_bound, of_open, of_target, body_fault, body_line, AwaitedAt, of_task, first_line};
+ghost use Rattle.reader.specs.Private.{heights_before, with_body, record_of, ended_raw, FormsAt, FormAt, PartsAt, TextAt};
 
+use model::Refusal;
 use rows::{
-    BOUNDS, CALL, DETAIL, IF, KIND, LEAF, LIMIT, LOOP, MAX_BRACKETS, MAX_COST, MAX_FUNCTIONS,
-    MAX_LEAVES, MAX_LEVEL, MAX_LOOP_BOUND, MAX_SWITCH, ROW, STRIDE, larger,
+    BOUNDS, CALL, IF, LEAF, LIMIT, LOOP, MAX_BRACKETS, MAX_COST, MAX_FUNCTIONS, MAX_LEAVES,
+    MAX_LEVEL, MAX_LOOP_BOUND, MAX_SWITCH, ROW, STRIDE,
 };
-use text::{Form, Read, line};
+use text::{Form, line};
 
-// What the reader says of a text: accepted; or refused, with the refusal's number and line.
-#[derive(Clone, Copy)]
-pub enum Answer {
-    Accepted,
-    Refused(u64, usize),
+// Why a text is refused, and at which line; a text that is too long, at line 0.
+#[derive(Clone, Copy, Debug, PartialEq, Eq)]
+pub struct RefusedAt {
+    pub refusal: Refusal,
+    pub line: usize,
 }
 
-// What the reader makes of a text beside the row: the answer, and of an accepted plan its deadline, its switch cost, how many leaves and functions
-// it has, the functions' bounds and their heights, filled up with 0. Of a refused text all numbers but the refusal's are 0.
+// What the reader makes of a text beside the row: the plan's deadline, its switch cost, how many leaves and functions it has, the functions' bounds and
+// their heights, filled up with 0.
 #[derive(Clone, Copy)]
 pub struct Raw {
-    pub answer: Answer,
     pub deadline: u64,
     pub switch: u64,
     pub leaves: usize,
@@ -38,41 +38,26 @@ pub struct Raw {
     pub heights: [u64; MAX_FUNCTIONS],
 }
 
-// What a line in a body does: it is refused by a number; it closes the body; or it is a leaf. With the place after it.
+// Where a line begins: its place in the text, its number, and how many leaves were read before it.
 #[derive(Clone, Copy)]
-enum Step {
-    Stop(u64),
-    Leave(usize),
-    Take(Form, usize),
+struct Spot {
+    at: usize,
+    line: usize,
+    leaves: usize,
 }
 
-// Whether the line that must come stands there, with the place after it.
+// How deep a body lies: how many brackets are open in it, and the level of its forms.
 #[derive(Clone, Copy)]
-enum Sign {
-    Missing,
-    On(usize),
+struct Nesting {
+    brackets: usize,
+    level: u64,
 }
 
-// What a line in the task is: a function's, or the closing bracket, with the place after it; or another.
+// Forms that were read: the spot behind them, and their height.
 #[derive(Clone, Copy)]
-enum Member {
-    Neither,
-    Function(usize),
-    End(usize),
-}
-
-// What the first line is: a task's, with its D and T and the place after it; or refused by a number.
-#[derive(Clone, Copy)]
-enum Head {
-    Not(u64),
-    Opens(u64, u64, usize),
-}
-
-// How reading forms ends: refused by a number at a line; or read, with the place and the line after them, the leaves so far, and their height.
-#[derive(Clone, Copy)]
-enum Inside {
-    Stopped(u64, usize),
-    Closed(usize, usize, usize, u64),
+struct Closed {
+    next: Spot,
+    height: u64,
 }
 
 // The most bytes of a text.
@@ -84,548 +69,439 @@ pub const TEXT: usize = MAX_TEXT + 1;
 // The greatest number that a call may name.
 const MAX_TARGET: u64 = MAX_FUNCTIONS as u64 - 1;
 
-// The refusals.
-const OVERSIZE: u64 = 1;
+// How deep the body of a function lies.
+const IN_FUNCTION: Nesting = Nesting {
+    brackets: 2,
+    level: 1,
+};
 
-const FORM: u64 = 2;
+impl Spot {
+    // Gives the refusal of the line that begins here.
+    fn refused(self, refusal: Refusal) -> RefusedAt
+        ensures { result ≡ record { refusal = refusal; line = self.line } }
+    {
+        RefusedAt {
+            refusal,
+            line: self.line,
+        }
+    }
 
-const RANGE: u64 = 3;
-
-const COUNT: u64 = 4;
-
-const LOAD: u64 = 5;
-
-const TARGET: u64 = 6;
-
-const DEPTH: u64 = 7;
-
-const COSTLESS: u64 = 19;
-
-// The numbers of the lines that have no numbers of their own.
-const FUN: u64 = 1;
-
-const THEN: u64 = 2;
-
-const ELSE: u64 = 3;
-
-const CLOSE: u64 = 4;
-
-// Gives the first of two refusals; 0 is none.
-fn first(a: u64, b: u64) -> u64
-    ensures { result ≡ first_of a b }
-{
-    if a == 0 { b } else { a }
-}
-
-// Gives K as a number.
-fn point_mark(k: bool) -> u64
-    ensures { result ≡ bit k }
-{
-    if k { 1 } else { 0 }
+    // Gives the spot behind the line that begins here and ends before the place `end`.
+    fn behind(self, end: usize) -> Spot
+        requires { self.line < usize.MAX }
+        ensures { result ≡ record { at = end; line = self.line + 1; leaves = self.leaves } }
+    {
+        Spot {
+            at: end,
+            line: self.line + 1,
+            ..self
+        }
+    }
 }
 
 // Tests the costs of a leaf (a point's C is 1 at least) and whether the row has room for it.
-fn leaf_fault(k: bool, c: u64, m: u64, n: usize, room: usize) -> u64
-    ensures { result ≡ of_leaf room n k c m 0 }
+fn leaf_fault(
+    point: bool,
+    isolated: u64,
+    max_load: u64,
+    leaves: usize,
+    room: usize,
+) -> Result<(), Refusal>
+    ensures { result_err result ≡ of_leaf room leaves point isolated max_load None }
 {
-    if MAX_COST < c {
-        return RANGE;
+    if MAX_COST < isolated || MAX_COST < max_load {
+        return Err(Refusal::Range);
     }
-    if MAX_COST < m {
-        return RANGE;
+    if room <= leaves {
+        return Err(Refusal::Count);
     }
-    if room <= n {
-        return COUNT;
+    if max_load < isolated {
+        return Err(Refusal::Load);
     }
-    if m < c {
-        return LOAD;
+    if isolated < u64::from(point) {
+        return Err(Refusal::Costless);
     }
-    if c < point_mark(k) { COSTLESS } else { 0 }
+    Ok(())
 }
 
 // Tests the level of a leaf.
-fn level_fault(level: u64) -> u64
-    ensures { result ≡ refuse_unless (leb level 32) 7 0 }
+fn level_fault(level: u64) -> Result<(), Refusal>
+    ensures { result_err result ≡ refuse_unless (leb level 32) Refusal.Depth None }
 {
-    if MAX_LEVEL < level { DEPTH } else { 0 }
+    if MAX_LEVEL < level {
+        return Err(Refusal::Depth);
+    }
+    Ok(())
 }
 
 // Tests the level of a leaf that opens a bracket, and the bracket.
-fn open_fault(level: u64, d: usize) -> u64
-    ensures { result ≡ of_open level d }
+fn open_fault(nesting: Nesting) -> Result<(), Refusal>
+    ensures { result_err result ≡ of_open nesting.level nesting.brackets }
 {
-    if MAX_LEVEL < level {
-        return DEPTH;
+    level_fault(nesting.level)?;
+    if MAX_BRACKETS <= nesting.brackets {
+        return Err(Refusal::Depth);
     }
-    if d < MAX_BRACKETS { 0 } else { DEPTH }
+    Ok(())
 }
 
 // Tests the bound of a loop.
-fn bound_fault(b: u64) -> u64
-    ensures { result ≡ of_bound b }
+fn bound_fault(bound: u64) -> Result<(), Refusal>
+    ensures { result_err result ≡ of_bound bound }
 {
-    if b < 1 {
-        return RANGE;
+    if bound < 1 || MAX_LOOP_BOUND < bound {
+        return Err(Refusal::Range);
     }
-    if b <= MAX_LOOP_BOUND { 0 } else { RANGE }
+    Ok(())
 }
 
 // Tests the range of a call's target.
-fn range_fault(f: u64) -> u64
-    ensures { result ≡ refuse_unless (leb f 15) 3 0 }
+fn range_fault(target: u64) -> Result<(), Refusal>
+    ensures { result_err result ≡ refuse_unless (leb target 15) Refusal.Range None }
 {
-    if MAX_TARGET < f { RANGE } else { 0 }
+    if MAX_TARGET < target {
+        return Err(Refusal::Range);
+    }
+    Ok(())
 }
 
-// Tests that a call's target stands before its own function, and the levels of what it calls.
-fn target_fault(f: u64, level: u64, tall: &[u64; MAX_FUNCTIONS], own: usize) -> u64
-    requires { (own ≤ 16) × (own ≤ length tall.now) }
-    ensures { result ≡ of_target level (take own tall.now) f }
+// Tests that a call's target is one of the functions before its own, and the levels of what it calls.
+fn target_fault(target: u64, level: u64, before: &Raw) -> Result<(), Refusal>
+    requires { before.now.functions ≤ 16 }
+    ensures { result_err result ≡ of_target level (heights_before before.now) target }
 {
-    if own as u64 <= f {
-        return TARGET;
+    if before.functions as u64 <= target {
+        return Err(Refusal::Target);
     }
-    if MAX_LEVEL < level {
-        return DEPTH;
+    level_fault(level)?;
+    if MAX_LEVEL - level < before.heights[target as usize] {
+        return Err(Refusal::Depth);
     }
-    let g = f as usize;
-    if MAX_LEVEL - level < tall[g] {
-        DEPTH
-    } else {
-        0
-    }
+    Ok(())
 }
 
-// Finds the first of the refusals 2 to 7 and 19 that a line in a body meets, if it does not close it, or 0.
+// Tests a line in a body for the refusals 2 to 7 and 19, in their order; its closing bracket meets none.
+#[tactic(auto, unfolding(crate::specs::Machine::fault))]
 fn body_fault(
-    b: Form,
-    tall: &[u64; MAX_FUNCTIONS],
-    own: usize,
+    form: Form,
+    before: &Raw,
     room: usize,
-    d: usize,
-    level: u64,
-    n: usize,
-) -> u64
-    requires { (own ≤ 16) × (own ≤ length tall.now) }
-    ensures { result ≡ body_fault room d level n (take own tall.now) b }
+    nesting: Nesting,
+    leaves: usize,
+) -> Result<(), Refusal>
+    requires { before.now.functions ≤ 16 }
+    ensures { result_err result ≡ body_fault room nesting.brackets nesting.level leaves (heights_before before.now) form }
 {
-    match b {
-        Form::Leaf(k, c, m) => first(leaf_fault(k, c, m, n, room), level_fault(level)),
-        Form::Call(k, f, c, m) => {
-            let costs = leaf_fault(k, c, m, n, room);
-            first(
-                range_fault(f),
-                first(costs, target_fault(f, level, tall, own)),
-            )
+    match form {
+        Form::Leaf(point, isolated, max_load) => {
+            leaf_fault(point, isolated, max_load, leaves, room)?;
+            level_fault(nesting.level)
         }
-        Form::Loop(k, t, c, m) => {
-            let leaf = leaf_fault(k, c, m, n, room);
-            first(bound_fault(t), first(leaf, open_fault(level, d)))
+        Form::Call(point, target, isolated, max_load) => {
+            range_fault(target)?;
+            leaf_fault(point, isolated, max_load, leaves, room)?;
+            target_fault(target, nesting.level, before)
         }
-        Form::If(k, c, m) => first(leaf_fault(k, c, m, n, room), open_fault(level, d)),
-        _ => FORM,
+        Form::Loop(point, bound, isolated, max_load) => {
+            bound_fault(bound)?;
+            leaf_fault(point, isolated, max_load, leaves, room)?;
+            open_fault(nesting)
+        }
+        Form::If(point, isolated, max_load) => {
+            leaf_fault(point, isolated, max_load, leaves, room)?;
+            open_fault(nesting)
+        }
+        Form::Close => Ok(()),
+        _ => Err(Refusal::Form),
     }
 }
 
-// Reads the line at a place of a body: d brackets are open, and n leaves were read.
-fn one_line(
+// Reads the line at a spot in a body, which must be a leaf's that meets no refusal, or the closing bracket; gives it with the place after it.
+fn body_line(
     text: &[u8],
-    at: usize,
-    tall: &[u64; MAX_FUNCTIONS],
-    own: usize,
+    before: &Raw,
     room: usize,
-    d: usize,
-    level: u64,
-    n: usize,
-) -> Step
-    requires { (own ≤ 16) × (own ≤ length tall.now) }
-    ensures { result ≡ step_of room d level n (take own tall.now) (read_at text.now at) }
+    nesting: Nesting,
+    spot: Spot,
+) -> Result<(Form, usize), RefusedAt>
+    requires { before.now.functions ≤ 16 }
+    ensures { result ≡ body_line spot.line room nesting.brackets nesting.level spot.leaves (heights_before before.now) (read_at text.now spot.at) }
 {
-    let Read::Line(f, e) = line(text, at) else {
-        return Step::Stop(FORM);
+    let Some((form, end)) = line(text, spot.at) else {
+        return Err(spot.refused(Refusal::Form));
     };
-    if tag(f) == CLOSE {
-        return Step::Leave(e);
-    }
-    let k = body_fault(f, tall, own, room, d, level, n);
-    if k == 0 {
-        Step::Take(f, e)
-    } else {
-        Step::Stop(k)
+    match body_fault(form, before, room, nesting, spot.leaves) {
+        Ok(()) => Ok((form, end)),
+        Err(refusal) => Err(spot.refused(refusal)),
     }
 }
 
-// Gives the number of a kind of line.
-fn tag(f: Form) -> u64
-    ensures { result ≡ tag_of f }
+// Passes the line at a spot, which must be this one. Inlined, or each nested form would take more stack (docs/MEMORY.md).
+#[inline]
+fn awaited(text: &[u8], spot: Spot, form: Form) -> Result<Spot, RefusedAt>
+    requires { (spot.line ≤ spot.at + 1) × (spot.at ≤ length text.now) }
+    ensures { AwaitedAt form spot (read_at text.now spot.at) result }
 {
-    match f {
-        Form::Task(_, _) => 0,
-        Form::Fun => FUN,
-        Form::Then => THEN,
-        Form::Else => ELSE,
-        Form::Close => CLOSE,
-        Form::Leaf(_, _, _) => 5,
-        Form::Call(_, _, _, _) => 6,
-        Form::Loop(_, _, _, _) => 7,
-        Form::If(_, _, _) => 8,
+    match line(text, spot.at) {
+        Some((found, end)) if found == form => Ok(spot.behind(end)),
+        _ => Err(spot.refused(Refusal::Form)),
     }
 }
 
-// Looks whether the line at a place is the one with number t.
-fn awaited(text: &[u8], at: usize, t: u64) -> Sign
-    ensures { result ≡ sign_of t (read_at text.now at) }
+// Writes the record of a leaf, by its number and its line.
+fn put(row: &mut [u64; ROW], number: usize, form: Form, other: usize, after: usize, level: u64)
+    requires { number < 512 }
+    ensures { row.new ≡ sets row.old (8 * number) (record_of number form other after level) }
 {
-    let Read::Line(f, e) = line(text, at) else {
-        return Sign::Missing;
+    let (kind, point, isolated, max_load, detail) = match form {
+        Form::Leaf(point, isolated, max_load) => (LEAF, point, isolated, max_load, 0),
+        Form::Call(point, target, isolated, max_load) => (CALL, point, isolated, max_load, target),
+        Form::Loop(point, bound, isolated, max_load) => (LOOP, point, isolated, max_load, bound),
+        Form::If(point, isolated, max_load) => (IF, point, isolated, max_load, 0),
+        _ => return,
     };
-    if tag(f) == t {
-        Sign::On(e)
-    } else {
-        Sign::Missing
-    }
+    let at = STRIDE * number;
+    row[at..at + STRIDE].copy_from_slice(&[
+        kind,
+        u64::from(point),
+        isolated,
+        max_load,
+        detail,
+        other as u64,
+        after as u64,
+        level,
+    ]);
 }
 
-// Reads the line at a place of the task, outside its functions.
-fn in_task(text: &[u8], at: usize) -> Member
-    ensures { result ≡ member_of (read_at text.now at) }
-{
-    let Read::Line(f, e) = line(text, at) else {
-        return Member::Neither;
-    };
-    let t = tag(f);
-    if t == FUN {
-        return Member::Function(e);
-    }
-    if t == CLOSE {
-        Member::End(e)
-    } else {
-        Member::Neither
-    }
-}
-
-// Writes four numbers, one behind the other.
-fn put_four(row: &mut [u64; ROW], at: usize, a: u64, b: u64, c: u64, d: u64)
-    requires { at + 4 ≤ 4096 }
-    ensures { row.new ≡ sets row.old at (a ∷ b ∷ c ∷ d ∷ []) }
-{
-    row[at] = a;
-    row[at + 1] = b;
-    row[at + 2] = c;
-    row[at + 3] = d;
-}
-
-// Writes the record of leaf number n: the fields from the kind on, and those from the detail on.
-fn put(
-    row: &mut [u64; ROW],
-    n: usize,
-    kind: u64,
-    k: bool,
-    c: u64,
-    m: u64,
-    detail: u64,
-    other: usize,
-    after: usize,
-    level: u64,
-)
-    requires { n < 512 }
-    ensures { row.new ≡ sets row.old (8 * n) (kind ∷ bit k ∷ c ∷ m ∷ detail ∷ other ∷ after ∷ level ∷ []) }
-{
-    let at = STRIDE * n;
-    put_four(row, at + KIND, kind, point_mark(k), c, m);
-    put_four(row, at + DETAIL, detail, other as u64, after as u64, level);
-}
-
-// Reads the forms of a body from the place `from` and the line `first` on, up to the bracket that closes it, and writes their records. The functions before,
-// `own` of them, have the heights `tall`, the row has room for so many leaves, d brackets are open, the forms have this level, and `count` leaves were read.
-#[cycle(forms_if_form_one_form)]
+// Reads the forms of a body from a spot on, up to the bracket that closes it, and writes their records. The plan so far has the functions before this
+// one, the row has room for so many leaves, and the body lies so deep.
+#[cycle(forms_if_parts_one_form)]
 fn forms(
     text: &[u8],
-    tall: &[u64; MAX_FUNCTIONS],
-    own: usize,
+    before: &Raw,
     room: usize,
-    d: usize,
-    level: u64,
-    from: usize,
-    first: usize,
-    count: usize,
+    nesting: Nesting,
+    from: Spot,
     row: &mut [u64; ROW],
-) -> Inside
-    requires { (own ≤ 16) × (own ≤ length tall.now) × (room ≤ 512) × (from ≤ length text.now) × (first ≤ from + 1) × (count ≤ room) }
-    ensures { FormsAt text.now room (take own tall.now) d level from first count row.old row.new result }
+) -> Result<Closed, RefusedAt>
+    requires { (before.now.functions ≤ 16) × (room ≤ 512) × (from.at ≤ length text.now) × (from.line ≤ from.at + 1) × (from.leaves ≤ room) }
+    ensures { FormsAt text.now room (heights_before before.now) nesting from row.old row.new result }
 {
-    let mut at = from;
-    let mut i = first;
-    let mut n = count;
+    let mut spot = from;
     let mut height = 0;
     loop {
-        match one_line(text, at, tall, own, room, d, level, n) {
-            Step::Stop(k) => return Inside::Stopped(k, i),
-            Step::Leave(e) => return Inside::Closed(e, i + 1, n, height),
-            Step::Take(b, e) => {
-                let r = one_form(text, tall, own, room, d, level, b, e, i, n, row);
-                match r {
-                    Inside::Stopped(k, j) => return Inside::Stopped(k, j),
-                    Inside::Closed(a, j, m, h) => {
-                        at = a;
-                        i = j;
-                        n = m;
-                        height = larger(height, h);
-                    }
-                }
-            }
+        let (form, end) = body_line(text, before, room, nesting, spot)?;
+        if form == Form::Close {
+            let next = spot.behind(end);
+            return Ok(Closed { next, height });
         }
+        let read = one_form(text, before, room, nesting, spot, form, end, row)?;
+        spot = read.next;
+        height = height.max(read.height);
     }
 }
 
-// Reads the form of the leaf b, number n, whose line has the number i and ends before `at`, and writes its records.
-#[cycle(forms_if_form_one_form)]
+// Reads the form whose line, a leaf's, stands at a spot and ends before the place `end`, and writes its records.
+#[cycle(forms_if_parts_one_form)]
 fn one_form(
     text: &[u8],
-    tall: &[u64; MAX_FUNCTIONS],
-    own: usize,
+    before: &Raw,
     room: usize,
-    d: usize,
-    level: u64,
-    b: Form,
-    at: usize,
-    i: usize,
-    n: usize,
+    nesting: Nesting,
+    spot: Spot,
+    form: Form,
+    end: usize,
     row: &mut [u64; ROW],
-) -> Inside
-    requires { (own ≤ 16) × (own ≤ length tall.now) × (room ≤ 512) × (at ≤ length text.now) × (i ≤ at)
-        × (body_fault room d level n (take own tall.now) b ≡ 0) }
-    ensures { FormAt text.now room (take own tall.now) d level at i n b row.old row.new result }
+) -> Result<Closed, RefusedAt>
+    requires { (before.now.functions ≤ 16) × (room ≤ 512) × (end ≤ length text.now) × (spot.line ≤ end) × (spot.leaves ≤ room) × (form ≢ Form.Close)
+        × (body_fault room nesting.brackets nesting.level spot.leaves (heights_before before.now) form ≡ None) }
+    ensures { FormAt text.now room (heights_before before.now) nesting spot.line spot.leaves end form row.old row.new result }
 {
-    match b {
-        Form::Leaf(k, c, m) => {
-            put(row, n, LEAF, k, c, m, 0, 0, n + 1, level);
-            Inside::Closed(at, i + 1, n + 1, 1)
+    let number = spot.leaves;
+    let next = Spot {
+        at: end,
+        line: spot.line + 1,
+        leaves: number + 1,
+    };
+    match form {
+        Form::Leaf(..) => {
+            put(row, number, form, 0, next.leaves, nesting.level);
+            Ok(Closed { next, height: 1 })
         }
-        Form::Call(k, f, c, m) => {
-            put(row, n, CALL, k, c, m, f, 0, n + 1, level);
-            let g = f as usize;
-            Inside::Closed(at, i + 1, n + 1, 1 + tall[g])
+        Form::Call(_, target, ..) => {
+            put(row, number, form, 0, next.leaves, nesting.level);
+            let height = 1 + before.heights[target as usize];
+            Ok(Closed { next, height })
         }
-        Form::Loop(k, t, c, m) => {
-            let up = level + 1;
-            let r = forms(text, tall, own, room, d + 1, up, at, i + 1, n + 1, row);
-            let Inside::Closed(e, j, o, h) = r else {
-                return r;
+        Form::Loop(..) => {
+            let inside = Nesting {
+                brackets: nesting.brackets + 1,
+                level: nesting.level + 1,
             };
-            put(row, n, LOOP, k, c, m, t, 0, o, level);
-            Inside::Closed(e, j, o, 1 + h)
+            let body = forms(text, before, room, inside, next, row)?;
+            put(row, number, form, 0, body.next.leaves, nesting.level);
+            let height = 1 + body.height;
+            Ok(Closed { height, ..body })
         }
-        Form::If(k, c, m) => if_form(text, tall, own, room, d, level, k, c, m, at, i, n, row),
-        _ => Inside::Stopped(FORM, i),
+        Form::If(..) => {
+            let (other, parts) = if_parts(text, before, room, nesting, next, row)?;
+            put(row, number, form, other, parts.next.leaves, nesting.level);
+            Ok(parts)
+        }
+        _ => unreachable!(),
     }
 }
 
-// Reads the parts of the if that is leaf number n, its line having the number i and ending before `at`: (then, its forms, (else, its forms and the bracket
-// that closes the if. Writes the records.
-#[cycle(forms_if_form_one_form)]
-fn if_form(
+// Reads the parts of an if, from the spot behind its line on: (then, its forms, (else, its forms and the bracket that closes the if. Writes their records,
+// and gives the number of the first leaf of the else part, with the spot behind the if and its height.
+#[cycle(forms_if_parts_one_form)]
+fn if_parts(
     text: &[u8],
-    tall: &[u64; MAX_FUNCTIONS],
-    own: usize,
+    before: &Raw,
     room: usize,
-    d: usize,
-    level: u64,
-    k: bool,
-    c: u64,
-    m: u64,
-    at: usize,
-    i: usize,
-    n: usize,
+    nesting: Nesting,
+    spot: Spot,
     row: &mut [u64; ROW],
-) -> Inside
-    requires { (own ≤ 16) × (own ≤ length tall.now) × (room ≤ 512) × (at ≤ length text.now) × (i ≤ at)
-        × (fault room d level n (take own tall.now) (If k c m) ≡ 0) }
-    ensures { FormAt text.now room (take own tall.now) d level at i n (If k c m) row.old row.new result }
+) -> Result<(usize, Closed), RefusedAt>
+    requires { (before.now.functions ≤ 16) × (room ≤ 512) × (spot.at ≤ length text.now) × (spot.line ≤ spot.at + 1) × (spot.leaves ≤ room)
+        × (nesting.brackets < 64) }
+    ensures { PartsAt text.now room (heights_before before.now) nesting spot row.old row.new result }
 {
-    let next = i + 1;
-    let Sign::On(a) = awaited(text, at, THEN) else {
-        return Inside::Stopped(FORM, next);
-    };
-    if MAX_BRACKETS <= d + 1 {
-        return Inside::Stopped(DEPTH, next);
+    let first = awaited(text, spot, Form::Then)?;
+    if MAX_BRACKETS <= nesting.brackets + 1 {
+        return Err(spot.refused(Refusal::Depth));
     }
-    let then = forms(text, tall, own, room, d + 2, level, a, next + 1, n + 1, row);
-    let Inside::Closed(b, j, other, low) = then else {
-        return then;
+    let inside = Nesting {
+        brackets: nesting.brackets + 2,
+        ..nesting
     };
-    let Sign::On(e) = awaited(text, b, ELSE) else {
-        return Inside::Stopped(FORM, j);
-    };
-    let last = forms(text, tall, own, room, d + 2, level, e, j + 1, other, row);
-    let Inside::Closed(f, l, after, high) = last else {
-        return last;
-    };
-    let Sign::On(g) = awaited(text, f, CLOSE) else {
-        return Inside::Stopped(FORM, l);
-    };
-    put(row, n, IF, k, c, m, 0, other, after, level);
-    Inside::Closed(g, l + 1, after, larger(1, larger(low, high)))
+    let then = forms(text, before, room, inside, first, row)?;
+    let second = awaited(text, then.next, Form::Else)?;
+    let last = forms(text, before, room, inside, second, row)?;
+    let next = awaited(text, last.next, Form::Close)?;
+    let height = then.height.max(last.height).max(1);
+    Ok((then.next.leaves, Closed { next, height }))
 }
 
-// Gives the answer of a refused text.
-fn refused(k: u64, j: usize) -> Raw
-    ensures { result ≡ refused_raw k j }
+// Adds a function to the plan so far.
+fn add(raw: &mut Raw, body: Closed)
+    requires { raw.old.functions < 16 }
+    ensures { raw.new ≡ with_body raw.old body }
 {
-    let bounds = [0; BOUNDS];
-    let heights = [0; MAX_FUNCTIONS];
-    Raw {
-        answer: Answer::Refused(k, j),
-        deadline: 0,
-        switch: 0,
-        leaves: 0,
-        functions: 0,
-        bounds: bounds,
-        heights: heights,
-    }
+    raw.leaves = body.next.leaves;
+    raw.heights[raw.functions] = body.height;
+    raw.functions += 1;
+    raw.bounds[raw.functions] = body.next.leaves as u64;
 }
 
-// Gives the answer of an accepted text.
-fn accepted(
-    deadline: u64,
-    switch: u64,
-    leaves: usize,
-    functions: usize,
-    bounds: [u64; BOUNDS],
-    heights: [u64; MAX_FUNCTIONS],
-) -> Raw
-    ensures { result ≡ accepted_raw deadline switch leaves functions bounds heights }
-{
-    Raw {
-        answer: Answer::Accepted,
-        deadline: deadline,
-        switch: switch,
-        leaves: leaves,
-        functions: functions,
-        bounds: bounds,
-        heights: heights,
-    }
-}
-
-// Ends the task at its closing bracket, in line i and before the place e: it must hold a function, and the text must end there.
-fn ended(text: &[u8], e: usize, i: usize, raw: Raw) -> Raw
-    requires { i ≤ e }
-    ensures { result ≡ ended_raw (length text.now) e i raw }
+// Ends the task at its closing bracket, the line at a spot, which ends before the place `end`: it must hold a function, and the text must end there.
+fn ended(text: &[u8], spot: Spot, end: usize, raw: Raw) -> Result<Raw, RefusedAt>
+    requires { spot.line < usize.MAX }
+    ensures { result ≡ ended_raw (length text.now) end spot.line raw }
 {
     if raw.functions == 0 {
-        return refused(FORM, i);
+        return Err(spot.refused(Refusal::Form));
     }
-    if e < text.len() {
-        return refused(FORM, i + 1);
+    if end < text.len() {
+        return Err(spot.behind(end).refused(Refusal::Form));
     }
-    raw
+    Ok(raw)
 }
 
 // Tests the deadline and the switch cost.
-fn task_fault(d: u64, t: u64) -> u64
-    ensures { result ≡ of_task d t }
+fn task_fault(deadline: u64, switch: u64) -> Result<(), Refusal>
+    ensures { result_err result ≡ of_task deadline switch }
 {
-    if d < 1 {
-        return RANGE;
+    if deadline < 1 || LIMIT < deadline || MAX_SWITCH < switch {
+        return Err(Refusal::Range);
     }
-    if LIMIT < d {
-        return RANGE;
-    }
-    if MAX_SWITCH < t { RANGE } else { 0 }
+    Ok(())
 }
 
-// Reads the first line.
-fn task_line(text: &[u8]) -> Head
+// Reads the first line, the task's: gives D and T, and the place after it.
+fn task_line(text: &[u8]) -> Result<(u64, u64, usize), Refusal>
     ensures { result ≡ first_line (read_at text.now 0) }
 {
-    let Read::Line(f, e) = line(text, 0) else {
-        return Head::Not(FORM);
+    let Some((Form::Task(deadline, switch), end)) = line(text, 0) else {
+        return Err(Refusal::Form);
     };
-    let Form::Task(d, t) = f else {
-        return Head::Not(FORM);
-    };
-    let k = task_fault(d, t);
-    if k == 0 {
-        Head::Opens(d, t, e)
-    } else {
-        Head::Not(k)
-    }
+    task_fault(deadline, switch)?;
+    Ok((deadline, switch, end))
 }
 
 // Reads the functions of the task, which begin at the place `from`, up to the task's closing bracket, behind which the text must end.
-fn functions(text: &[u8], d: u64, t: u64, from: usize, room: usize, row: &mut [u64; ROW]) -> Raw
-    requires { (room ≤ 512) × Found text.now 0 (Task d t) from × (of_task d t ≡ 0) }
+fn functions(
+    text: &[u8],
+    deadline: u64,
+    switch: u64,
+    from: usize,
+    room: usize,
+    row: &mut [u64; ROW],
+) -> Result<Raw, RefusedAt>
+    requires { (room ≤ 512) × Found text.now 0 (Task deadline switch) from × (of_task deadline switch ≡ None) }
     ensures { TextAt text.now room row.old row.new result }
 {
-    let mut at = from;
-    let mut i = 2;
-    let mut n = 0;
-    let mut own = 0;
-    let mut bounds = [0; BOUNDS];
-    let mut heights = [0; MAX_FUNCTIONS];
+    let mut spot = Spot {
+        at: from,
+        line: 2,
+        leaves: 0,
+    };
+    let mut raw = Raw {
+        deadline,
+        switch,
+        leaves: 0,
+        functions: 0,
+        bounds: [0; BOUNDS],
+        heights: [0; MAX_FUNCTIONS],
+    };
     loop {
-        match in_task(text, at) {
-            Member::Neither => return refused(FORM, i),
-            Member::End(e) => return ended(text, e, i, accepted(d, t, n, own, bounds, heights)),
-            Member::Function(e) => {
-                if own == MAX_FUNCTIONS {
-                    return refused(COUNT, i);
+        match line(text, spot.at) {
+            Some((Form::Close, end)) => return ended(text, spot, end, raw),
+            Some((Form::Fun, end)) => {
+                if raw.functions == MAX_FUNCTIONS {
+                    return Err(spot.refused(Refusal::Count));
                 }
-                match forms(text, &heights, own, room, 2, 1, e, i + 1, n, row) {
-                    Inside::Stopped(k, j) => return refused(k, j),
-                    Inside::Closed(a, j, m, h) => {
-                        heights[own] = h;
-                        own += 1;
-                        bounds[own] = m as u64;
-                        at = a;
-                        i = j;
-                        n = m;
-                    }
-                }
+                let body = forms(text, &raw, room, IN_FUNCTION, spot.behind(end), row)?;
+                add(&mut raw, body);
+                spot = body.next;
             }
+            _ => return Err(spot.refused(Refusal::Form)),
         }
     }
 }
 
 // Reads the task.
-fn whole_task(text: &[u8], room: usize, row: &mut [u64; ROW]) -> Raw
+fn whole_task(text: &[u8], room: usize, row: &mut [u64; ROW]) -> Result<Raw, RefusedAt>
     requires { room ≤ 512 }
     ensures { TextAt text.now room row.old row.new result }
 {
     match task_line(text) {
-        Head::Not(k) => refused(k, 1),
-        Head::Opens(d, t, e) => functions(text, d, t, e, room, row),
+        Ok((deadline, switch, end)) => functions(text, deadline, switch, end, room, row),
+        Err(refusal) => Err(RefusedAt { refusal, line: 1 }),
     }
 }
 
-// Gives the smaller of two numbers.
-fn smaller(a: usize, b: usize) -> usize
-    ensures { result ≡ min a b }
-{
-    if b < a { b } else { a }
-}
-
 // Reads a plan into a row of which so many records may be used, 512 at most. A refused text leaves in the row what was read of it.
-pub fn read_lines(text: &[u8], capacity: usize, row: &mut [u64; ROW]) -> Raw
+pub fn read_lines(text: &[u8], capacity: usize, row: &mut [u64; ROW]) -> Result<Raw, RefusedAt>
     ensures answers { result ≡ raw_of (outcome capacity text.now) }
     ensures writes { Written (outcome capacity text.now) row.old row.new }
 {
     if MAX_TEXT < text.len() {
-        return refused(OVERSIZE, 0);
+        return Err(RefusedAt {
+            refusal: Refusal::Oversize,
+            line: 0,
+        });
     }
-    whole_task(text, smaller(MAX_LEAVES, capacity), row)
+    whole_task(text, MAX_LEAVES.min(capacity), row)
 }
 
 // Reads a plan into the lent row, of which so many records may be used, 512 at most. A refused text leaves the row as it is.
-pub fn read_raw(text: &[u8], capacity: usize, row: &mut [u64; ROW]) -> Raw
+pub fn read_raw(text: &[u8], capacity: usize, row: &mut [u64; ROW]) -> Result<Raw, RefusedAt>
     ensures answers { result ≡ raw_of (outcome capacity text.now) }
     ensures writes { row.new ≡ row_left (outcome capacity text.now) row.old }
 {
     let mut work = *row;
-    let raw = read_lines(text, capacity, &mut work);
-    let answer = raw.answer;
-    if let Answer::Accepted = answer {
-        *row = work;
-    }
-    raw
+    let raw = read_lines(text, capacity, &mut work)?;
+    *row = work;
+    Ok(raw)
 }

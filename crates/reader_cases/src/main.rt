@@ -2,52 +2,30 @@
 // with the refusal's number and line. What must be printed is worked out by hand beside each text, and stands in the file stdout.
 #![tactic(auto)]
 
-ghost use Rattle.std.specs.Prelude.{◌≡◌, ◌≤◌, length, take};
+ghost use Rattle.std.specs.Prelude.{◌≤◌};
 
 use print::put_bytes;
-use reader::{Answer, read_raw};
+use reader::{TEXT, read_raw};
 use rows::ROW;
 use std::io;
 
 // Reads a text into a row of which so many records may be used, and prints the answer.
 fn show(rt: &impl Print, text: &[u8], capacity: usize) -> io::Result<()> {
     let mut row = [0; ROW];
-    let raw = read_raw(text, capacity, &mut row);
-    let answer = raw.answer;
-    match answer {
-        Answer::Accepted => {
-            print!(rt; "accepted ")?;
-            print_two(rt, raw.leaves as u64, raw.functions as u64)
-        }
-        Answer::Refused(k, j) => {
-            print!(rt; "refused ")?;
-            print_two(rt, k, j as u64)
-        }
+    match read_raw(text, capacity, &mut row) {
+        Ok(raw) => println!(rt; "accepted {} {}", raw.leaves, raw.functions),
+        Err(refused) => println!(rt; "refused {} {}", u64::from(refused.refusal), refused.line),
     }
 }
 
-// Prints two numbers and a line feed.
-fn print_two(rt: &impl Print, a: u64, b: u64) -> io::Result<()> {
-    println!(rt; "{a} {b}")
-}
-
-// Gives room for a text.
-fn blank() -> [u8; 65537]
-    ensures { 65537 ≡ length result }
-{
-    [0; 65537]
-}
-
 // Writes a piece so many times, one behind the other, as far as the text has room, and gives the place after them.
-fn add(text: &mut [u8; 65537], at: usize, piece: &[u8], times: usize) -> usize
-    requires { (at ≤ 65537) × (65537 ≡ length text.old) }
-    ensures { (result ≤ 65537) × (65537 ≡ length text.new) × (result ≡ length (take result text.new)) }
+fn add(text: &mut [u8; TEXT], at: usize, piece: &[u8], times: usize) -> usize
+    requires { at ≤ TEXT }
+    ensures { result ≤ TEXT }
 {
     let mut end = at;
-    let mut k = 0;
-    while k < times {
+    for _ in 0..times {
         end = put_bytes(text, end, piece);
-        k += 1;
     }
     end
 }
@@ -161,7 +139,7 @@ fn costless_texts(rt: &impl Print) -> io::Result<()> {
 
 // Shows the smallest plan with so many blanks and line feeds behind it.
 fn show_tail(rt: &impl Print, blanks: usize, feeds: usize) -> io::Result<()> {
-    let mut text = blank();
+    let mut text = [0; TEXT];
     let a = add(&mut text, 0, b"(task 19 3\n(fun\n(leaf s 7 9)\n)\n)\n", 1);
     let b = add(&mut text, a, b" ", blanks);
     let c = add(&mut text, b, b"\n", feeds);
@@ -170,7 +148,7 @@ fn show_tail(rt: &impl Print, blanks: usize, feeds: usize) -> io::Result<()> {
 
 // Shows a text whose first function has so many leaves, with so many empty functions behind it.
 fn show_flat(rt: &impl Print, leaves: usize, empty: usize, capacity: usize) -> io::Result<()> {
-    let mut text = blank();
+    let mut text = [0; TEXT];
     let a = add(&mut text, 0, b"(task 1 0\n(fun\n", 1);
     let b = add(&mut text, a, b"(leaf s 0 0)\n", leaves);
     let c = add(&mut text, b, b")\n(fun\n", empty);
@@ -198,9 +176,9 @@ fn long_texts(rt: &impl Print) -> io::Result<()> {
 
 // Writes so many loops, each in the body of the one before, and in the last of them so many ifs, each in the then part of the one before; gives the place
 // after them.
-fn add_nested(text: &mut [u8; 65537], at: usize, loops: usize, ifs: usize) -> usize
-    requires { (at ≤ 65537) × (65537 ≡ length text.old) }
-    ensures { (result ≤ 65537) × (65537 ≡ length text.new) }
+fn add_nested(text: &mut [u8; TEXT], at: usize, loops: usize, ifs: usize) -> usize
+    requires { at ≤ TEXT }
+    ensures { result ≤ TEXT }
 {
     let a = add(text, at, b"(loop s 1 0 0\n", loops);
     let b = add(text, a, b"(if s 0 0\n(then\n", ifs);
@@ -210,7 +188,7 @@ fn add_nested(text: &mut [u8; 65537], at: usize, loops: usize, ifs: usize) -> us
 
 // Shows a text whose first function has so many loops and in them so many ifs, each in the one before; so many functions that call it follow.
 fn show_nested(rt: &impl Print, loops: usize, ifs: usize, calls: usize) -> io::Result<()> {
-    let mut text = blank();
+    let mut text = [0; TEXT];
     let a = add(&mut text, 0, b"(task 1 0\n(fun\n", 1);
     let b = add_nested(&mut text, a, loops, ifs);
     let c = add(&mut text, b, b")\n(fun\n(call s 0 0 0)\n", calls);

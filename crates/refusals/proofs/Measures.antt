@@ -6,6 +6,7 @@ use mathlib.Core.Bool.{Bool, true, false}
 use native.Mathlib.Omega.{arith}
 use native.Mathlib.Decide.{dec_le}
 use lib.ListN.{length, get_or, length-append}
+use Rattle.std.proofs.lemmas.List.{get_or_append_left}
 use lib.Seq.{get_or-append_seam}
 use lib.Dec.{eqb}
 use borrow.Author.Tests.{eqb-true, eqb-false, eq-eqb}
@@ -301,11 +302,6 @@ NamesClosed S (Call k f c m) = f < length (functions_of S)
 NamesClosed S (Loop k b c m) = Unit
 NamesClosed S (If k c m) = Unit
 
-pub get_d_front : (hs : List ℕ) (x F : ℕ) → F < length hs → get_or (hs ++ (x ∷ [])) F 0 ≡ get_or hs F 0
-get_d_front [] x F h = absurd (omega arith)
-get_d_front (k ∷ hs) x zero h = refl
-get_d_front (k ∷ hs) x (suc F) h = get_d_front hs x F (omega arith)
-
 talls_step : {S : ParserState} {n : ℕ} {f : Form} {S' : ParserState} → Step S n f S' → NamesClosed S f → (F : ℕ) →
     get_or (talls S') F 0 ≡ max (get_or (talls S) F 0) (pick (eqb F (functions_in S - 1)) (highest (innermost (levels_at S)) (λ G. get_or (talls S) G 0) f) 0)
 unfolding talls peak under height heights functions_in levels_at functions_of
@@ -321,7 +317,7 @@ talls_step (call {p = p} {K = K} {fs = fs} {n = n} {k = k} {g = g} {c = c} {m = 
     omega (
       arith,
       innermost_under K,
-      get_d_front (heights [] p.functions) (peak (heights [] p.functions) K fs) g (omega (arith, heights_length [] p.functions)),
+      get_or_append_left (heights [] p.functions) (peak (heights [] p.functions) K fs ∷ []) 0 g (omega (arith, heights_length [] p.functions)),
     ))
 talls_step (loop {p = p} {K = K}) h F =
     raise (heights [] p.functions) _ _ _ _ F (omega (arith, heights_length [] p.functions)) (omega (arith, innermost_under K))

@@ -9,6 +9,7 @@ use native.Mathlib.Omega.{arith}
 use lib.ListN.{length, replicate}
 use lib.Dec.{leb}
 use borrow.Author.Tests.{leb-true}
+use Rattle.model.specs.declared.Refusal.{Refusal}
 use Rattle.text.specs.declared.Form.{Form}
 use Rattle.text.specs.declared.Form.TheVariants.{Task, Fun, Then, Else, Close, Leaf, Call, Loop, If}
 use Rattle.text.specs.Text.{bytes, lines}
@@ -61,7 +62,7 @@ unfolding height_of open_brackets functions_among
 empty_loop_32 x = height_bounds x
 
 -- .. and a form inside has level 33.
-inside_33 : Breaks 512 (in_main (replicate 32 a_loop)) (form a_leaf) 7
+inside_33 : Breaks 512 (in_main (replicate 32 a_loop)) (form a_leaf) Refusal.Depth
 unfolding open_brackets
 inside_33 =
     let e : innermost (open_brackets (in_main (replicate 32 a_loop))) ≡ 33 = refl in
@@ -81,7 +82,7 @@ through_calls =
 -- THE ORDER IN A LINE: these lines break two rules, and the first counts.
 
 -- A 513th leaf with M below C: 4 before 5.
-leaf_513_light : Breaks 600 (in_main (replicate 512 a_leaf)) (form (Leaf true 2 1)) 4 × Breaks 600 (in_main (replicate 512 a_leaf)) (form (Leaf true 2 1)) 5
+leaf_513_light : Breaks 600 (in_main (replicate 512 a_leaf)) (form (Leaf true 2 1)) Refusal.Count × Breaks 600 (in_main (replicate 512 a_leaf)) (form (Leaf true 2 1)) Refusal.Load
 unfolding leaves_among
 leaf_513_light = (
   let e : leaves_among (in_main (replicate 512 a_leaf)) ≡ 512 = refl in
@@ -90,24 +91,24 @@ leaf_513_light = (
 )
 
 -- A lent row of no records: the first leaf is one too many.
-row_of_none : Breaks 0 (in_main []) (form a_leaf) 4
+row_of_none : Breaks 0 (in_main []) (form a_leaf) Refusal.Count
 unfolding leaves_among
 row_of_none = row_count {f = a_leaf} (omega arith)
 
 -- A 17th function.
-function_17th : Breaks 512 (empty_functions 16) (form Fun) 4
+function_17th : Breaks 512 (empty_functions 16) (form Fun) Refusal.Count
 unfolding functions_among empty_functions
 function_17th =
     let e : functions_among (empty_functions 16) ≡ 16 = refl in
     function_count {f = Fun} (omega arith)
 
 -- A call of its own function with M below C: 5 before 6.
-own_light : Breaks 512 (in_main []) (form (Call true 0 2 1)) 5 × Breaks 512 (in_main []) (form (Call true 0 2 1)) 6
+own_light : Breaks 512 (in_main []) (form (Call true 0 2 1)) Refusal.Load × Breaks 512 (in_main []) (form (Call true 0 2 1)) Refusal.Target
 unfolding functions_among
 own_light = (load {c = 2} {m = 1} of_call (omega arith), target {F = 0} (omega arith))
 
 -- A point with C = 0 that is the 513th leaf: 4 before 19.
-leaf_513_costless : Breaks 600 (in_main (replicate 512 a_leaf)) (form (Leaf true 0 1)) 4 × Breaks 600 (in_main (replicate 512 a_leaf)) (form (Leaf true 0 1)) 19
+leaf_513_costless : Breaks 600 (in_main (replicate 512 a_leaf)) (form (Leaf true 0 1)) Refusal.Count × Breaks 600 (in_main (replicate 512 a_leaf)) (form (Leaf true 0 1)) Refusal.Costless
 unfolding leaves_among
 leaf_513_costless = (
   let e : leaves_among (in_main (replicate 512 a_leaf)) ≡ 512 = refl in
@@ -116,16 +117,16 @@ leaf_513_costless = (
 )
 
 -- A point with C = 0 whose loop has no rounds: 3 before 19.
-no_rounds_costless : Breaks 512 (in_main []) (form (Loop true 0 0 0)) 3 × Breaks 512 (in_main []) (form (Loop true 0 0 0)) 19
+no_rounds_costless : Breaks 512 (in_main []) (form (Loop true 0 0 0)) Refusal.Range × Breaks 512 (in_main []) (form (Loop true 0 0 0)) Refusal.Costless
 no_rounds_costless = (bound_range {b = 0} (inl (omega arith)), costless of_loop)
 
 -- A point with C = 0 that calls its own function: 19 before 6.
-own_costless : Breaks 512 (in_main []) (form (Call true 0 0 1)) 19 × Breaks 512 (in_main []) (form (Call true 0 0 1)) 6
+own_costless : Breaks 512 (in_main []) (form (Call true 0 0 1)) Refusal.Costless × Breaks 512 (in_main []) (form (Call true 0 0 1)) Refusal.Target
 unfolding functions_among
 own_costless = (costless of_call, target {F = 0} (omega arith))
 
 -- A point with C = 0 whose bracket is the 65th: 19 before 7.
-bracket_65th_costless : Breaks 512 (in_main (nested_ifs 31)) (form (If true 0 0)) 19 × Breaks 512 (in_main (nested_ifs 31)) (form (If true 0 0)) 7
+bracket_65th_costless : Breaks 512 (in_main (nested_ifs 31)) (form (If true 0 0)) Refusal.Costless × Breaks 512 (in_main (nested_ifs 31)) (form (If true 0 0)) Refusal.Depth
 unfolding open_brackets nested_ifs
 bracket_65th_costless = (
   costless of_if,
@@ -148,12 +149,12 @@ silent_costless of_loop = elim [ ]
 silent_costless of_if = elim [ ]
 
 -- F = 16 is out of its range: 3 before 6.
-called_16th : Breaks 512 (in_main []) (form (Call true 16 1 1)) 3 × Breaks 512 (in_main []) (form (Call true 16 1 1)) 6
+called_16th : Breaks 512 (in_main []) (form (Call true 16 1 1)) Refusal.Range × Breaks 512 (in_main []) (form (Call true 16 1 1)) Refusal.Target
 unfolding functions_among
 called_16th = (target_range {F = 16} (omega arith), target {F = 16} (omega arith))
 
 -- A call of its own function at level 33: 6 before 7.
-own_at_33 : Breaks 512 (in_main (replicate 32 a_loop)) (form (Call true 0 1 1)) 6 × Breaks 512 (in_main (replicate 32 a_loop)) (form (Call true 0 1 1)) 7
+own_at_33 : Breaks 512 (in_main (replicate 32 a_loop)) (form (Call true 0 1 1)) Refusal.Target × Breaks 512 (in_main (replicate 32 a_loop)) (form (Call true 0 1 1)) Refusal.Depth
 unfolding functions_among open_brackets
 own_at_33 = (
   let e : own_function (in_main (replicate 32 a_loop)) ≡ 0 = refl in
@@ -163,82 +164,82 @@ own_at_33 = (
 )
 
 -- A 65th bracket at level 1.
-bracket_65th : Breaks 512 (in_main (nested_ifs 31)) (form an_if) 7
+bracket_65th : Breaks 512 (in_main (nested_ifs 31)) (form an_if) Refusal.Depth
 unfolding open_brackets nested_ifs
 bracket_65th =
     let e : length (open_brackets (in_main (nested_ifs 31))) ≡ 64 = refl in
     bracket_depth {f = an_if} (omega arith)
 
 -- WHOLE TEXTS, refused at the first line that breaks a rule, by the first that it breaks, or behind the last
-abbrev by_rules : (capacity : ℕ) (text : List ℕ) (k j : ℕ) → leb (length text) 65536 ≡ true → outcome capacity text ≡ refused k j → RefusedAt capacity text k j
+abbrev by_rules : (capacity : ℕ) (text : List ℕ) (k : Refusal) (j : ℕ) → leb (length text) 65536 ≡ true → outcome capacity text ≡ refused k j → RefusedAt capacity text k j
 by_rules capacity text k j h e = (refused_exactly capacity text k j (leb-true (length text) 65536 h)).0 e
 
 -- The empty text.
-empty_text : RefusedAt 512 (bytes "") 2 1
+empty_text : RefusedAt 512 (bytes "") Refusal.Form 1
 unfolding outcome run fault brackets_in brackets level_in level functions_of heights height ◌⧺◌ line_form lines matched item number digits
-empty_text = by_rules 512 (bytes "") 2 1 refl refl
+empty_text = by_rules 512 (bytes "") Refusal.Form 1 refl refl
 
 -- A task closed with no function.
-task_without_function : RefusedAt 512 (bytes "(task 1 0\n)\n") 2 2
+task_without_function : RefusedAt 512 (bytes "(task 1 0\n)\n") Refusal.Form 2
 unfolding outcome run fault brackets_in brackets level_in level functions_of heights height ◌⧺◌ line_form lines matched item number digits
-task_without_function = by_rules 512 (bytes "(task 1 0\n)\n") 2 2 refl refl
+task_without_function = by_rules 512 (bytes "(task 1 0\n)\n") Refusal.Form 2 refl refl
 
 -- An if closed without its parts.
-if_without_parts : RefusedAt 512 (bytes "(task 1 0\n(fun\n(if p 1 1\n)\n") 2 4
+if_without_parts : RefusedAt 512 (bytes "(task 1 0\n(fun\n(if p 1 1\n)\n") Refusal.Form 4
 unfolding outcome run fault brackets_in brackets level_in level functions_of heights height ◌⧺◌ line_form lines matched item number digits
-if_without_parts = by_rules 512 (bytes "(task 1 0\n(fun\n(if p 1 1\n)\n") 2 4 refl refl
+if_without_parts = by_rules 512 (bytes "(task 1 0\n(fun\n(if p 1 1\n)\n") Refusal.Form 4 refl refl
 
 -- A form directly inside an if.
-form_in_if : RefusedAt 512 (bytes "(task 1 0\n(fun\n(if p 1 1\n(leaf p 1 1)\n") 2 4
+form_in_if : RefusedAt 512 (bytes "(task 1 0\n(fun\n(if p 1 1\n(leaf p 1 1)\n") Refusal.Form 4
 unfolding outcome run fault brackets_in brackets level_in level functions_of heights height ◌⧺◌ line_form lines matched item number digits
-form_in_if = by_rules 512 (bytes "(task 1 0\n(fun\n(if p 1 1\n(leaf p 1 1)\n") 2 4 refl refl
+form_in_if = by_rules 512 (bytes "(task 1 0\n(fun\n(if p 1 1\n(leaf p 1 1)\n") Refusal.Form 4 refl refl
 
 -- Parts swapped.
-parts_swapped : RefusedAt 512 (bytes "(task 1 0\n(fun\n(if p 1 1\n(else\n") 2 4
+parts_swapped : RefusedAt 512 (bytes "(task 1 0\n(fun\n(if p 1 1\n(else\n") Refusal.Form 4
 unfolding outcome run fault brackets_in brackets level_in level functions_of heights height ◌⧺◌ line_form lines matched item number digits
-parts_swapped = by_rules 512 (bytes "(task 1 0\n(fun\n(if p 1 1\n(else\n") 2 4 refl refl
+parts_swapped = by_rules 512 (bytes "(task 1 0\n(fun\n(if p 1 1\n(else\n") Refusal.Form 4 refl refl
 
 -- A part doubled.
-part_doubled : RefusedAt 512 (bytes "(task 1 0\n(fun\n(if p 1 1\n(then\n)\n(then\n") 2 6
+part_doubled : RefusedAt 512 (bytes "(task 1 0\n(fun\n(if p 1 1\n(then\n)\n(then\n") Refusal.Form 6
 unfolding outcome run fault brackets_in brackets level_in level functions_of heights height ◌⧺◌ line_form lines matched item number digits
-part_doubled = by_rules 512 (bytes "(task 1 0\n(fun\n(if p 1 1\n(then\n)\n(then\n") 2 6 refl refl
+part_doubled = by_rules 512 (bytes "(task 1 0\n(fun\n(if p 1 1\n(then\n)\n(then\n") Refusal.Form 6 refl refl
 
 -- A text that ends early: the line after the last.
-ended_early : RefusedAt 512 (bytes "(task 1 0\n(fun\n)\n") 2 4
+ended_early : RefusedAt 512 (bytes "(task 1 0\n(fun\n)\n") Refusal.Form 4
 unfolding outcome run fault brackets_in brackets level_in level functions_of heights height ◌⧺◌ line_form lines matched item number digits
-ended_early = by_rules 512 (bytes "(task 1 0\n(fun\n)\n") 2 4 refl refl
+ended_early = by_rules 512 (bytes "(task 1 0\n(fun\n)\n") Refusal.Form 4 refl refl
 
 -- Anything behind the closed task, also a blank line.
-blank_behind : RefusedAt 512 (bytes "(task 1 0\n(fun\n)\n)\n\n") 2 5
+blank_behind : RefusedAt 512 (bytes "(task 1 0\n(fun\n)\n)\n\n") Refusal.Form 5
 unfolding outcome run fault brackets_in brackets level_in level functions_of heights height ◌⧺◌ line_form lines matched item number digits
-blank_behind = by_rules 512 (bytes "(task 1 0\n(fun\n)\n)\n\n") 2 5 refl refl
+blank_behind = by_rules 512 (bytes "(task 1 0\n(fun\n)\n)\n\n") Refusal.Form 5 refl refl
 
 -- A last line without a line feed, whatever else is wrong with it.
-no_line_feed : RefusedAt 512 (bytes "(task 0 0") 2 1
+no_line_feed : RefusedAt 512 (bytes "(task 0 0") Refusal.Form 1
 unfolding outcome run fault brackets_in brackets level_in level functions_of heights height ◌⧺◌ line_form lines matched item number digits
-no_line_feed = by_rules 512 (bytes "(task 0 0") 2 1 refl refl
+no_line_feed = by_rules 512 (bytes "(task 0 0") Refusal.Form 1 refl refl
 
 -- A leading zero, also where the number would be out of range.
-zero_in_front : RefusedAt 512 (bytes "(task 1 0\n(fun\n(leaf p 09999999 1)\n") 2 3
+zero_in_front : RefusedAt 512 (bytes "(task 1 0\n(fun\n(leaf p 09999999 1)\n") Refusal.Form 3
 unfolding outcome run fault brackets_in brackets level_in level functions_of heights height ◌⧺◌ line_form lines matched item number digits
-zero_in_front = by_rules 512 (bytes "(task 1 0\n(fun\n(leaf p 09999999 1)\n") 2 3 refl refl
+zero_in_front = by_rules 512 (bytes "(task 1 0\n(fun\n(leaf p 09999999 1)\n") Refusal.Form 3 refl refl
 
 -- Wrong nesting before range.
-nesting_before_range : RefusedAt 512 (bytes "(task 1 0\n(leaf p 9999999 1)\n") 2 2
+nesting_before_range : RefusedAt 512 (bytes "(task 1 0\n(leaf p 9999999 1)\n") Refusal.Form 2
 unfolding outcome run fault brackets_in brackets level_in level functions_of heights height ◌⧺◌ line_form lines matched item number digits
-nesting_before_range = by_rules 512 (bytes "(task 1 0\n(leaf p 9999999 1)\n") 2 2 refl refl
+nesting_before_range = by_rules 512 (bytes "(task 1 0\n(leaf p 9999999 1)\n") Refusal.Form 2 refl refl
 
 -- A point with C = 0 that the lent row has no record for: 4, not 19.
-count_not_costless : RefusedAt 0 (bytes "(task 1 0\n(fun\n(leaf p 0 0)\n") 4 3
+count_not_costless : RefusedAt 0 (bytes "(task 1 0\n(fun\n(leaf p 0 0)\n") Refusal.Count 3
 unfolding outcome run fault brackets_in brackets level_in level functions_of heights height ◌⧺◌ line_form lines matched item number digits
-count_not_costless = by_rules 0 (bytes "(task 1 0\n(fun\n(leaf p 0 0)\n") 4 3 refl refl
+count_not_costless = by_rules 0 (bytes "(task 1 0\n(fun\n(leaf p 0 0)\n") Refusal.Count 3 refl refl
 
 -- A call of its own function with M below C: 5, not 6.
-load_not_target : RefusedAt 512 (bytes "(task 1 0\n(fun\n(call p 0 2 1)\n") 5 3
+load_not_target : RefusedAt 512 (bytes "(task 1 0\n(fun\n(call p 0 2 1)\n") Refusal.Load 3
 unfolding outcome run fault brackets_in brackets level_in level functions_of heights height ◌⧺◌ line_form lines matched item number digits
-load_not_target = by_rules 512 (bytes "(task 1 0\n(fun\n(call p 0 2 1)\n") 5 3 refl refl
+load_not_target = by_rules 512 (bytes "(task 1 0\n(fun\n(call p 0 2 1)\n") Refusal.Load 3 refl refl
 
 -- A call of its own function that is a point with C = 0: 19, not 6.
-costless_not_target : RefusedAt 512 (bytes "(task 1 0\n(fun\n(call p 0 0 1)\n") 19 3
+costless_not_target : RefusedAt 512 (bytes "(task 1 0\n(fun\n(call p 0 0 1)\n") Refusal.Costless 3
 unfolding outcome run fault brackets_in brackets level_in level functions_of heights height ◌⧺◌ line_form lines matched item number digits
-costless_not_target = by_rules 512 (bytes "(task 1 0\n(fun\n(call p 0 0 1)\n") 19 3 refl refl
+costless_not_target = by_rules 512 (bytes "(task 1 0\n(fun\n(call p 0 0 1)\n") Refusal.Costless 3 refl refl

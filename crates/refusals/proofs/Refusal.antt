@@ -1,16 +1,20 @@
 -- The machine refuses a text by k at line j, 2 to 7 or 19, exactly when the rules do, by following the lines before j.
-use Prim.Native.Nat.{ℕ, zero, suc, ◌+◌, ◌≤◌, min}
+use Prim.Native.Nat.{ℕ, suc, ◌+◌, ◌≤◌, min}
 use mathlib.Core.Path.{◌≡◌, refl, sym, ap, ◌∙◌, subst}
 use mathlib.Core.List.{List, [], ◌∷◌, ◌++◌, map, append-nil, append_assoc, reverse, reverse-cons}
 use mathlib.Core.Logic.{◌⊎◌, ◌↔◌, inl, inr}
 use mathlib.Core.Bool.{Bool}
 use native.Mathlib.Omega.{arith}
 use lib.ListN.{length}
+use Rattle.std.proofs.lemmas.List.{get_or_append_left}
 use borrow.Author.Tests.{le-leb}
 use Rattle.text.specs.Text.{lines}
 use Rattle.text.specs.declared.Form.{Form}
 use Rattle.text.specs.declared.Form.TheVariants.{Task, Fun, Then, Else, Close, Leaf, Call, Loop, If}
 use Rattle.text.specs.Grammar.{Line, no_form, form, line_form}
+use Rattle.model.specs.declared.Refusal.{Refusal}
+use Rattle.model.specs.Refusals.{number_of}
+use Rattle.std.specs.Prelude.{Option, None, Some}
 use Rattle.model.specs.Plan.{Lines, Plan}
 use Rattle.model.specs.Levels.{heights}
 use Rattle.reader.specs.Outcome.{Outcome, plan, refused}
@@ -20,7 +24,7 @@ use Rattle.reader.proofs.Appended.{heights_length}
 use Rattle.reader.proofs.Steps.{before, Step, opens_fun, leaf, call, loop, cond, stepped, before_step}
 use Rattle.refusals.specs.Refusal.{PlanLines, LeafLine, of_leaf, of_call, of_loop, of_if, innermost, Breaks, no_line, nesting, line_order, FirstBroken, this, not_this, NoneBroken, RefusedAt, at_line, at_end}
 use Rattle.refusals.proofs.Nesting.{held_step, begins, stuck_begins, whole_done}
-use Rattle.refusals.proofs.Measures.{levels_at, innermost_in, brackets_at, functions_in, peak, talls, get_d_front, NamesClosed, Agrees, agrees_start, agrees_step}
+use Rattle.refusals.proofs.Measures.{levels_at, innermost_in, brackets_at, functions_in, peak, talls, NamesClosed, Agrees, agrees_start, agrees_step}
 use Rattle.refusals.proofs.Rulings.{AtLeaf, Values, breaks_rule, Ruling, ruling}
 
 -- THE MACHINE'S NUMBERS are those of the lines before
@@ -30,7 +34,7 @@ unfolding level levels_at functions_of functions_in talls
 at_body p K fs a = record {
   level_is = sym (innermost_in K) ∙ ap innermost (sym a.brackets_are);
   own_is = omega (arith, heights_length [] p.functions, a.functions);
-  heights_are = λ F h. a.tall F ∙ get_d_front (heights [] p.functions) (peak (heights [] p.functions) K fs) F h;
+  heights_are = λ F h. a.tall F ∙ get_or_append_left (heights [] p.functions) (peak (heights [] p.functions) K fs ∷ []) 0 F h;
 }
 
 at_leaf : {S : ParserState} {n c m : ℕ} {k : Bool} {f : Form} {S' : ParserState} {es : List Form} → LeafLine f k c m → Step S n f S' → Agrees S n es →
@@ -67,11 +71,11 @@ names room d L n S (If k c m) a = tt
 -- ONE LINE
 
 -- The first rule that a line breaks is one that it breaks, and there is no second one.
-first_breaks : {capacity : ℕ} {es : List Form} {x : Line} {ks : List ℕ} {k : ℕ} → FirstBroken capacity es x ks k → Breaks capacity es x k
+first_breaks : {capacity : ℕ} {es : List Form} {x : Line} {ks : List Refusal} {k : Refusal} → FirstBroken capacity es x ks k → Breaks capacity es x k
 first_breaks (this b) = b
 first_breaks (not_this o b) = first_breaks b
 
-first_once : {capacity : ℕ} {es : List Form} {x : Line} {ks : List ℕ} {k k' : ℕ} → FirstBroken capacity es x ks k → FirstBroken capacity es x ks k' → k ≡ k'
+first_once : {capacity : ℕ} {es : List Form} {x : Line} {ks : List Refusal} {k k' : Refusal} → FirstBroken capacity es x ks k → FirstBroken capacity es x ks k' → k ≡ k'
 first_once (this b) (this c) = refl
 first_once (this b) (not_this o c) = absurd (o b)
 first_once (not_this o b) (this c) = absurd (o c)
@@ -79,15 +83,15 @@ first_once (not_this o b) (not_this u c) = first_once b c
 
 -- The machine goes on at a line that breaks no rule, and stops by the first rule that a line breaks.
 data Judged (capacity : ℕ) (es : List Form) : Line → Turn → Type 0 where
-  goes : {f : Form} {S : ParserState} {n : ℕ} → ((i : ℕ) → ¬ Breaks capacity es (form f) i) → Agrees S n (f ∷ es) → Judged capacity es (form f) (go S n)
-  stops : {x : Line} {k : ℕ} → FirstBroken capacity es x line_order k → Judged capacity es x (stop k)
+  goes : {f : Form} {S : ParserState} {n : ℕ} → ((i : Refusal) → ¬ Breaks capacity es (form f) i) → Agrees S n (f ∷ es) → Judged capacity es (form f) (go S n)
+  stops : {x : Line} {k : Refusal} → FirstBroken capacity es x line_order k → Judged capacity es x (stop k)
 
 judge : (capacity : ℕ) {S : ParserState} {n : ℕ} {es : List Form} → Agrees S n es → NoneBroken capacity es → (x : Line) →
     Judged capacity es x (line_turn (min 512 capacity) S n x)
 judge capacity a h no_form = stops (this no_line)
 judge capacity {S} {n} {es} a h (form f) = here (next S n f) refl (fault (min 512 capacity) (brackets S) (level S) n (heights [] (functions_of S)) f) refl
   where
-    here : (x : Next) → next S n f ≡ x → (k : ℕ) → fault (min 512 capacity) (brackets S) (level S) n (heights [] (functions_of S)) f ≡ k →
+    here : (x : Next) → next S n f ≡ x → (k : Option Refusal) → fault (min 512 capacity) (brackets S) (level S) n (heights [] (functions_of S)) f ≡ k →
         Judged capacity es (form f) (form_first x k (counted n f))
     here stuck q k r =
         stops (this (nesting (stuck_begins (reverse es) S a.nested f (ap (λ m. next S m f) a.leaves_read ∙ q))))
@@ -106,12 +110,12 @@ judge capacity {S} {n} {es} a h (form f) = here (next S n f) refl (fault (min 51
         ruled : Ruling capacity es f (fault (min 512 capacity) (brackets S) (level S) n (heights [] (functions_of S)) f)
         ruled = ruling capacity es f (brackets S) (level S) n (heights [] (functions_of S)) begun h (values a s)
 
-        by : (k : ℕ) → fault (min 512 capacity) (brackets S) (level S) n (heights [] (functions_of S)) f ≡ k →
+        by : (k : Option Refusal) → fault (min 512 capacity) (brackets S) (level S) n (heights [] (functions_of S)) f ≡ k →
             Judged capacity es (form f) (form_first (to S') k (counted n f))
-        by zero r =
+        by None r =
             let c : Allowed (min 512 capacity) (brackets S) (level S) n (heights [] (functions_of S)) f = allowed _ _ _ _ _ f r in
             goes (subst (λ k. Ruling capacity es f k) r ruled) (agrees_step a q (names (min 512 capacity) (brackets S) (level S) n S f c))
-        by (suc k) r = stops (subst (λ k. Ruling capacity es f k) r ruled)
+        by (Some k) r = stops (subst (λ k. Ruling capacity es f k) r ruled)
 
 -- ALL LINES, as what the grammar makes of them
 unfoldable through : ℕ → ParserState → ℕ → ℕ → List Line → Outcome
@@ -127,11 +131,11 @@ unfolding run through
 run_through room [] S n i = refl
 run_through room (l ∷ ls) S n i = onwards_same (line_turn room S n (line_form l)) i _ _ (λ S' n'. run_through room ls S' n' (i + 1))
 
-same_refusal : {k k' j j' : ℕ} → refused k j ≡ refused k' j' → (k ≡ k') × (j ≡ j')
+same_refusal : {k k' : Refusal} {j j' : ℕ} → refused k j ≡ refused k' j' → (k ≡ k') × (j ≡ j')
 same_refusal e = (cc, cc)
 
-never_plan : {A : Type 0} {p : Plan} {k j : ℕ} → plan p ≡ refused k j → A
-never_plan e = let z : ◌≡◌ {A = ℕ} 0 1 = cc in absurd (omega arith)
+never_plan : {A : Type 0} {p : Plan} {k : Refusal} {j : ℕ} → plan p ≡ refused k j → A
+never_plan e = cc
 
 -- The lines one after the other.
 snoc_lines : (es : List Form) (f : Form) (xs : List Line) → map form (reverse (f ∷ es)) ++ xs ≡ map form (reverse es) ++ (form f ∷ xs)
@@ -142,13 +146,13 @@ snoc_lines es f xs = ap (λ fs. map form fs ++ xs) (reverse-cons f es) ∙ onto 
     onto (g ∷ fs) = ap (λ ys. form g ∷ ys) (onto fs)
 
 -- The end of the text: the task is closed, or the end is refused by 2.
-ending : (S : ParserState) → ((p : Plan) × (S ≡ done p)) ⊎ (((i : ℕ) → finish S i ≡ refused 2 i) × ((p : Plan) → S ≡ done p → ⊥))
-ending start = inr ((λ i. refl), λ p q. let z : ◌≡◌ {A = ℕ} 0 1 = cc in omega arith)
-ending (task r) = inr ((λ i. refl), λ p q. let z : ◌≡◌ {A = ℕ} 0 1 = cc in omega arith)
-ending (body r K fs) = inr ((λ i. refl), λ p q. let z : ◌≡◌ {A = ℕ} 0 1 = cc in omega arith)
-ending (await_then r K b fs) = inr ((λ i. refl), λ p q. let z : ◌≡◌ {A = ℕ} 0 1 = cc in omega arith)
-ending (await_else r K b ts fs) = inr ((λ i. refl), λ p q. let z : ◌≡◌ {A = ℕ} 0 1 = cc in omega arith)
-ending (await_close r K b ts es fs) = inr ((λ i. refl), λ p q. let z : ◌≡◌ {A = ℕ} 0 1 = cc in omega arith)
+ending : (S : ParserState) → ((p : Plan) × (S ≡ done p)) ⊎ (((i : ℕ) → finish S i ≡ refused Refusal.Form i) × ((p : Plan) → S ≡ done p → ⊥))
+ending start = inr ((λ i. refl), λ p q. cc)
+ending (task r) = inr ((λ i. refl), λ p q. cc)
+ending (body r K fs) = inr ((λ i. refl), λ p q. cc)
+ending (await_then r K b fs) = inr ((λ i. refl), λ p q. cc)
+ending (await_else r K b ts fs) = inr ((λ i. refl), λ p q. cc)
+ending (await_close r K b ts es fs) = inr ((λ i. refl), λ p q. cc)
 ending (done r) = inl (r, refl)
 
 -- The lines before a closed task are those of a plan.
@@ -158,18 +162,18 @@ done_whole {p} a = record { tree = p; some_function = a.held; lines_are = a.orde
 
 -- FROM THE MACHINE TO THE RULES
 module _ (capacity : ℕ) (text : List ℕ) where
-  refused_as : {k k' j j' : ℕ} → refused k j ≡ refused k' j' → RefusedAt capacity text k j → RefusedAt capacity text k' j'
+  refused_as : {k k' : Refusal} {j j' : ℕ} → refused k j ≡ refused k' j' → RefusedAt capacity text k j → RefusedAt capacity text k' j'
   refused_as {k} {k'} {j} e r =
       let (x, y) = same_refusal e in
       subst (λ i. RefusedAt capacity text k' i) y (subst (λ i. RefusedAt capacity text i j) x r)
 
   found : (xs : List Line) (S : ParserState) (n : ℕ) (es : List Form) → Agrees S n es → NoneBroken capacity es →
-      map line_form (lines text) ≡ map form (reverse es) ++ xs → (k j : ℕ) → through (min 512 capacity) S n (length es + 1) xs ≡ refused k j →
+      map line_form (lines text) ≡ map form (reverse es) ++ xs → (k : Refusal) (j : ℕ) → through (min 512 capacity) S n (length es + 1) xs ≡ refused k j →
       RefusedAt capacity text k j
   unfolding through
   found [] S n es a h q k j e = by (ending S)
     where
-      by : ((p : Plan) × (S ≡ done p)) ⊎ (((i : ℕ) → finish S i ≡ refused 2 i) × ((p : Plan) → S ≡ done p → ⊥)) → RefusedAt capacity text k j
+      by : ((p : Plan) × (S ≡ done p)) ⊎ (((i : ℕ) → finish S i ≡ refused Refusal.Form i) × ((p : Plan) → S ≡ done p → ⊥)) → RefusedAt capacity text k j
       by (inl (p, z)) = never_plan (sym (ap (λ x. finish x (length es + 1)) z) ∙ e)
       by (inr (f, o)) =
           refused_as (sym (f (length es + 1)) ∙ e)
@@ -179,7 +183,7 @@ module _ (capacity : ℕ) (text : List ℕ) where
       by : (x : Line) (t : Turn) → map line_form (lines text) ≡ map form (reverse es) ++ (x ∷ xs) → Judged capacity es x t →
           onwards t (length es + 1) (λ S' n'. through (min 512 capacity) S' n' (length es + 1 + 1) xs) ≡ refused k j →
           ((S : ParserState) (n : ℕ) (es : List Form) → Agrees S n es → NoneBroken capacity es → map line_form (lines text) ≡ map form (reverse es) ++ xs →
-          (k j : ℕ) → through (min 512 capacity) S n (length es + 1) xs ≡ refused k j → RefusedAt capacity text k j) → RefusedAt capacity text k j
+          (k : Refusal) (j : ℕ) → through (min 512 capacity) S n (length es + 1) xs ≡ refused k j → RefusedAt capacity text k j) → RefusedAt capacity text k j
       by x t q (goes {f = f} {S = S'} {n = n'} c b) e ih =
           let z : suc (length es) + 1 ≡ length es + 1 + 1 = omega arith in
           ih S' n' (f ∷ es) b (unfold NoneBroken in (h, c)) (q ∙ sym (snoc_lines es f xs)) k j (ap (λ i. through (min 512 capacity) S' n' i xs) z ∙ e)
@@ -199,7 +203,7 @@ through_go : (room : ℕ) (S : ParserState) (n i : ℕ) (x : Line) (xs : List Li
 unfolding through
 through_go room S n i x xs S' n' e = rw e
 
-leads_on : (capacity : ℕ) (es : List Form) (f : Form) → Led capacity es → NoneBroken capacity es → ((i : ℕ) → ¬ Breaks capacity es (form f) i) →
+leads_on : (capacity : ℕ) (es : List Form) (f : Form) → Led capacity es → NoneBroken capacity es → ((i : Refusal) → ¬ Breaks capacity es (form f) i) →
     Led capacity (f ∷ es)
 leads_on capacity es f r h c = by (line_turn (min 512 capacity) r.state r.leaves (form f)) refl (judge capacity r.agrees h (form f))
   where
@@ -222,7 +226,7 @@ leads capacity [] h = record { state = start; leaves = 0; agrees = agrees_start;
 leads capacity (f ∷ es) (h, c) = leads_on capacity es f (leads capacity es h) h c
 
 -- The machine stops at the first rule that a line breaks, and at the end of lines that are not those of a plan.
-stops_line : (capacity : ℕ) {S : ParserState} {n : ℕ} {es : List Form} {k : ℕ} (x : Line) (i : ℕ) (xs : List Line) → Agrees S n es → NoneBroken capacity es →
+stops_line : (capacity : ℕ) {S : ParserState} {n : ℕ} {es : List Form} {k : Refusal} (x : Line) (i : ℕ) (xs : List Line) → Agrees S n es → NoneBroken capacity es →
     FirstBroken capacity es x line_order k → through (min 512 capacity) S n i (x ∷ xs) ≡ refused k i
 unfolding through
 stops_line capacity {S} {n} {es} {k} x i xs a h b = by x (line_turn (min 512 capacity) S n x) b (judge capacity a h x)
@@ -233,16 +237,16 @@ stops_line capacity {S} {n} {es} {k} x i xs a h b = by x (line_turn (min 512 cap
     by x t b (stops d) = ap (λ m. refused m i) (first_once d b)
 
 stops_end : (capacity : ℕ) {S : ParserState} {n : ℕ} {es : List Form} (i : ℕ) → Agrees S n es → ¬ PlanLines (reverse es) →
-    through (min 512 capacity) S n i [] ≡ refused 2 i
+    through (min 512 capacity) S n i [] ≡ refused Refusal.Form i
 unfolding through
 stops_end capacity {S} {n} {es} i a o = by (ending S)
   where
-    by : ((p : Plan) × (S ≡ done p)) ⊎ (((i : ℕ) → finish S i ≡ refused 2 i) × ((p : Plan) → S ≡ done p → ⊥)) → finish S i ≡ refused 2 i
+    by : ((p : Plan) × (S ≡ done p)) ⊎ (((i : ℕ) → finish S i ≡ refused Refusal.Form i) × ((p : Plan) → S ≡ done p → ⊥)) → finish S i ≡ refused Refusal.Form i
     by (inl (p, z)) = absurd (o (done_whole (subst (λ T. Agrees T n es) z a)))
     by (inr (f, h)) = f i
 
 -- The lines of a text that the rules refuse by k at line j are refused so.
-lines_refused : {capacity : ℕ} {text : List ℕ} {k j : ℕ} → RefusedAt capacity text k j →
+lines_refused : {capacity : ℕ} {text : List ℕ} {k : Refusal} {j : ℕ} → RefusedAt capacity text k j →
     through (min 512 capacity) start 0 1 (map line_form (lines text)) ≡ refused k j
 lines_refused {capacity} (at_line es {x = x} rest q h b) =
     let l = leads capacity es h in
@@ -252,10 +256,10 @@ lines_refused {capacity} (at_end es q h o) =
     ap (through (min 512 capacity) start 0 1) (q ∙ sym (append-nil (map form (reverse es)))) ∙ (l.led [] ∙ stops_end capacity (length es + 1) l.agrees o)
 
 -- The rules refuse a text by one number, from 2 to 7 or 19, at one line.
-pub refused_once : {capacity : ℕ} {text : List ℕ} {k j k' j' : ℕ} → RefusedAt capacity text k j → RefusedAt capacity text k' j' → (k ≡ k') × (j ≡ j')
+pub refused_once : {capacity : ℕ} {text : List ℕ} {k k' : Refusal} {j j' : ℕ} → RefusedAt capacity text k j → RefusedAt capacity text k' j' → (k ≡ k') × (j ≡ j')
 refused_once r s = same_refusal (sym (lines_refused r) ∙ lines_refused s)
 
-pub refused_rule : {capacity : ℕ} {text : List ℕ} {k j : ℕ} → RefusedAt capacity text k j → ((2 ≤ k) × (k ≤ 7)) ⊎ (k ≡ 19)
+pub refused_rule : {capacity : ℕ} {text : List ℕ} {k : Refusal} {j : ℕ} → RefusedAt capacity text k j → ((2 ≤ number_of k) × (number_of k ≤ 7)) ⊎ (number_of k ≡ 19)
 refused_rule (at_line es rest q h b) = breaks_rule (first_breaks b)
 refused_rule (at_end es q h o) = inl (omega arith)
 
@@ -266,7 +270,7 @@ unfolding outcome
 outcome_short capacity text h = rw (le-leb (length text) 65536 h) (run_through (min 512 capacity) (lines text) start 0 1)
 
 -- A text of at most 65,536 bytes is refused by k at line j exactly when the rules refuse it so.
-pub refused_exactly : (capacity : ℕ) (text : List ℕ) (k j : ℕ) → length text ≤ 65536 → (outcome capacity text ≡ refused k j) ↔ RefusedAt capacity text k j
+pub refused_exactly : (capacity : ℕ) (text : List ℕ) (k : Refusal) (j : ℕ) → length text ≤ 65536 → (outcome capacity text ≡ refused k j) ↔ RefusedAt capacity text k j
 refused_exactly capacity text k j h = (there, λ r. outcome_short capacity text h ∙ lines_refused r)
   where
     there : outcome capacity text ≡ refused k j → RefusedAt capacity text k j

@@ -9,7 +9,11 @@ use native.Mathlib.Omega.{arith}
 use native.Mathlib.Decide.{dec_le}
 use lib.ListN.{length, get_or, length-drop}
 use lib.Dec.{leb, ltb, eqb}
+use Rattle.std.proofs.lemmas.Bool.{and_parts, and_cases, and_left, and_right}
 use borrow.Author.Tests.{lt-leb, le-ltb, leb-false, ltb-false, ltb-true}
+use Rattle.model.specs.declared.Refusal.{Refusal}
+use Rattle.model.specs.Refusals.{number_of}
+use Rattle.std.specs.Prelude.{Option, None, Some}
 use Rattle.model.specs.Places.{pick, bit}
 use Rattle.model.proofs.Bits.{bit_low}
 use Rattle.text.specs.declared.Form.{Form}
@@ -21,28 +25,7 @@ use Rattle.refusals.proofs.Measures.{highest, height_of, height_bounds, height_m
 
 -- No test both holds and fails.
 clash : {A : Type 0} {t : Bool} → t ≡ true → t ≡ false → A
-clash e q = let z : ◌≡◌ {A = ℕ} 0 1 = cc in absurd (omega arith)
-
--- Of two tests one fails.
-and_left : (s t : Bool) → s ≡ false → (s && t) ≡ false
-and_left s t e = rw e
-
-and_right : (s t : Bool) → t ≡ false → (s && t) ≡ false
-and_right true t e = e
-and_right false t e = refl
-
-and_true : (s t : Bool) → (s && t) ≡ true → (s ≡ true) × (t ≡ true)
-and_true true t e = (refl, e)
-and_true false t e = clash e refl
-
-and_false : (s t : Bool) → (s && t) ≡ false → (s ≡ false) ⊎ (t ≡ false)
-and_false true t e = inr e
-and_false false t e = inl refl
-
--- Either way the same.
-alike : (t : Bool) → pick t true true ≡ true
-alike true = refl
-alike false = refl
+clash e q = cc
 
 -- THE TESTS OF THE MACHINE, rule by rule: range, count, load, costless, target, depth
 abbrev costs : ℕ → ℕ → Bool
@@ -114,34 +97,34 @@ test_7 d L hs (Call k f c m) = leb (L + get_or hs f 0) 32
 test_7 d L hs (Loop k b c m) = leb L 32 && ltb d 64
 test_7 d L hs (If k c m) = leb L 32 && ltb d 64
 
--- The number of the first of six tests that fails, 0 if none does; and how the machine's tests of each kind of line make up such a chain.
-abbrev chain : Bool → Bool → Bool → Bool → Bool → Bool → ℕ
-chain a b c p d e = refuse_unless a 3 (refuse_unless b 4 (refuse_unless c 5 (refuse_unless p 19 (refuse_unless d 6 (refuse_unless e 7 0)))))
+-- The refusal of the first of six tests that fails, if one does; and how the machine's tests of each kind of line make up such a chain.
+abbrev chain : Bool → Bool → Bool → Bool → Bool → Bool → Option Refusal
+chain a b c p d e = refuse_unless a Refusal.Range (refuse_unless b Refusal.Count (refuse_unless c Refusal.Load (refuse_unless p Refusal.Costless (refuse_unless d Refusal.Target (refuse_unless e Refusal.Depth None)))))
 
-three : (a b c y : Bool) → refuse_unless a 3 (refuse_unless b 3 (refuse_unless c 3 (refuse_unless y 7 0))) ≡ chain (a && (b && c)) true true true true y
+three : (a b c y : Bool) → refuse_unless a Refusal.Range (refuse_unless b Refusal.Range (refuse_unless c Refusal.Range (refuse_unless y Refusal.Depth None))) ≡ chain (a && (b && c)) true true true true y
 three false b c y = refl
 three true false c y = refl
 three true true false y = refl
 three true true true y = refl
 
 two : (a b e g p h x : Bool) →
-    refuse_unless a 3 (refuse_unless b 3 (refuse_unless e 4 (refuse_unless g 5 (refuse_unless p 19 (refuse_unless h 6 (refuse_unless x 7 0)))))) ≡
+    refuse_unless a Refusal.Range (refuse_unless b Refusal.Range (refuse_unless e Refusal.Count (refuse_unless g Refusal.Load (refuse_unless p Refusal.Costless (refuse_unless h Refusal.Target (refuse_unless x Refusal.Depth None)))))) ≡
     chain (a && b) e g p h x
 two false b e g p h x = refl
 two true false e g p h x = refl
 two true true e g p h x = refl
 
-both_7 : (x y : Bool) → refuse_unless x 7 (refuse_unless y 7 0) ≡ refuse_unless (x && y) 7 0
+both_7 : (x y : Bool) → refuse_unless x Refusal.Depth (refuse_unless y Refusal.Depth None) ≡ refuse_unless (x && y) Refusal.Depth None
 both_7 true y = refl
 both_7 false y = refl
 
 twice : (a b e g p x y : Bool) →
-    refuse_unless a 3 (refuse_unless b 3 (refuse_unless e 4 (refuse_unless g 5 (refuse_unless p 19 (refuse_unless x 7 (refuse_unless y 7 0)))))) ≡
+    refuse_unless a Refusal.Range (refuse_unless b Refusal.Range (refuse_unless e Refusal.Count (refuse_unless g Refusal.Load (refuse_unless p Refusal.Costless (refuse_unless x Refusal.Depth (refuse_unless y Refusal.Depth None)))))) ≡
     chain (a && b) e g p true (x && y)
 twice a b e g p x y =
-    ap (λ z. refuse_unless a 3 (refuse_unless b 3 (refuse_unless e 4 (refuse_unless g 5 (refuse_unless p 19 z))))) (both_7 x y) ∙ two a b e g p true (x && y)
+    ap (λ z. refuse_unless a Refusal.Range (refuse_unless b Refusal.Range (refuse_unless e Refusal.Count (refuse_unless g Refusal.Load (refuse_unless p Refusal.Costless z))))) (both_7 x y) ∙ two a b e g p true (x && y)
 
-in_front : (a b e g p h x : Bool) → refuse_unless a 3 (chain b e g p h x) ≡ chain (a && b) e g p h x
+in_front : (a b e g p h x : Bool) → refuse_unless a Refusal.Range (chain b e g p h x) ≡ chain (a && b) e g p h x
 in_front true b e g p h x = refl
 in_front false b e g p h x = refl
 
@@ -156,25 +139,25 @@ fault_chain room d L n hs Else = refl
 fault_chain room d L n hs Close = refl
 fault_chain room d L n hs (Leaf k c m) = two (leb c (2 ^ 20)) (leb m (2 ^ 20)) (ltb n room) (leb c m) (leb (bit k) c) true (leb L 32)
 fault_chain room d L n hs (Call k f c m) =
-    ap (refuse_unless (leb f 15) 3)
+    ap (refuse_unless (leb f 15) Refusal.Range)
     (two (leb c (2 ^ 20)) (leb m (2 ^ 20)) (ltb n room) (leb c m) (leb (bit k) c) (ltb f (length hs)) (leb (L + get_or hs f 0) 32)) ∙
     in_front (leb f 15) (costs c m) (ltb n room) (leb c m) (leb (bit k) c) (ltb f (length hs)) (leb (L + get_or hs f 0) 32)
 fault_chain room d L n hs (Loop k b c m) =
-    ap (λ x. refuse_unless (leb 1 b) 3 (refuse_unless (leb b 65535) 3 x))
+    ap (λ x. refuse_unless (leb 1 b) Refusal.Range (refuse_unless (leb b 65535) Refusal.Range x))
     (twice (leb c (2 ^ 20)) (leb m (2 ^ 20)) (ltb n room) (leb c m) (leb (bit k) c) (leb L 32) (ltb d 64)) ∙
-    (ap (refuse_unless (leb 1 b) 3) (in_front (leb b 65535) (costs c m) (ltb n room) (leb c m) (leb (bit k) c) true (leb L 32 && ltb d 64)) ∙
+    (ap (refuse_unless (leb 1 b) Refusal.Range) (in_front (leb b 65535) (costs c m) (ltb n room) (leb c m) (leb (bit k) c) true (leb L 32 && ltb d 64)) ∙
     in_front (leb 1 b) (leb b 65535 && costs c m) (ltb n room) (leb c m) (leb (bit k) c) true (leb L 32 && ltb d 64))
 fault_chain room d L n hs (If k c m) = twice (leb c (2 ^ 20)) (leb m (2 ^ 20)) (ltb n room) (leb c m) (leb (bit k) c) (leb L 32) (ltb d 64)
 
 -- The first test that fails.
-data First (a b c p d e : Bool) : ℕ → Type 0 where
-  none : a ≡ true → b ≡ true → c ≡ true → p ≡ true → d ≡ true → e ≡ true → First a b c p d e 0
-  at_3 : a ≡ false → First a b c p d e 3
-  at_4 : a ≡ true → b ≡ false → First a b c p d e 4
-  at_5 : a ≡ true → b ≡ true → c ≡ false → First a b c p d e 5
-  at_19 : a ≡ true → b ≡ true → c ≡ true → p ≡ false → First a b c p d e 19
-  at_6 : a ≡ true → b ≡ true → c ≡ true → p ≡ true → d ≡ false → First a b c p d e 6
-  at_7 : a ≡ true → b ≡ true → c ≡ true → p ≡ true → d ≡ true → e ≡ false → First a b c p d e 7
+data First (a b c p d e : Bool) : Option Refusal → Type 0 where
+  none : a ≡ true → b ≡ true → c ≡ true → p ≡ true → d ≡ true → e ≡ true → First a b c p d e None
+  at_3 : a ≡ false → First a b c p d e (Some Refusal.Range)
+  at_4 : a ≡ true → b ≡ false → First a b c p d e (Some Refusal.Count)
+  at_5 : a ≡ true → b ≡ true → c ≡ false → First a b c p d e (Some Refusal.Load)
+  at_19 : a ≡ true → b ≡ true → c ≡ true → p ≡ false → First a b c p d e (Some Refusal.Costless)
+  at_6 : a ≡ true → b ≡ true → c ≡ true → p ≡ true → d ≡ false → First a b c p d e (Some Refusal.Target)
+  at_7 : a ≡ true → b ≡ true → c ≡ true → p ≡ true → d ≡ true → e ≡ false → First a b c p d e (Some Refusal.Depth)
 
 first : (a b c p d e : Bool) → First a b c p d e (chain a b c p d e)
 first false b c p d e = at_3 refl
@@ -213,76 +196,76 @@ unfolding NoneBroken
 within capacity [] h = unfold leaves_among functions_among open_brackets height_of in
     record { few_leaves = omega arith; fit_leaves = omega arith; few_functions = omega arith; few_brackets = omega arith; low = λ F. omega arith }
 within capacity (f ∷ es) (h, c) = record {
-  few_leaves = elim (dec_le (leaves_among (f ∷ es)) 512) [ yes q ↦ q | no q ↦ absurd (c 4 (leaf_count (omega arith))) ];
-  fit_leaves = elim (dec_le (leaves_among (f ∷ es)) capacity) [ yes q ↦ q | no q ↦ absurd (c 4 (row_count (omega arith))) ];
-  few_functions = elim (dec_le (functions_among (f ∷ es)) 16) [ yes q ↦ q | no q ↦ absurd (c 4 (function_count (omega arith))) ];
-  few_brackets = elim (dec_le (length (open_brackets (f ∷ es))) 64) [ yes q ↦ q | no q ↦ absurd (c 7 (bracket_depth (omega arith))) ];
-  low = λ F. elim (dec_le (height_of F (f ∷ es)) 32) [ yes q ↦ q | no q ↦ absurd (c 7 (level_depth (height_met (f ∷ es) F (omega arith)) (omega arith))) ];
+  few_leaves = elim (dec_le (leaves_among (f ∷ es)) 512) [ yes q ↦ q | no q ↦ absurd (c Refusal.Count (leaf_count (omega arith))) ];
+  fit_leaves = elim (dec_le (leaves_among (f ∷ es)) capacity) [ yes q ↦ q | no q ↦ absurd (c Refusal.Count (row_count (omega arith))) ];
+  few_functions = elim (dec_le (functions_among (f ∷ es)) 16) [ yes q ↦ q | no q ↦ absurd (c Refusal.Count (function_count (omega arith))) ];
+  few_brackets = elim (dec_le (length (open_brackets (f ∷ es))) 64) [ yes q ↦ q | no q ↦ absurd (c Refusal.Depth (bracket_depth (omega arith))) ];
+  low = λ F. elim (dec_le (height_of F (f ∷ es)) 32) [ yes q ↦ q | no q ↦ absurd (c Refusal.Depth (level_depth (height_met (f ∷ es) F (omega arith)) (omega arith))) ];
 }
 
 module _ (capacity : ℕ) (es : List Form) where
   -- WHERE A TEST FAILS, THE RULE IS BROKEN
 
-  costs_broken : {f : Form} {k : Bool} {c m : ℕ} → LeafLine f k c m → costs c m ≡ false → Breaks capacity es (form f) 3
-  costs_broken {f} {c} {m} x e = by (and_false (leb c (2 ^ 20)) (leb m (2 ^ 20)) e)
+  costs_broken : {f : Form} {k : Bool} {c m : ℕ} → LeafLine f k c m → costs c m ≡ false → Breaks capacity es (form f) Refusal.Range
+  costs_broken {f} {c} {m} x e = by (and_cases (leb c (2 ^ 20)) (leb m (2 ^ 20)) e)
     where
-      by : (leb c (2 ^ 20) ≡ false) ⊎ (leb m (2 ^ 20) ≡ false) → Breaks capacity es (form f) 3
+      by : (leb c (2 ^ 20) ≡ false) ⊎ (leb m (2 ^ 20) ≡ false) → Breaks capacity es (form f) Refusal.Range
       by (inl q) = cost_range x (inl (leb-false c (2 ^ 20) q))
       by (inr q) = cost_range x (inr (leb-false m (2 ^ 20) q))
 
-  task_broken : (d t : ℕ) → (leb 1 d ≡ false) ⊎ ((leb d (2 ^ 40) && leb t (2 ^ 20)) ≡ false) → Breaks capacity es (form (Task d t)) 3
+  task_broken : (d t : ℕ) → (leb 1 d ≡ false) ⊎ ((leb d (2 ^ 40) && leb t (2 ^ 20)) ≡ false) → Breaks capacity es (form (Task d t)) Refusal.Range
   task_broken d t (inl q) = deadline_range (inl (leb-false 1 d q))
-  task_broken d t (inr q) = by (and_false (leb d (2 ^ 40)) (leb t (2 ^ 20)) q)
+  task_broken d t (inr q) = by (and_cases (leb d (2 ^ 40)) (leb t (2 ^ 20)) q)
     where
-      by : (leb d (2 ^ 40) ≡ false) ⊎ (leb t (2 ^ 20) ≡ false) → Breaks capacity es (form (Task d t)) 3
+      by : (leb d (2 ^ 40) ≡ false) ⊎ (leb t (2 ^ 20) ≡ false) → Breaks capacity es (form (Task d t)) Refusal.Range
       by (inl q) = deadline_range {d = d} (inr (omega (arith, leb-false d (2 ^ 40) q)))
       by (inr q) = switch_range (leb-false t (2 ^ 20) q)
 
-  call_broken : (k : Bool) (f c m : ℕ) → (leb f 15 ≡ false) ⊎ (costs c m ≡ false) → Breaks capacity es (form (Call k f c m)) 3
+  call_broken : (k : Bool) (f c m : ℕ) → (leb f 15 ≡ false) ⊎ (costs c m ≡ false) → Breaks capacity es (form (Call k f c m)) Refusal.Range
   call_broken k f c m (inl q) = target_range (leb-false f 15 q)
   call_broken k f c m (inr q) = costs_broken of_call q
 
-  loop_broken : (k : Bool) (b c m : ℕ) → (leb 1 b ≡ false) ⊎ ((leb b 65535 && costs c m) ≡ false) → Breaks capacity es (form (Loop k b c m)) 3
+  loop_broken : (k : Bool) (b c m : ℕ) → (leb 1 b ≡ false) ⊎ ((leb b 65535 && costs c m) ≡ false) → Breaks capacity es (form (Loop k b c m)) Refusal.Range
   loop_broken k b c m (inl q) = bound_range (inl (leb-false 1 b q))
-  loop_broken k b c m (inr q) = by (and_false (leb b 65535) (costs c m) q)
+  loop_broken k b c m (inr q) = by (and_cases (leb b 65535) (costs c m) q)
     where
-      by : (leb b 65535 ≡ false) ⊎ (costs c m ≡ false) → Breaks capacity es (form (Loop k b c m)) 3
+      by : (leb b 65535 ≡ false) ⊎ (costs c m ≡ false) → Breaks capacity es (form (Loop k b c m)) Refusal.Range
       by (inl q) = bound_range (inr (leb-false b 65535 q))
       by (inr q) = costs_broken of_loop q
 
-  broken_3 : (f : Form) → test_3 f ≡ false → Breaks capacity es (form f) 3
-  broken_3 (Task d t) e = task_broken d t (and_false (leb 1 d) (leb d (2 ^ 40) && leb t (2 ^ 20)) e)
-  broken_3 Fun e = clash refl e
-  broken_3 Then e = clash refl e
-  broken_3 Else e = clash refl e
-  broken_3 Close e = clash refl e
+  broken_3 : (f : Form) → test_3 f ≡ false → Breaks capacity es (form f) Refusal.Range
+  broken_3 (Task d t) e = task_broken d t (and_cases (leb 1 d) (leb d (2 ^ 40) && leb t (2 ^ 20)) e)
+  broken_3 Fun e = cc
+  broken_3 Then e = cc
+  broken_3 Else e = cc
+  broken_3 Close e = cc
   broken_3 (Leaf k c m) e = costs_broken of_leaf e
-  broken_3 (Call k f c m) e = call_broken k f c m (and_false (leb f 15) (costs c m) e)
-  broken_3 (Loop k b c m) e = loop_broken k b c m (and_false (leb 1 b) (leb b 65535 && costs c m) e)
+  broken_3 (Call k f c m) e = call_broken k f c m (and_cases (leb f 15) (costs c m) e)
+  broken_3 (Loop k b c m) e = loop_broken k b c m (and_cases (leb 1 b) (leb b 65535 && costs c m) e)
   broken_3 (If k c m) e = costs_broken of_if e
 
-  broken_5 : (f : Form) → test_5 f ≡ false → Breaks capacity es (form f) 5
-  broken_5 (Task d t) e = clash refl e
-  broken_5 Fun e = clash refl e
-  broken_5 Then e = clash refl e
-  broken_5 Else e = clash refl e
-  broken_5 Close e = clash refl e
+  broken_5 : (f : Form) → test_5 f ≡ false → Breaks capacity es (form f) Refusal.Load
+  broken_5 (Task d t) e = cc
+  broken_5 Fun e = cc
+  broken_5 Then e = cc
+  broken_5 Else e = cc
+  broken_5 Close e = cc
   broken_5 (Leaf k c m) e = load of_leaf (leb-false c m e)
   broken_5 (Call k f c m) e = load of_call (leb-false c m e)
   broken_5 (Loop k b c m) e = load of_loop (leb-false c m e)
   broken_5 (If k c m) e = load of_if (leb-false c m e)
 
-  point_broken : {f : Form} (k : Bool) (c m : ℕ) → LeafLine f k c m → leb (bit k) c ≡ false → Breaks capacity es (form f) 19
+  point_broken : {f : Form} (k : Bool) (c m : ℕ) → LeafLine f k c m → leb (bit k) c ≡ false → Breaks capacity es (form f) Refusal.Costless
   point_broken k (suc c) m x e = absurd (omega (arith, leb-false (bit k) (suc c) e, bit_low k))
   point_broken true zero m x e = costless x
   point_broken false zero m x e = absurd (omega (arith, leb-false 0 0 e))
 
-  broken_19 : (f : Form) → test_19 f ≡ false → Breaks capacity es (form f) 19
-  broken_19 (Task d t) e = clash refl e
-  broken_19 Fun e = clash refl e
-  broken_19 Then e = clash refl e
-  broken_19 Else e = clash refl e
-  broken_19 Close e = clash refl e
+  broken_19 : (f : Form) → test_19 f ≡ false → Breaks capacity es (form f) Refusal.Costless
+  broken_19 (Task d t) e = cc
+  broken_19 Fun e = cc
+  broken_19 Then e = cc
+  broken_19 Else e = cc
+  broken_19 Close e = cc
   broken_19 (Leaf k c m) e = point_broken k c m of_leaf e
   broken_19 (Call k f c m) e = point_broken k c m of_call e
   broken_19 (Loop k b c m) e = point_broken k c m of_loop e
@@ -290,50 +273,50 @@ module _ (capacity : ℕ) (es : List Form) where
 
   module _ (d L n : ℕ) (hs : List ℕ) where
     leaves_broken : (f : Form) → leaves_among (f ∷ es) ≡ leaves_among es + 1 → n ≡ leaves_among es → ltb n (min 512 capacity) ≡ false →
-        Breaks capacity es (form f) 4
+        Breaks capacity es (form f) Refusal.Count
     leaves_broken f z v e =
         let h : min 512 capacity ≤ n = ltb-false n (min 512 capacity) e in
         elim (dec_le 512 n) [ yes q ↦ leaf_count {f = f} (omega arith) | no q ↦ row_count {f = f} (omega arith) ]
 
-    broken_4 : (f : Form) → Values es f d L n hs → test_4 (min 512 capacity) n hs f ≡ false → Breaks capacity es (form f) 4
+    broken_4 : (f : Form) → Values es f d L n hs → test_4 (min 512 capacity) n hs f ≡ false → Breaks capacity es (form f) Refusal.Count
     unfolding leaves_among functions_among
-    broken_4 (Task D t) v e = clash refl e
+    broken_4 (Task D t) v e = cc
     broken_4 Fun v e = function_count {f = Fun} (omega (arith, ltb-false (length hs) 16 e, v.functions_are refl))
-    broken_4 Then v e = clash refl e
-    broken_4 Else v e = clash refl e
-    broken_4 Close v e = clash refl e
+    broken_4 Then v e = cc
+    broken_4 Else v e = cc
+    broken_4 Close v e = cc
     broken_4 (Leaf k c m) v e = leaves_broken (Leaf k c m) refl v.leaves_are e
     broken_4 (Call k f c m) v e = leaves_broken (Call k f c m) refl v.leaves_are e
     broken_4 (Loop k b c m) v e = leaves_broken (Loop k b c m) refl v.leaves_are e
     broken_4 (If k c m) v e = leaves_broken (If k c m) refl v.leaves_are e
 
-    broken_6 : (f : Form) → Values es f d L n hs → test_6 hs f ≡ false → Breaks capacity es (form f) 6
-    broken_6 (Task D t) v e = clash refl e
-    broken_6 Fun v e = clash refl e
-    broken_6 Then v e = clash refl e
-    broken_6 Else v e = clash refl e
-    broken_6 Close v e = clash refl e
-    broken_6 (Leaf k c m) v e = clash refl e
+    broken_6 : (f : Form) → Values es f d L n hs → test_6 hs f ≡ false → Breaks capacity es (form f) Refusal.Target
+    broken_6 (Task D t) v e = cc
+    broken_6 Fun v e = cc
+    broken_6 Then v e = cc
+    broken_6 Else v e = cc
+    broken_6 Close v e = cc
+    broken_6 (Leaf k c m) v e = cc
     broken_6 (Call k f c m) v e = target {F = f} (omega (arith, ltb-false f (length hs) e, (v.at_leaf of_call).own_is))
-    broken_6 (Loop k b c m) v e = clash refl e
-    broken_6 (If k c m) v e = clash refl e
+    broken_6 (Loop k b c m) v e = cc
+    broken_6 (If k c m) v e = cc
 
     brackets_broken : (f : Form) → length (open_brackets (f ∷ es)) ≡ length (open_brackets es) + 1 → d ≡ length (open_brackets es) → ltb d 64 ≡ false →
-        Breaks capacity es (form f) 7
+        Breaks capacity es (form f) Refusal.Depth
     brackets_broken f z v e = bracket_depth {f = f} (omega (arith, ltb-false d 64 e))
 
-    level_broken : {f : Form} {k : Bool} {c m : ℕ} → LeafLine f k c m → AtLeaf es L hs → leb L 32 ≡ false → Breaks capacity es (form f) 7
+    level_broken : {f : Form} {k : Bool} {c m : ℕ} → LeafLine f k c m → AtLeaf es L hs → leb L 32 ≡ false → Breaks capacity es (form f) Refusal.Depth
     level_broken x a e = level_depth (own_level x) (omega (arith, leb-false L 32 e, a.level_is))
 
     depth_broken : {f : Form} {k : Bool} {c m : ℕ} → LeafLine f k c m → length (open_brackets (f ∷ es)) ≡ length (open_brackets es) + 1 → Values es f d L n hs →
-        (leb L 32 && ltb d 64) ≡ false → Breaks capacity es (form f) 7
-    depth_broken {f} x z v e = by (and_false (leb L 32) (ltb d 64) e)
+        (leb L 32 && ltb d 64) ≡ false → Breaks capacity es (form f) Refusal.Depth
+    depth_broken {f} x z v e = by (and_cases (leb L 32) (ltb d 64) e)
       where
-        by : (leb L 32 ≡ false) ⊎ (ltb d 64 ≡ false) → Breaks capacity es (form f) 7
+        by : (leb L 32 ≡ false) ⊎ (ltb d 64 ≡ false) → Breaks capacity es (form f) Refusal.Depth
         by (inl q) = level_broken x (v.at_leaf x) q
         by (inr q) = brackets_broken f z v.brackets_are q
 
-    called_broken : (k : Bool) (f c m : ℕ) → AtLeaf es L hs → f < length hs → 32 < L + get_or hs f 0 → Breaks capacity es (form (Call k f c m)) 7
+    called_broken : (k : Bool) (f c m : ℕ) → AtLeaf es L hs → f < length hs → 32 < L + get_or hs f 0 → Breaks capacity es (form (Call k f c m)) Refusal.Depth
     called_broken k f c m a t h =
         let z : height_of f es ≡ get_or hs f 0 = a.heights_are f t in
         elim (dec_le 1 (height_of f es)) [
@@ -341,13 +324,13 @@ module _ (capacity : ℕ) (es : List Form) where
           | no q ↦ level_depth (own_level of_call) (omega (arith, a.level_is))
         ]
 
-    broken_7 : (f : Form) → Values es f d L n hs → test_6 hs f ≡ true → test_7 d L hs f ≡ false → Breaks capacity es (form f) 7
+    broken_7 : (f : Form) → Values es f d L n hs → test_6 hs f ≡ true → test_7 d L hs f ≡ false → Breaks capacity es (form f) Refusal.Depth
     unfolding open_brackets
     broken_7 (Task D t) v g e = brackets_broken (Task D t) (omega arith) v.brackets_are e
     broken_7 Fun v g e = brackets_broken Fun (omega arith) v.brackets_are e
     broken_7 Then v g e = brackets_broken Then (omega arith) v.brackets_are e
     broken_7 Else v g e = brackets_broken Else (omega arith) v.brackets_are e
-    broken_7 Close v g e = clash refl e
+    broken_7 Close v g e = cc
     broken_7 (Leaf k c m) v g e = level_broken of_leaf (v.at_leaf of_leaf) e
     broken_7 (Call k f c m) v g e = called_broken k f c m (v.at_leaf of_call) (ltb-true f (length hs) g) (leb-false (L + get_or hs f 0) 32 e)
     broken_7 (Loop k b c m) v g e = depth_broken of_loop (omega arith) v e
@@ -447,18 +430,18 @@ module _ (capacity : ℕ) (es : List Form) where
         by true q = q
         by false q = absurd (omega arith)
 
-    -- The test of each rule by its number; that of depth goes with the target's.
-    abbrev test : Form → ℕ → Bool
-    test f i =
-        pick (eqb i 3) (test_3 f)
-        (pick (eqb i 4) (test_4 (min 512 capacity) n hs f)
-        (pick (eqb i 5) (test_5 f)
-        (pick (eqb i 19) (test_19 f)
-        (pick (eqb i 6) (test_6 hs f)
-        (pick (eqb i 7) (test_6 hs f && test_7 d L hs f) true)))))
+    -- The test of each rule; that of depth goes with the target's.
+    abbrev test : Form → Refusal → Bool
+    test f Refusal.Range = test_3 f
+    test f Refusal.Count = test_4 (min 512 capacity) n hs f
+    test f Refusal.Load = test_5 f
+    test f Refusal.Costless = test_19 f
+    test f Refusal.Target = test_6 hs f
+    test f Refusal.Depth = test_6 hs f && test_7 d L hs f
+    test f _ = true
 
     -- A line does not break a rule whose test holds.
-    spared : {f : Form} → (more : List Form) × PlanLines (reverse es ++ (f ∷ more)) → Values es f d L n hs → Within capacity es → (i : ℕ) → test f i ≡ true →
+    spared : {f : Form} → (more : List Form) × PlanLines (reverse es ++ (f ∷ more)) → Values es f d L n hs → Within capacity es → (i : Refusal) → test f i ≡ true →
         Breaks capacity es (form f) i → ⊥
     spared (more, q) v w i t (nesting x) = x more q
     spared q v w i t (deadline_range {d = D} {t = T} x) = clash t (deadline_fails D T x)
@@ -474,13 +457,13 @@ module _ (capacity : ℕ) (es : List Form) where
     spared q v w i t (target {F = F} x) = clash t (le-ltb F (length hs) (omega (arith, (v.at_leaf of_call).own_is)))
     spared q v w i t (bracket_depth {f = f} x) = clash t (and_right (test_6 hs f) (test_7 d L hs f) (brackets_fail f v w x))
     spared q v w i t (level_depth {f = f} x y) =
-        let (g, h) = and_true (test_6 hs f) (test_7 d L hs f) t in
+        let (g, h) = and_parts (test_6 hs f) (test_7 d L hs f) t in
         clash h (level_fails v w g x y)
 
 -- THE FIRST RULE THAT A LINE BREAKS
 
 -- A rule has a number from 2 to 7, or it is 19.
-pub breaks_rule : {capacity : ℕ} {es : List Form} {x : Line} {k : ℕ} → Breaks capacity es x k → ((2 ≤ k) × (k ≤ 7)) ⊎ (k ≡ 19)
+pub breaks_rule : {capacity : ℕ} {es : List Form} {x : Line} {k : Refusal} → Breaks capacity es x k → ((2 ≤ number_of k) × (number_of k ≤ 7)) ⊎ (number_of k ≡ 19)
 breaks_rule no_line = inl (omega arith)
 breaks_rule (nesting h) = inl (omega arith)
 breaks_rule (deadline_range h) = inl (omega arith)
@@ -497,10 +480,10 @@ breaks_rule (target h) = inl (omega arith)
 breaks_rule (bracket_depth h) = inl (omega arith)
 breaks_rule (level_depth x h) = inl (omega arith)
 
--- What the machine's refusal at a line says: 0, it breaks no rule; else the first that it breaks.
-abbrev pub Ruling : ℕ → List Form → Form → ℕ → Type 0
-Ruling capacity es f zero = (i : ℕ) → ¬ Breaks capacity es (form f) i
-Ruling capacity es f (suc k) = FirstBroken capacity es (form f) line_order (suc k)
+-- What the machine's refusal at a line says: none, it breaks no rule; else the first that it breaks.
+abbrev pub Ruling : ℕ → List Form → Form → Option Refusal → Type 0
+Ruling capacity es f None = (i : Refusal) → ¬ Breaks capacity es (form f) i
+Ruling capacity es f (Some k) = FirstBroken capacity es (form f) line_order k
 
 -- Where the machine's numbers are those of the lines before, its refusal says so.
 pub ruling : (capacity : ℕ) (es : List Form) (f : Form) (d L n : ℕ) (hs : List ℕ) → (more : List Form) × PlanLines (reverse es ++ (f ∷ more)) →
@@ -508,21 +491,28 @@ pub ruling : (capacity : ℕ) (es : List Form) (f : Form) (d L n : ℕ) (hs : Li
 ruling capacity es f d L n hs p h v =
     subst (λ k. Ruling capacity es f k) (sym (fault_chain (min 512 capacity) d L n hs f)) (by (first _ _ _ _ _ _))
   where
-    spare : (i : ℕ) → test capacity es d L n hs f i ≡ true → Breaks capacity es (form f) i → ⊥
+    spare : (i : Refusal) → test capacity es d L n hs f i ≡ true → Breaks capacity es (form f) i → ⊥
     spare = spared capacity es d L n hs p v (within capacity es h)
 
-    by : {k : ℕ} → First (test_3 f) (test_4 (min 512 capacity) n hs f) (test_5 f) (test_19 f) (test_6 hs f) (test_7 d L hs f) k → Ruling capacity es f k
-    by (none x3 x4 x5 x19 x6 x7) = λ i.
-        spare i
-        (rw (x3, x4, x5, x19, x6, x7, alike (eqb i 7), alike (eqb i 6), alike (eqb i 19), alike (eqb i 5), alike (eqb i 4), alike (eqb i 3)))
-    by (at_3 x3) = not_this (spare 2 refl) (this (broken_3 capacity es f x3))
-    by (at_4 x3 x4) = not_this (spare 2 refl) (not_this (spare 3 x3) (this (broken_4 capacity es d L n hs f v x4)))
-    by (at_5 x3 x4 x5) = not_this (spare 2 refl) (not_this (spare 3 x3) (not_this (spare 4 x4) (this (broken_5 capacity es f x5))))
+    by : {k : Option Refusal} → First (test_3 f) (test_4 (min 512 capacity) n hs f) (test_5 f) (test_19 f) (test_6 hs f) (test_7 d L hs f) k → Ruling capacity es f k
+    by (none x3 x4 x5 x19 x6 x7) = λ i. spare i (here i)
+      where
+        here : (i : Refusal) → test capacity es d L n hs f i ≡ true
+        here Refusal.Range = x3
+        here Refusal.Count = x4
+        here Refusal.Load = x5
+        here Refusal.Costless = x19
+        here Refusal.Target = x6
+        here Refusal.Depth = rw (x6, x7)
+        here _ = refl
+    by (at_3 x3) = not_this (spare Refusal.Form refl) (this (broken_3 capacity es f x3))
+    by (at_4 x3 x4) = not_this (spare Refusal.Form refl) (not_this (spare Refusal.Range x3) (this (broken_4 capacity es d L n hs f v x4)))
+    by (at_5 x3 x4 x5) = not_this (spare Refusal.Form refl) (not_this (spare Refusal.Range x3) (not_this (spare Refusal.Count x4) (this (broken_5 capacity es f x5))))
     by (at_19 x3 x4 x5 x19) =
-        not_this (spare 2 refl) (not_this (spare 3 x3) (not_this (spare 4 x4) (not_this (spare 5 x5) (this (broken_19 capacity es f x19)))))
+        not_this (spare Refusal.Form refl) (not_this (spare Refusal.Range x3) (not_this (spare Refusal.Count x4) (not_this (spare Refusal.Load x5) (this (broken_19 capacity es f x19)))))
     by (at_6 x3 x4 x5 x19 x6) =
-        not_this (spare 2 refl) (not_this (spare 3 x3) (not_this (spare 4 x4) (not_this (spare 5 x5) (not_this (spare 19 x19)
+        not_this (spare Refusal.Form refl) (not_this (spare Refusal.Range x3) (not_this (spare Refusal.Count x4) (not_this (spare Refusal.Load x5) (not_this (spare Refusal.Costless x19)
         (this (broken_6 capacity es d L n hs f v x6))))))
     by (at_7 x3 x4 x5 x19 x6 x7) =
-        not_this (spare 2 refl) (not_this (spare 3 x3) (not_this (spare 4 x4) (not_this (spare 5 x5) (not_this (spare 19 x19) (not_this (spare 6 x6)
+        not_this (spare Refusal.Form refl) (not_this (spare Refusal.Range x3) (not_this (spare Refusal.Count x4) (not_this (spare Refusal.Load x5) (not_this (spare Refusal.Costless x19) (not_this (spare Refusal.Target x6)
         (this (broken_7 capacity es d L n hs f v x6 x7)))))))

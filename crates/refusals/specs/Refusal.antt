@@ -3,6 +3,7 @@
 -- The lines before a line are given by their forms, the latest first; `reverse` puts them in text order.
 -- Assumes nothing: these are definitions.
 use Rattle.std.specs.Prelude.{ℕ, ◌+◌, ◌-◌, ◌^◌, ◌≤◌, ◌<◌, ◌≡◌, List, [], ◌∷◌, ◌++◌, map, reverse, ◌⊎◌, Bool, true, length, get_or, drop}
+use Rattle.model.specs.declared.Refusal.{Refusal}
 use Rattle.model.specs.Plan.{Plan}
 use Rattle.text.specs.declared.Form.{Form}
 use Rattle.text.specs.declared.Form.TheVariants.{Task, Fun, Then, Else, Close, Leaf, Call, Loop, If}
@@ -94,51 +95,51 @@ pub data LevelAt : List Form → ℕ → ℕ → Type 0 where
 
 -- The rules that a line breaks behind lines that break none, where the caller lends so many records. Leaves, functions, brackets and levels are those of
 -- the lines so far, this one among them.
-pub data Breaks (capacity : ℕ) (earlier : List Form) : Line → ℕ → Type 0 where
+pub data Breaks (capacity : ℕ) (earlier : List Form) : Line → Refusal → Type 0 where
   -- 2, form: it is no line of the grammar; or no lines of a plan begin with these and it.
-  no_line : Breaks capacity earlier no_form 2
-  nesting : {f : Form} → ((more : List Form) → ¬ PlanLines (reverse earlier ++ (f ∷ more))) → Breaks capacity earlier (form f) 2
+  no_line : Breaks capacity earlier no_form Refusal.Form
+  nesting : {f : Form} → ((more : List Form) → ¬ PlanLines (reverse earlier ++ (f ∷ more))) → Breaks capacity earlier (form f) Refusal.Form
   -- 3, range: D is not from 1 to 2^40; T is over 2^20; C or M is over 2^20; F is over 15; B is not from 1 to 65,535.
-  deadline_range : {d t : ℕ} → (d < 1) ⊎ (2 ^ 40 < d) → Breaks capacity earlier (form (Task d t)) 3
-  switch_range : {d t : ℕ} → 2 ^ 20 < t → Breaks capacity earlier (form (Task d t)) 3
-  cost_range : {f : Form} {k : Bool} {c m : ℕ} → LeafLine f k c m → (2 ^ 20 < c) ⊎ (2 ^ 20 < m) → Breaks capacity earlier (form f) 3
-  target_range : {k : Bool} {F c m : ℕ} → 15 < F → Breaks capacity earlier (form (Call k F c m)) 3
-  bound_range : {k : Bool} {b c m : ℕ} → (b < 1) ⊎ (65535 < b) → Breaks capacity earlier (form (Loop k b c m)) 3
+  deadline_range : {d t : ℕ} → (d < 1) ⊎ (2 ^ 40 < d) → Breaks capacity earlier (form (Task d t)) Refusal.Range
+  switch_range : {d t : ℕ} → 2 ^ 20 < t → Breaks capacity earlier (form (Task d t)) Refusal.Range
+  cost_range : {f : Form} {k : Bool} {c m : ℕ} → LeafLine f k c m → (2 ^ 20 < c) ⊎ (2 ^ 20 < m) → Breaks capacity earlier (form f) Refusal.Range
+  target_range : {k : Bool} {F c m : ℕ} → 15 < F → Breaks capacity earlier (form (Call k F c m)) Refusal.Range
+  bound_range : {k : Bool} {b c m : ℕ} → (b < 1) ⊎ (65535 < b) → Breaks capacity earlier (form (Loop k b c m)) Refusal.Range
   -- 4, count: a 513th leaf; a leaf more than the lent row holds; a 17th function.
-  leaf_count : {f : Form} → 512 < leaves_among (f ∷ earlier) → Breaks capacity earlier (form f) 4
-  row_count : {f : Form} → capacity < leaves_among (f ∷ earlier) → Breaks capacity earlier (form f) 4
-  function_count : {f : Form} → 16 < functions_among (f ∷ earlier) → Breaks capacity earlier (form f) 4
+  leaf_count : {f : Form} → 512 < leaves_among (f ∷ earlier) → Breaks capacity earlier (form f) Refusal.Count
+  row_count : {f : Form} → capacity < leaves_among (f ∷ earlier) → Breaks capacity earlier (form f) Refusal.Count
+  function_count : {f : Form} → 16 < functions_among (f ∷ earlier) → Breaks capacity earlier (form f) Refusal.Count
   -- 5, load: M is below C.
-  load : {f : Form} {k : Bool} {c m : ℕ} → LeafLine f k c m → m < c → Breaks capacity earlier (form f) 5
+  load : {f : Form} {k : Bool} {c m : ℕ} → LeafLine f k c m → m < c → Breaks capacity earlier (form f) Refusal.Load
   -- 19, costless: a point with C = 0.
-  costless : {f : Form} {m : ℕ} → LeafLine f true 0 m → Breaks capacity earlier (form f) 19
+  costless : {f : Form} {m : ℕ} → LeafLine f true 0 m → Breaks capacity earlier (form f) Refusal.Costless
   -- 6, target: F is not below the number of its own function.
-  target : {k : Bool} {F c m : ℕ} → own_function earlier ≤ F → Breaks capacity earlier (form (Call k F c m)) 6
+  target : {k : Bool} {F c m : ℕ} → own_function earlier ≤ F → Breaks capacity earlier (form (Call k F c m)) Refusal.Target
   -- 7, depth: a 65th open bracket; level over 32, called forms included.
-  bracket_depth : {f : Form} → 64 < length (open_brackets (f ∷ earlier)) → Breaks capacity earlier (form f) 7
-  level_depth : {f : Form} {F L : ℕ} → LevelAt (f ∷ earlier) F L → 32 < L → Breaks capacity earlier (form f) 7
+  bracket_depth : {f : Form} → 64 < length (open_brackets (f ∷ earlier)) → Breaks capacity earlier (form f) Refusal.Depth
+  level_depth : {f : Form} {F L : ℕ} → LevelAt (f ∷ earlier) F L → 32 < L → Breaks capacity earlier (form f) Refusal.Depth
 
 -- THE LINE THAT IS REFUSED
 
 -- The rules in the order in which a line is asked for them: 2 to 7 (01), and 19 after 5 and before 6 (02, L2).
-abbrev pub line_order : List ℕ
-line_order = 2 ∷ 3 ∷ 4 ∷ 5 ∷ 19 ∷ 6 ∷ 7 ∷ []
+abbrev pub line_order : List Refusal
+line_order = Refusal.Form ∷ Refusal.Range ∷ Refusal.Count ∷ Refusal.Load ∷ Refusal.Costless ∷ Refusal.Target ∷ Refusal.Depth ∷ []
 
 -- Of some rules in their order, k is the first that a line breaks behind the lines before it.
-pub data FirstBroken (capacity : ℕ) (earlier : List Form) (x : Line) : List ℕ → ℕ → Type 0 where
-  this : {k : ℕ} {later : List ℕ} → Breaks capacity earlier x k → FirstBroken capacity earlier x (k ∷ later) k
-  not_this : {i k : ℕ} {later : List ℕ} → ¬ Breaks capacity earlier x i → FirstBroken capacity earlier x later k → FirstBroken capacity earlier x (i ∷ later) k
+pub data FirstBroken (capacity : ℕ) (earlier : List Form) (x : Line) : List Refusal → Refusal → Type 0 where
+  this : {k : Refusal} {later : List Refusal} → Breaks capacity earlier x k → FirstBroken capacity earlier x (k ∷ later) k
+  not_this : {i k : Refusal} {later : List Refusal} → ¬ Breaks capacity earlier x i → FirstBroken capacity earlier x later k → FirstBroken capacity earlier x (i ∷ later) k
 
 -- None of these lines breaks a rule behind the lines before it.
 unfoldable pub NoneBroken : ℕ → List Form → Type 0
 NoneBroken capacity [] = Unit
-NoneBroken capacity (f ∷ earlier) = NoneBroken capacity earlier × ((i : ℕ) → ¬ Breaks capacity earlier (form f) i)
+NoneBroken capacity (f ∷ earlier) = NoneBroken capacity earlier × ((i : Refusal) → ¬ Breaks capacity earlier (form f) i)
 
 -- A text is refused by k at line j, counted from 1. A last line without its line feed is no line of the grammar.
-pub data RefusedAt (capacity : ℕ) (text : List ℕ) : ℕ → ℕ → Type 0 where
+pub data RefusedAt (capacity : ℕ) (text : List ℕ) : Refusal → ℕ → Type 0 where
   -- None of the lines before line j breaks a rule, and k is the first that line j breaks.
-  at_line : (earlier : List Form) {x : Line} (rest : List Line) {k : ℕ} → map line_form (lines text) ≡ map form (reverse earlier) ++ (x ∷ rest) →
+  at_line : (earlier : List Form) {x : Line} (rest : List Line) {k : Refusal} → map line_form (lines text) ≡ map form (reverse earlier) ++ (x ∷ rest) →
       NoneBroken capacity earlier → FirstBroken capacity earlier x line_order k → RefusedAt capacity text k (length earlier + 1)
   -- 2: none of the lines breaks a rule, but they are not those of a plan: the text ends early.
   at_end : (earlier : List Form) → map line_form (lines text) ≡ map form (reverse earlier) → NoneBroken capacity earlier → ¬ PlanLines (reverse earlier) →
-      RefusedAt capacity text 2 (length earlier + 1)
+      RefusedAt capacity text Refusal.Form (length earlier + 1)

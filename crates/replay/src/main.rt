@@ -6,18 +6,11 @@ ghost use Rattle.std.specs.Prelude.{◌≤◌, length};
 
 use files::{NAME, Opened};
 use print::{SIZE, refused_plan_line};
-use reader::{Answer, TEXT};
+use reader::{RefusedAt, TEXT};
 use rows::{MAX_LEAVES, ROW};
 use std::io::Read;
-use table::{Head, no_head, read};
+use table::{Head, read};
 use transcript::{ANSWERS, PIECE, Replay, close, feed, start};
-
-// What a piece of the log came to: whether there may be more of it, and what is carried on.
-#[derive(Clone, Copy)]
-struct Taken {
-    more: bool,
-    replay: Replay,
-}
 
 // The argument that names the plan.
 const PLAN: usize = 1;
@@ -29,17 +22,19 @@ const LOG: usize = 2;
 fn show(rt: &HostRuntime, out: &[u8], size: usize) -> bool
     requires { size ≤ length out.now }
 {
-    files::print(rt, &out[..size])
+    files::print(rt, &out[..size]).is_ok()
 }
 
 // Prints the refusal of a plan, as the table program does.
-fn refuse(rt: &HostRuntime, number: u64, line: u64) {
+fn refuse(rt: &HostRuntime, refused: RefusedAt) {
     let mut out = [0; SIZE];
-    let n = refused_plan_line(&mut out, 0, number, line);
+    let number = u64::from(refused.refusal);
+    let n = refused_plan_line(&mut out, 0, number, refused.line as u64);
     show(rt, &out, n);
 }
 
-// Reads a piece of the log and prints the answers to the lines that end in it; at the end of the log, what is answered there.
+// Reads a piece of the log and prints the answers to the lines that end in it; at the end of the log, what is answered there. What
+// is carried on is given while there may be more of the log.
 fn take_piece<R: Read>(
     rt: &HostRuntime,
     file: &mut R,
@@ -51,31 +46,24 @@ fn take_piece<R: Read>(
     stretches: &[u64; MAX_LEAVES],
     head: Head,
     replay: Replay,
-) -> Taken {
+) -> Option<Replay> {
     let mut piece = [0u8; PIECE];
-    let got = files::piece(rt, file, name, &mut piece);
-    let n = got.size;
+    let n = files::piece(rt, file, name, &mut piece).ok()?;
     if n == 0 {
-        if !got.failed {
-            let size = close(out, replay);
-            show(rt, out, size);
-        }
-        return Taken {
-            more: false,
-            replay: replay,
-        };
+        let size = close(out, replay);
+        show(rt, out, size);
+        return None;
     }
     let fed = feed(out, &piece[..n], row, turns, tails, stretches, head, replay);
-    let size = fed.size;
-    let carried = fed.replay;
-    Taken {
-        more: show(rt, out, size),
-        replay: carried,
+    if show(rt, out, fed.size) {
+        Some(fed.replay)
+    } else {
+        None
     }
 }
 
-// Replays a log, piece by piece. A proved loop has to end, and nothing says that a file does; so the pieces are counted down from a number that no log uses
-// up, since each has a byte at least.
+// Replays a log, piece by piece. A proved loop has to end, and nothing says that a file does; so the pieces are counted up to a number that no log comes
+// to, since each has a byte at least.
 fn play<R: Read>(
     rt: &HostRuntime,
     file: &mut R,
@@ -88,16 +76,13 @@ fn play<R: Read>(
 ) {
     let mut out = [0u8; ANSWERS];
     let mut replay = start();
-    let mut left = u64::MAX;
-    while left > 0 {
-        let taken = take_piece(
+    for _piece in 0..u64::MAX {
+        let Some(next) = take_piece(
             rt, file, name, &mut out, row, turns, tails, stretches, head, replay,
-        );
-        if !taken.more {
+        ) else {
             return;
-        }
-        replay = taken.replay;
-        left -= 1;
+        };
+        replay = next;
     }
 }
 
@@ -111,11 +96,10 @@ fn replay_log(
     head: Head,
 ) {
     let mut name = [0u8; NAME];
-    let Opened { file, size } = files::open(rt, LOG, &mut name);
-    if let Some(mut log) = file {
+    if let Ok(Opened { mut file, size }) = files::open(rt, LOG, &mut name) {
         play(
             rt,
-            &mut log,
+            &mut file,
             &name[..size],
             row,
             turns,
@@ -132,20 +116,16 @@ fn replay_plan(rt: &HostRuntime, text: &[u8]) {
     let mut turns = [0; MAX_LEAVES];
     let mut tails = [0; MAX_LEAVES];
     let mut stretches = [0; MAX_LEAVES];
-    let verdict = read(
+    match read(
         text,
         MAX_LEAVES,
         &mut row,
         &mut turns,
         &mut tails,
         &mut stretches,
-        no_head(),
-    );
-    let answer = verdict.answer;
-    let head = verdict.head;
-    match answer {
-        Answer::Refused(k, j) => refuse(rt, k, j as u64),
-        Answer::Accepted => replay_log(rt, &row, &turns, &tails, &stretches, head),
+    ) {
+        Ok(head) => replay_log(rt, &row, &turns, &tails, &stretches, head),
+        Err(refused) => refuse(rt, refused),
     }
 }
 
@@ -154,9 +134,7 @@ fn main(rt: HostRuntime) {
         return;
     }
     let mut text = [0u8; TEXT];
-    let plan = files::text(&rt, PLAN, &mut text);
-    let n = plan.size;
-    if !plan.failed {
+    if let Ok(n) = files::text(&rt, PLAN, &mut text) {
         replay_plan(&rt, &text[..n]);
     }
 }

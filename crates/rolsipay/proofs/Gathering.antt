@@ -24,17 +24,17 @@ use Rattle.rolsipay.proofs.Steps.{length_gathered}
 
 -- A call on parts of the array is one on its table.
 pub same_call :
-    (room : ℕ) (xs : List ℕ) (n : ℕ) (h : Head) (s : State) (c : Call) {t : control.State} {d : Call} {step : Step} {m : Moved}
-    → t ≡ state_of s → d ≡ c
+    (room : ℕ) (xs : List ℕ) (n : ℕ) (h : Head) (s : State) (c : Call) {t : control.State} {step : Step} {m : Moved}
+    → t ≡ state_of s
     → step ≡ as_step (call_on (table_at (take (n * 8) xs) (take (room * 8 + n - room * 8) (drop (room * 8) xs))
     (take (room * 8 + room + n - (room * 8 + room)) (drop (room * 8 + room) xs))
-    (take (room * 8 + room + room + n - (room * 8 + room + room)) (drop (room * 8 + room + room) xs)) h) t d)
+    (take (room * 8 + room + room + n - (room * 8 + room + room)) (drop (room * 8 + room + room) xs)) h) t c)
     → m ≡ moved s step → m ≡ call_with (table_on room xs n h) s c
-same_call room xs n h s c e f g z =
+same_call room xs n h s c e g z =
     let k : room * 8 + n - room * 8 ≡ n = omega arith in
     let l : room * 8 + room + n - (room * 8 + room) ≡ n = omega arith in
     let o : room * 8 + room + room + n - (room * 8 + room + room) ≡ n = omega arith in
-    z ∙ ap (λ (r : Step). moved s r) (rw (k, l, o, e, f) at g)
+    z ∙ ap (λ (r : Step). moved s r) (rw (k, l, o, e) at g)
 
 -- One leaf more in the raw row.
 rows_next : (room : ℕ) (xs : List ℕ) (k : ℕ) (l : Leaf) → k < room → length xs ≡ room * 11 → take (suc k * 8) (with_leaf room xs k l) ≡ take (k * 8) xs ++ fields l

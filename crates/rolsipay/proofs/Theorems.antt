@@ -17,6 +17,9 @@ use Rattle.model.specs.declared.Word.TheVariants.{Go, Suspend, Stay}
 use Rattle.model.specs.declared.Ending.TheVariants.{Resume, Ended}
 use Rattle.model.specs.declared.Answer.{Answer}
 use Rattle.model.specs.declared.Answer.TheVariants.{Refused, Decided, Closed}
+use Rattle.model.specs.declared.Refusal.{Refusal}
+use Rattle.model.specs.declared.Refusal.TheVariants.{Oversize, Form, Range, Count, Load, Target, Depth, Unseen, Uncalled, Long, Broken, Busy, Unfit, Idle, Stranger, Backward, Astray, Garbled, Costless}
+use Rattle.model.specs.Refusals.{number_of}
 use Rattle.model.specs.declared.Others.{Others}
 use Rattle.model.specs.declared.Others.TheVariants.{Running, Suspended}
 use Rattle.model.specs.Calls as calls
@@ -192,8 +195,8 @@ read_again p a ls h e =
 
 -- A CALL IS THE CONTROLLER'S
 
--- An answer that is a refusal has a number.
-refused_by : (a : Answer) → refusing a ≡ true → (k : ℕ) × (a ≡ Refused k)
+-- An answer that is a refusal says which.
+refused_by : (a : Answer) → refusing a ≡ true → (k : Refusal) × (a ≡ Refused k)
 refused_by (Refused n) e = (n, refl)
 refused_by (Decided w r m late) e = no_truth e
 refused_by (Closed w late) e = no_truth e
@@ -237,6 +240,34 @@ call_state ls h s c = by (refusing r.answer) refl
 
 -- THE FLAT ANSWERS
 
+-- The refusal of a number.
+refusal_in : ℕ → Refusal
+refusal_in n =
+    get_or (Costless ∷ Oversize ∷ Form ∷ Range ∷ Count ∷ Load ∷ Target ∷ Depth ∷ Unseen ∷ Uncalled ∷
+    Long ∷ Broken ∷ Busy ∷ Unfit ∷ Idle ∷ Stranger ∷ Backward ∷ Astray ∷ Garbled ∷ []) n Costless
+
+refusal_back : (k : Refusal) → refusal_in (number_of k) ≡ k
+unfolding refusal_in
+refusal_back Oversize = refl
+refusal_back Form = refl
+refusal_back Range = refl
+refusal_back Count = refl
+refusal_back Load = refl
+refusal_back Target = refl
+refusal_back Depth = refl
+refusal_back Unseen = refl
+refusal_back Uncalled = refl
+refusal_back Long = refl
+refusal_back Broken = refl
+refusal_back Busy = refl
+refusal_back Unfit = refl
+refusal_back Idle = refl
+refusal_back Stranger = refl
+refusal_back Backward = refl
+refusal_back Astray = refl
+refusal_back Garbled = refl
+refusal_back Costless = refl
+
 -- The answer that flat numbers stand for.
 word_in : ℕ → Word
 word_in n = pick (eqb n 1) Go (pick (eqb n 2) Suspend Stay)
@@ -244,13 +275,13 @@ word_in n = pick (eqb n 1) Go (pick (eqb n 2) Suspend Stay)
 answer_in : Reply → Answer
 answer_in r =
     let late : Bool = not (eqb r.late 0) in
-    pick (eqb r.word 0) (Refused r.number)
+    pick (eqb r.word 0) (Refused (refusal_in r.number))
     (pick (leb r.word 3) (Decided (word_in r.word) r.remaining r.margin late) (Closed (pick (eqb r.word 4) Resume Ended) late))
 
 -- It is the one that they were made of.
 answer_back : (a : Answer) → answer_in (reply_from a) ≡ a
 unfolding answer_in word_in
-answer_back (Refused n) = refl
+answer_back (Refused k) = ap (λ x. Refused x) (refusal_back k)
 answer_back (Decided Go r m late) = ap (λ b. Decided Go r m b) (bit_back late)
 answer_back (Decided Suspend r m late) = ap (λ b. Decided Suspend r m b) (bit_back late)
 answer_back (Decided Stay r m late) = ap (λ b. Decided Stay r m b) (bit_back late)

@@ -3,21 +3,18 @@
 
 ghost use Rattle.std.specs.Prelude.{◌≡◌, ◌+◌, ◌*◌, ◌≤◌, ◌<◌, min, length, take};
 ghost use Rattle.std.proofs.lemmas.List.Edits.{sets};
-ghost use Rattle.table.specs.Reading.{verdict, verdict_of};
-ghost use Rattle.control.specs.Calls.{call_of};
-ghost use Rattle.rolsipay.specs.Private.{with_leaf, leaf_in, gathered, spread_over, table_on, filled, filled_of, Holds};
-ghost use Rattle.model.specs.Places.{bit};
+ghost use Rattle.table.specs.Reading.{verdict, head_after};
+ghost use Rattle.rolsipay.specs.Private.{with_leaf, leaf_in, gathered, spread_over, table_on};
 ghost use Rattle.model.specs.declared.Call.TheVariants.{Release, Report, End};
 ghost use Rattle.rolsipay.specs.Lent.{table_with};
-ghost use Rattle.rolsipay.specs.Calling.{others_of, others_number, state_of, lent, refusing, moved, call_with, called};
+ghost use Rattle.rolsipay.specs.Calling.{state_of, lent, moved, call_with, called};
 ghost use Rattle.rolsipay.specs.Face.{ruling_of, word_number, ending_number, accepted, reply_from};
-ghost use Rattle.rolsipay.specs.Reading.{row_after};
+ghost use Rattle.rolsipay.specs.Reading.{answer_of, row_after};
 
-use control::{END, RELEASE, REPORT, call_from};
-use model::{Ending, Others, Word};
-use reader::{Answer, read_lines};
+use model::{Answer, Call, Ending, Others, Word};
+use reader::RefusedAt;
 use rows::{AFTER, DETAIL, ISOLATED, KIND, LEVEL, MAX_LEAVES, MAX_LOAD, OTHER, POINT, ROW, STRIDE};
-use table::{Head, Verdict, judge};
+use table::Head;
 
 // A leaf's record. Read from the plan: kind (0 leaf, 1 call, 2 loop, 3 if), point (1 or 0), costs alone and under load, bound of a loop or target of a
 // call, first leaf of an if's else part, first leaf after the form, level in its own function. Derived: turn, tail, stretch.
@@ -35,14 +32,6 @@ pub struct Leaf {
     pub turn: u64,
     pub tail: u64,
     pub stretch: u64,
-}
-
-// What reading a plan answers, the head afterwards, and how many leaves go into the row.
-#[derive(Clone, Copy)]
-pub struct Filled {
-    pub answer: Answer,
-    pub head: Head,
-    pub leaves: usize,
 }
 
 // The running state in the caller's memory: whether a release is open and whether the others are suspended (0 says no, any other number yes), the last
@@ -63,7 +52,7 @@ pub struct State {
 // The answer of a call, and the state afterwards.
 #[derive(Clone, Copy)]
 pub struct Moved {
-    pub answer: model::Answer,
+    pub answer: Answer,
     pub state: State,
 }
 
@@ -89,42 +78,25 @@ pub struct Reply {
 // The most leaves for which a call takes its small array.
 const FEW: usize = 64;
 
-// Where the columns begin in an array for the most leaves, behind the raw row.
-const TURNS: usize = ROW;
-
-const TAILS: usize = TURNS + MAX_LEAVES;
-
-const STRETCHES: usize = TAILS + MAX_LEAVES;
-
 // The numbers of an array for the most leaves, and of a small one: for each leaf its record and an entry in each of the three columns.
-const NUMBERS: usize = STRETCHES + MAX_LEAVES;
+const NUMBERS: usize = MAX_LEAVES * (STRIDE + 3);
 
 const FEW_NUMBERS: usize = FEW * (STRIDE + 3);
-
-// The lesser of two.
-fn least(a: usize, b: usize) -> usize
-    ensures { result ≡ min a b }
-{
-    if a < b { a } else { b }
-}
 
 // How many leaves a call uses: as many as the head says, if the row has them, and of a longer row only the first 512.
 fn used(records: usize, head: Head) -> usize
     ensures { result ≡ min (min records 512) head.leaves }
 {
-    let most = least(records, MAX_LEAVES);
-    least(most, head.leaves)
+    records.min(MAX_LEAVES).min(head.leaves)
 }
 
-// Writes the numbers from this place on.
+// Writes the numbers from this place on. A loop, which is unrolled for a record of eight: with `copy_from_slice` a call on 512 leaves took 15 % more.
 fn store_at(numbers: &[u64], out: &mut [u64], from: usize)
     requires { from + length numbers.now ≤ length out.old }
     ensures { out.new ≡ sets out.old from numbers.now }
 {
-    let mut i = 0;
-    while i < numbers.len() {
+    for i in 0..numbers.len() {
         out[from + i] = numbers[i];
-        i += 1;
     }
 }
 
@@ -152,24 +124,30 @@ fn put(out: &mut [u64], room: usize, i: usize, leaf: Leaf)
     out[stretches + i] = leaf.stretch;
 }
 
-// The leaf whose numbers stand at this place.
-fn leaf_at(xs: &[u64; NUMBERS], i: usize) -> Leaf
-    requires { (i < 512) × (length xs.now ≡ 5632) }
-    ensures { result ≡ leaf_in xs.now i }
+// The leaf whose numbers stand at this place of a table's lists.
+fn leaf_at(
+    raw: &[u64; ROW],
+    turns: &[u64; MAX_LEAVES],
+    tails: &[u64; MAX_LEAVES],
+    stretches: &[u64; MAX_LEAVES],
+    i: usize,
+) -> Leaf
+    requires { i < 512 }
+    ensures { result ≡ leaf_in raw.now turns.now tails.now stretches.now i }
 {
     let k = i * STRIDE;
     Leaf {
-        kind: xs[k + KIND],
-        point: xs[k + POINT],
-        isolated: xs[k + ISOLATED],
-        max_load: xs[k + MAX_LOAD],
-        detail: xs[k + DETAIL],
-        other: xs[k + OTHER],
-        after: xs[k + AFTER],
-        level: xs[k + LEVEL],
-        turn: xs[TURNS + i],
-        tail: xs[TAILS + i],
-        stretch: xs[STRETCHES + i],
+        kind: raw[k + KIND],
+        point: raw[k + POINT],
+        isolated: raw[k + ISOLATED],
+        max_load: raw[k + MAX_LOAD],
+        detail: raw[k + DETAIL],
+        other: raw[k + OTHER],
+        after: raw[k + AFTER],
+        level: raw[k + LEVEL],
+        turn: turns[i],
+        tail: tails[i],
+        stretch: stretches[i],
     }
 }
 
@@ -178,163 +156,106 @@ fn gather(row: &[Leaf], out: &mut [u64], room: usize, n: usize)
     requires { (n ≤ length row.now) × (n ≤ room) × (room ≤ 512) × (length out.old ≡ room * 11) }
     ensures { out.new ≡ gathered room row.now n out.old }
 {
-    let mut i = 0;
-    while i < n {
+    for i in 0..n {
         put(out, room, i, row[i]);
-        i += 1;
     }
 }
 
-// Makes the first n leaves those of the numbers; the others keep their values.
-fn spread(row: &mut [Leaf], n: usize, xs: &[u64; NUMBERS])
-    requires { (n ≤ length row.old) × (n ≤ 512) × (length xs.now ≡ 5632) }
-    ensures { row.new ≡ spread_over xs.now n row.old }
+// Makes the first n leaves those of a table's lists; the others keep their values.
+fn spread(
+    row: &mut [Leaf],
+    n: usize,
+    raw: &[u64; ROW],
+    turns: &[u64; MAX_LEAVES],
+    tails: &[u64; MAX_LEAVES],
+    stretches: &[u64; MAX_LEAVES],
+)
+    requires { (n ≤ length row.old) × (n ≤ 512) }
+    ensures { row.new ≡ spread_over (leaf_in raw.now turns.now tails.now stretches.now) n row.old }
 {
-    let mut i = 0;
-    while i < n {
-        row[i] = leaf_at(xs, i);
-        i += 1;
+    for i in 0..n {
+        row[i] = leaf_at(raw, turns, tails, stretches, i);
     }
-}
-
-// Answer and head, with the number of leaves that go into the row.
-fn count(said: Verdict) -> Filled
-    ensures { result ≡ filled_of said }
-{
-    let answer = said.answer;
-    let head = said.head;
-    match answer {
-        Answer::Accepted => Filled {
-            answer: Answer::Accepted,
-            head,
-            leaves: head.leaves,
-        },
-        Answer::Refused(k, j) => Filled {
-            answer: Answer::Refused(k, j),
-            head,
-            leaves: 0,
-        },
-    }
-}
-
-// Reads a plan for a row of so many records; the numbers of its leaves are written.
-fn read_numbers(out: &mut [u64; NUMBERS], text: &[u8], capacity: usize, head: Head) -> Filled
-    requires { length out.old ≡ 5632 }
-    ensures { (result ≡ filled (verdict capacity text.now) head) × Holds (verdict capacity text.now) out.new }
-{
-    let mut row: [u64; ROW] = [0; ROW];
-    let mut turns: [u64; MAX_LEAVES] = [0; MAX_LEAVES];
-    let mut tails: [u64; MAX_LEAVES] = [0; MAX_LEAVES];
-    let mut stretches: [u64; MAX_LEAVES] = [0; MAX_LEAVES];
-    let raw = read_lines(text, capacity, &mut row);
-    let end = raw.leaves * STRIDE;
-    let said = judge(
-        raw,
-        &row[..end],
-        &mut turns,
-        &mut tails,
-        &mut stretches,
-        head,
-    );
-    let told = count(said);
-    let n = told.leaves;
-    store_at(&row[..n * STRIDE], out, 0);
-    store_at(&turns[..n], out, TURNS);
-    store_at(&tails[..n], out, TAILS);
-    store_at(&stretches[..n], out, STRETCHES);
-    told
 }
 
 // Reads a plan: its leaves go to the beginning of the lent row and its head is written, and the records past its last leaf keep their values; or it is
 // refused, by a number and a line, and row and head are as they were.
-pub fn read(text: &[u8], row: &mut [Leaf], head: &mut Head) -> Answer
-    ensures { (result ≡ (verdict_of (verdict (length row.old) text.now) head.old).answer)
+pub fn read(text: &[u8], row: &mut [Leaf], head: &mut Head) -> Result<(), RefusedAt>
+    ensures { (result ≡ answer_of (verdict (length row.old) text.now))
         × (row.new ≡ row_after (verdict (length row.old) text.now) row.old)
-        × (head.new ≡ (verdict_of (verdict (length row.old) text.now) head.old).head) }
+        × (head.new ≡ head_after (verdict (length row.old) text.now) head.old) }
 {
-    let mut numbers = [0u64; NUMBERS];
-    let capacity = row.len();
-    let before = *head;
-    let told = read_numbers(&mut numbers, text, capacity, before);
-    *head = told.head;
-    spread(row, told.leaves, &numbers);
-    told.answer
+    let mut raw = [0; ROW];
+    let mut turns = [0; MAX_LEAVES];
+    let mut tails = [0; MAX_LEAVES];
+    let mut stretches = [0; MAX_LEAVES];
+    let told = table::read(
+        text,
+        row.len(),
+        &mut raw,
+        &mut turns,
+        &mut tails,
+        &mut stretches,
+    )?;
+    spread(row, told.leaves, &raw, &turns, &tails, &stretches);
+    *head = told;
+    Ok(())
 }
 
-// What the others do, by a lent number.
-fn others_in(suspended: u64) -> Others
-    ensures { result ≡ others_of suspended }
-{
-    if suspended == 0 {
-        Others::Running
-    } else {
-        Others::Suspended
+impl From<State> for control::State {
+    ghost from_gives = { λ state read. read ≡ state_of state };
+
+    // Gives the controller's state of a lent one.
+    fn from(state: State) -> control::State {
+        let State {
+            running,
+            suspended,
+            reading,
+            level,
+            leaves,
+            earlier,
+            times,
+        } = state;
+        let others = if suspended == 0 {
+            Others::Running
+        } else {
+            Others::Suspended
+        };
+        control::State {
+            running: running != 0,
+            others,
+            reading,
+            level,
+            leaves,
+            earlier,
+            times,
+        }
     }
 }
 
-// The controller's state in a lent one.
-fn state_in(state: State) -> control::State
-    ensures { result ≡ state_of state }
-{
-    let others = others_in(state.suspended);
-    let leaves = state.leaves;
-    let earlier = state.earlier;
-    let times = state.times;
-    control::State {
-        running: state.running != 0,
-        others,
-        reading: state.reading,
-        level: state.level,
-        leaves,
-        earlier,
-        times,
-    }
-}
+impl From<control::State> for State {
+    ghost from_gives = { λ state written. written ≡ lent state };
 
-// 1 for yes, 0 for no.
-fn number(yes: bool) -> u64
-    ensures { result ≡ bit yes }
-{
-    if yes { 1 } else { 0 }
-}
-
-// What the others do, as a lent number.
-fn others_out(others: Others) -> u64
-    ensures { result ≡ others_number others }
-{
-    match others {
-        Others::Running => 0,
-        Others::Suspended => 1,
-    }
-}
-
-// The lent state of a controller's.
-fn state_out(state: control::State) -> State
-    ensures { result ≡ lent state }
-{
-    let others = state.others;
-    let leaves = state.leaves;
-    let earlier = state.earlier;
-    let times = state.times;
-    State {
-        running: number(state.running),
-        suspended: others_out(others),
-        reading: state.reading,
-        level: state.level,
-        leaves,
-        earlier,
-        times,
-    }
-}
-
-// Whether an answer is a refusal.
-fn refuses(answer: model::Answer) -> bool
-    ensures { result ≡ refusing answer }
-{
-    match answer {
-        model::Answer::Refused(_) => true,
-        model::Answer::Decided(_, _, _, _) => false,
-        model::Answer::Closed(_, _) => false,
+    // Gives the lent state of a controller's.
+    fn from(state: control::State) -> State {
+        let control::State {
+            running,
+            others,
+            reading,
+            level,
+            leaves,
+            earlier,
+            times,
+        } = state;
+        State {
+            running: u64::from(running),
+            suspended: u64::from(matches!(others, Others::Suspended)),
+            reading,
+            level,
+            leaves,
+            earlier,
+            times,
+        }
     }
 }
 
@@ -342,16 +263,19 @@ fn refuses(answer: model::Answer) -> bool
 fn move_on(state: State, step: control::Step) -> Moved
     ensures { result ≡ moved state step }
 {
-    let answer = step.answer;
-    if refuses(answer) {
-        return Moved { answer, state };
+    if matches!(step.answer, Answer::Refused(_)) {
+        return Moved {
+            answer: step.answer,
+            state,
+        };
     }
-    let after = step.state;
-    let state = state_out(after);
-    Moved { answer, state }
+    Moved {
+        answer: step.answer,
+        state: State::from(step.state),
+    }
 }
 
-// The number of a decision's word.
+// The number of a decision's word. No `From`: both types are of other crates.
 fn word_number(word: Word) -> u64
     ensures { result ≡ word_number word }
 {
@@ -362,7 +286,7 @@ fn word_number(word: Word) -> u64
     }
 }
 
-// The number of an end's word.
+// The number of an end's word. No `From`: both types are of other crates.
 fn ending_number(ending: Ending) -> u64
     ensures { result ≡ ending_number ending }
 {
@@ -372,33 +296,39 @@ fn ending_number(ending: Ending) -> u64
     }
 }
 
-// What reading a plan answers, as numbers.
-fn as_ruling(answer: Answer) -> Ruling
-    ensures { result ≡ ruling_of answer }
-{
-    match answer {
-        Answer::Accepted => Ruling { number: 0, line: 0 },
-        Answer::Refused(k, j) => Ruling {
-            number: k,
-            line: j as u64,
-        },
+impl From<Result<(), RefusedAt>> for Ruling {
+    ghost from_gives = { λ answer ruling. ruling ≡ ruling_of answer };
+
+    // Gives what reading a plan answers, as numbers.
+    fn from(answer: Result<(), RefusedAt>) -> Ruling {
+        match answer {
+            Ok(()) => Ruling { number: 0, line: 0 },
+            Err(refused) => Ruling {
+                number: u64::from(refused.refusal),
+                line: refused.line as u64,
+            },
+        }
     }
 }
 
-// What a call answers, as numbers.
-fn as_reply(answer: model::Answer) -> Reply
-    ensures { result ≡ reply_from answer }
-{
-    match answer {
-        model::Answer::Refused(n) => Reply {
-            word: 0,
-            number: n,
-            remaining: 0,
-            margin: 0,
-            late: 0,
-        },
-        model::Answer::Decided(word, r, m, late) => accepted_reply(word_number(word), r, m, late),
-        model::Answer::Closed(ending, late) => accepted_reply(ending_number(ending), 0, 0, late),
+impl From<Answer> for Reply {
+    ghost from_gives = { λ answer reply. reply ≡ reply_from answer };
+
+    // Gives what a call answers, as numbers.
+    fn from(answer: Answer) -> Reply {
+        match answer {
+            Answer::Refused(refusal) => Reply {
+                word: 0,
+                number: u64::from(refusal),
+                remaining: 0,
+                margin: 0,
+                late: 0,
+            },
+            Answer::Decided(word, remaining, margin, late) => {
+                accepted_reply(word_number(word), remaining, margin, late)
+            }
+            Answer::Closed(ending, late) => { accepted_reply(ending_number(ending), 0, 0, late) }
+        }
     }
 }
 
@@ -411,23 +341,14 @@ fn accepted_reply(word: u64, remaining: u64, margin: i64, late: bool) -> Reply
         number: 0,
         remaining,
         margin,
-        late: number(late),
+        late: u64::from(late),
     }
 }
 
 // A call on the first n leaves in numbers, in an array with room for so many: the raw row, then the columns.
-fn call_on(
-    xs: &[u64],
-    room: usize,
-    n: usize,
-    head: Head,
-    state: State,
-    kind: u64,
-    point: u64,
-    reading: u64,
-) -> Moved
+fn call_on(xs: &[u64], room: usize, n: usize, head: Head, state: State, call: Call) -> Moved
     requires { (n ≤ room) × (room ≤ 512) × (length xs.now ≡ room * 11) }
-    ensures { result ≡ call_with (table_on room xs.now n head) state (call_of kind point reading) }
+    ensures { result ≡ call_with (table_on room xs.now n head) state call }
 {
     let first = room * STRIDE;
     let second = first + room;
@@ -436,110 +357,74 @@ fn call_on(
     let turns = &xs[first..first + n];
     let tails = &xs[second..second + n];
     let stretches = &xs[third..third + n];
-    let before = state_in(state);
-    let call = call_from(kind, point, reading);
+    let before = control::State::from(state);
     let step = control::call(row, turns, tails, stretches, head, before, call);
     move_on(state, step)
 }
 
-// A call on the first n of a row's leaves, at most 64.
-fn call_small(
+// A call on the first n of a row's leaves, gathered in an array of so many numbers, with room for so many leaves.
+fn call_within<const ROOM: usize, const NUMBERS: usize>(
     row: &[Leaf],
     n: usize,
     head: Head,
     state: State,
-    kind: u64,
-    point: u64,
-    reading: u64,
+    call: Call,
 ) -> Moved
-    requires { (n ≤ length row.now) × (n ≤ 64) }
-    ensures { result ≡ call_with (table_with (take n row.now) head) state (call_of kind point reading) }
-{
-    let mut numbers = [0u64; FEW_NUMBERS];
-    gather(row, &mut numbers, FEW, n);
-    call_on(&numbers, FEW, n, head, state, kind, point, reading)
-}
-
-// The same on at most 512.
-fn call_large(
-    row: &[Leaf],
-    n: usize,
-    head: Head,
-    state: State,
-    kind: u64,
-    point: u64,
-    reading: u64,
-) -> Moved
-    requires { (n ≤ length row.now) × (n ≤ 512) }
-    ensures { result ≡ call_with (table_with (take n row.now) head) state (call_of kind point reading) }
+    requires { (n ≤ length row.now) × (n ≤ ROOM) × (ROOM ≤ 512) × (NUMBERS ≡ ROOM * 11) }
+    ensures { result ≡ call_with (table_with (take n row.now) head) state call }
 {
     let mut numbers = [0u64; NUMBERS];
-    gather(row, &mut numbers, MAX_LEAVES, n);
-    call_on(&numbers, MAX_LEAVES, n, head, state, kind, point, reading)
+    gather(row, &mut numbers, ROOM, n);
+    call_on(&numbers, ROOM, n, head, state, call)
 }
 
 // A call on lent memory: the state is moved on where it lies. To zero the large array takes longer than all the rest of a call on few leaves, so those have
 // a small one.
-fn call(
-    row: &[Leaf],
-    head: &Head,
-    state: &mut State,
-    kind: u64,
-    point: u64,
-    reading: u64,
-) -> model::Answer
-    ensures { (result ≡ (called row.now head.now state.old (call_of kind point reading)).answer)
-        × (state.new ≡ (called row.now head.now state.old (call_of kind point reading)).state) }
+fn call(row: &[Leaf], head: &Head, state: &mut State, call: Call) -> Answer
+    ensures { (result ≡ (called row.now head.now state.old call).answer)
+        × (state.new ≡ (called row.now head.now state.old call).state) }
 {
-    let beside = *head;
-    let before = *state;
-    let n = used(row.len(), beside);
+    let n = used(row.len(), *head);
     let moved = if n <= FEW {
-        call_small(row, n, beside, before, kind, point, reading)
+        call_within::<FEW, FEW_NUMBERS>(row, n, *head, *state, call)
     } else {
-        call_large(row, n, beside, before, kind, point, reading)
+        call_within::<MAX_LEAVES, NUMBERS>(row, n, *head, *state, call)
     };
     *state = moved.state;
     moved.answer
 }
 
 // Release: 11, 12, 13, or the decision at the release; the state is moved on where it lies.
-pub fn release(row: &[Leaf], head: &Head, state: &mut State) -> model::Answer
+pub fn release(row: &[Leaf], head: &Head, state: &mut State) -> Answer
     ensures { (result ≡ (called row.now head.now state.old Release).answer)
         × (state.new ≡ (called row.now head.now state.old Release).state) }
 {
-    call(row, head, state, RELEASE, 0, 0)
+    call(row, head, state, Call::Release)
 }
 
 // Report of a point with a reading: 11, 14, 15, 16, 17, or the decision at the report; the state is moved on where it lies.
-pub fn report(
-    row: &[Leaf],
-    head: &Head,
-    state: &mut State,
-    point: u64,
-    reading: u64,
-) -> model::Answer
+pub fn report(row: &[Leaf], head: &Head, state: &mut State, point: u64, reading: u64) -> Answer
     ensures { (result ≡ (called row.now head.now state.old (Report point reading)).answer)
         × (state.new ≡ (called row.now head.now state.old (Report point reading)).state) }
 {
-    call(row, head, state, REPORT, point, reading)
+    call(row, head, state, Call::Report(point, reading))
 }
 
 // End with a reading: 11, 14, 16, 17, or resume or ended; the state is fresh again where it lies.
-pub fn end(row: &[Leaf], head: &Head, state: &mut State, reading: u64) -> model::Answer
+pub fn end(row: &[Leaf], head: &Head, state: &mut State, reading: u64) -> Answer
     ensures { (result ≡ (called row.now head.now state.old (End reading)).answer)
         × (state.new ≡ (called row.now head.now state.old (End reading)).state) }
 {
-    call(row, head, state, END, 0, reading)
+    call(row, head, state, Call::End(reading))
 }
 
 // `read` for other languages.
 pub fn rolsipay_read(text: &[u8], row: &mut [Leaf], head: &mut Head) -> Ruling
-    ensures { (result ≡ ruling_of (verdict_of (verdict (length row.old) text.now) head.old).answer)
+    ensures { (result ≡ ruling_of (answer_of (verdict (length row.old) text.now)))
         × (row.new ≡ row_after (verdict (length row.old) text.now) row.old)
-        × (head.new ≡ (verdict_of (verdict (length row.old) text.now) head.old).head) }
+        × (head.new ≡ head_after (verdict (length row.old) text.now) head.old) }
 {
-    as_ruling(read(text, row, head))
+    Ruling::from(read(text, row, head))
 }
 
 // `release` for other languages.
@@ -547,7 +432,7 @@ pub fn rolsipay_release(row: &[Leaf], head: &Head, state: &mut State) -> Reply
     ensures { (result ≡ reply_from (called row.now head.now state.old Release).answer)
         × (state.new ≡ (called row.now head.now state.old Release).state) }
 {
-    as_reply(release(row, head, state))
+    Reply::from(release(row, head, state))
 }
 
 // `report` for other languages.
@@ -561,7 +446,7 @@ pub fn rolsipay_report(
     ensures { (result ≡ reply_from (called row.now head.now state.old (Report point reading)).answer)
         × (state.new ≡ (called row.now head.now state.old (Report point reading)).state) }
 {
-    as_reply(report(row, head, state, point, reading))
+    Reply::from(report(row, head, state, point, reading))
 }
 
 // `end` for other languages.
@@ -569,5 +454,5 @@ pub fn rolsipay_end(row: &[Leaf], head: &Head, state: &mut State, reading: u64) 
     ensures { (result ≡ reply_from (called row.now head.now state.old (End reading)).answer)
         × (state.new ≡ (called row.now head.now state.old (End reading)).state) }
 {
-    as_reply(end(row, head, state, reading))
+    Reply::from(end(row, head, state, reading))
 }

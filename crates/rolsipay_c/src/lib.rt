@@ -3,11 +3,11 @@
 #![tactic(auto)]
 
 ghost use Rattle.std.specs.Prelude.{◌≡◌, length};
-ghost use Rattle.table.specs.Reading.{verdict, verdict_of};
+ghost use Rattle.table.specs.Reading.{verdict, head_after};
 ghost use Rattle.model.specs.declared.Call.TheVariants.{Release, Report, End};
 ghost use Rattle.rolsipay.specs.Calling.{called};
 ghost use Rattle.rolsipay.specs.Face.{ruling_of, reply_from};
-ghost use Rattle.rolsipay.specs.Reading.{row_after};
+ghost use Rattle.rolsipay.specs.Reading.{answer_of, row_after};
 
 use rolsipay::{Leaf, Reply, Ruling, State};
 use table::Head;
@@ -15,9 +15,9 @@ use table::Head;
 // `read` for other languages.
 #[unsafe(no_mangle)]
 pub extern "C" fn rolsipay_read(text: &[u8], row: &mut [Leaf], head: &mut Head) -> Ruling
-    ensures { (result ≡ ruling_of (verdict_of (verdict (length row.old) text.now) head.old).answer)
+    ensures { (result ≡ ruling_of (answer_of (verdict (length row.old) text.now)))
         × (row.new ≡ row_after (verdict (length row.old) text.now) row.old)
-        × (head.new ≡ (verdict_of (verdict (length row.old) text.now) head.old).head) }
+        × (head.new ≡ head_after (verdict (length row.old) text.now) head.old) }
 {
     rolsipay::rolsipay_read(text, row, head)
 }

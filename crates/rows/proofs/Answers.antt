@@ -3,6 +3,7 @@ use mathlib.Core.Path.{◌≡◌, refl}
 use mathlib.Core.Bool.{Bool, true, false}
 use Prim.Native.Nat.{ℕ}
 use native.Mathlib.Omega.{arith}
+use Rattle.std.specs.Bool.{MatchBool}
 use Rattle.rows.specs.Answers.{Says}
 
 -- An answer says its claim, from what each answer means.
@@ -24,6 +25,11 @@ said_false false e h = h
 pub same_answer : {A B : Type 0} (b : Bool) → (A → B) → (B → A) → Says b A → Says b B
 same_answer true t f h = t h
 same_answer false t f h = λ x. h (f x)
+
+-- The answer to a claim that one of two facts decides: where it is yes the claim holds, and where it is no it does not.
+pub says_by : {A P Q : Type 0} (b : Bool) → MatchBool b P Q → (P → A) → (Q → A → ⊥) → Says b A
+says_by true h t f = t h
+says_by false h t f = f h
 
 -- The answer to a claim that holds.
 pub said_yes : {A : Type 0} (b : Bool) → Says b A → A → b ≡ true

@@ -6,3 +6,4 @@ pub mod Reading
 pub mod Answers
 pub mod Turns
 pub mod Worked
+pub mod Kinds

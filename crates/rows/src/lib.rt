@@ -2,8 +2,9 @@
 #![tactic(auto)]
 
 ghost use Rattle.std.specs.Prelude.{◌≡◌, length};
-ghost use Prim.Native.Nat.{◌+◌, ◌-◌, ◌*◌, ◌≤◌, ◌<◌};
+ghost use Prim.Native.Nat.{◌+◌, ◌*◌, ◌≤◌, ◌<◌};
 ghost use Rattle.rows.specs.Rows.{field, kind_at, after_at};
+ghost use Rattle.rows.specs.Kinds.{IsKind};
 
 // Fields of a record: the kind of its form,
 pub const KIND: usize = 0;
@@ -43,6 +44,15 @@ pub const LOOP: u64 = 2;
 
 // and an if.
 pub const IF: u64 = 3;
+
+// The kind of a form.
+#[derive(Clone, Copy, Debug, PartialEq, Eq)]
+pub enum Kind {
+    Leaf,
+    Call,
+    Loop,
+    If,
+}
 
 // The most leaves of a plan,
 pub const MAX_LEAVES: usize = 512;
@@ -88,12 +98,26 @@ pub fn get(row: &[u64], i: usize, f: usize) -> u64
     row[i * STRIDE + f]
 }
 
+// The kind of the record i, or none where its number is that of no kind.
+pub fn kind_of(row: &[u64], i: usize) -> Option<Kind>
+    requires { i * 8 < length row.now }
+    ensures { IsKind result (kind_at row.now i) }
+{
+    match get(row, i, KIND) {
+        LEAF => Some(Kind::Leaf),
+        CALL => Some(Kind::Call),
+        LOOP => Some(Kind::Loop),
+        IF => Some(Kind::If),
+        _ => None,
+    }
+}
+
 // The same, as an index.
 pub fn index(row: &[u64], i: usize, f: usize) -> usize
     requires { (f < 8) × (i * 8 + f < length row.now) }
     ensures { result ≡ field row.now i f }
 {
-    row[i * STRIDE + f] as usize
+    get(row, i, f) as usize
 }
 
 // The first leaf after the form at i. A leaf or call ends where it begins: a walk need not wait for the record to tell it where to go on.
@@ -102,21 +126,8 @@ pub fn after(row: &[u64], i: usize) -> usize
     ensures { result ≡ after_at row.now i }
 {
     if get(row, i, KIND) < LOOP {
-        return i + 1;
+        i + 1
+    } else {
+        index(row, i, AFTER)
     }
-    index(row, i, AFTER)
-}
-
-// The larger of two numbers.
-pub fn larger(x: u64, y: u64) -> u64
-    ensures { result ≡ Prim.Native.Nat.max x y }
-{
-    if x < y { y } else { x }
-}
-
-// a less b, and 0 where b is more.
-pub fn less(a: u64, b: u64) -> u64
-    ensures { result ≡ a - b }
-{
-    if a < b { 0 } else { a - b }
 }

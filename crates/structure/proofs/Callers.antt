@@ -1,13 +1,12 @@
 -- Calls among lines, and among the records of a row. Assumes nothing.
-use mathlib.Core.Path.{◌≡◌, refl, sym, ap, ◌∙◌}
+use mathlib.Core.Path.{◌≡◌, refl, ap, ◌∙◌}
 use mathlib.Core.Bool.{Bool, true, false}
 use mathlib.Core.List.{List, [], ◌∷◌}
 use mathlib.Core.Logic.{inl, inr, ⊎_elim}
 use Prim.Native.Nat.{ℕ, suc, ◌+◌, ◌≤◌, ◌<◌}
 use native.Mathlib.Omega.{arith}
 use native.Mathlib.Decide.{dec_le, dec_lt}
-use lib.ListN.{length, get_or, set, length-set, replicate, get_or-replicate}
-use lib.Seq.{get_or-set_same, get_or-set_other}
+use lib.ListN.{length, get_or, replicate, get_or-replicate}
 use Rattle.model.specs.Plan.{Lines, close, leaf_line, call_line, loop_line, if_line}
 use Rattle.model.specs.Acceptance.{Names, Called}
 use Rattle.rows.specs.Rows.{kind_at, detail_at, other_at, after_at, Rep}
@@ -155,44 +154,6 @@ pub record Marked (w : List ℕ) (named : List Bool) (i : ℕ) : Type 0 where
 pub marked_none : {w : List ℕ} → Marked w (replicate 16 false) 0
 marked_none {w} =
     record { count = refl; marks = λ f lt. rw (get_or-replicate 16 f false false lt) (λ c. omega (arith, c.high)) }
-
--- One record more that calls t, or that calls nothing.
-module _ {w : List ℕ} {named : List Bool} {i : ℕ} (m : Marked w named i) where
-  still : {f : ℕ} (b : Bool) → Says b (Caller w f 0 i) → (kind_at w i ≡ 1 → detail_at w i ≡ f → ⊥) → Says b (Caller w f 0 (i + 1))
-  still true c n = wider c (omega arith) (omega arith)
-  still {f} false c n = λ d.
-      elim (dec_lt d.place i) [
-        | yes z ↦ c (record { place = d.place; low = d.low; high = z; kind = d.kind; target = d.target })
-        | no z ↦
-            let q : d.place ≡ i = omega (arith, d.high) in
-            n (sym (ap (λ (x : ℕ). kind_at w x) q) ∙ d.kind) (sym (ap (λ (x : ℕ). detail_at w x) q) ∙ d.target)
-      ]
-
-  pub marked_other : {v : ℕ} {next : List Bool} → v ≡ kind_at w i → (v ≡ 1 → ⊥) → next ≡ named → Marked w next (i + 1)
-  marked_other hv n e = rw e (record { count = m.count; marks = λ f lt. still (get_or named f false) (m.marks f lt) (λ x y. n (hv ∙ x)) })
-
-  flagged : {v t : ℕ} → v ≡ kind_at w i → v ≡ 1 → t ≡ detail_at w i → t < 16 → Marked w (set named t true) (i + 1)
-  flagged {v} {t} hv k ht lt =
-      let len = m.count in
-      record {
-        count = simp length-set len;
-        marks = λ f lf.
-            elim (dec_lt f t) [
-              | yes z ↦ rw (get_or-set_other named t f true false (omega arith)) (still (get_or named f false) (m.marks f lf) (λ a b. omega arith))
-              | no z ↦
-                  elim (dec_lt t f) [
-                    | yes y ↦ rw (get_or-set_other named t f true false (omega arith)) (still (get_or named f false) (m.marks f lf) (λ a b. omega arith))
-                    | no y ↦
-                        let q : f ≡ t = omega arith in
-                        rw (q, get_or-set_same named t true false (omega arith))
-                        (record { place = i; low = omega arith; high = omega arith; kind = sym hv ∙ k; target = sym ht })
-                  ]
-            ];
-      }
-
-  pub marked_call :
-      {v t : ℕ} {next : List Bool} → v ≡ kind_at w i → v ≡ 1 → t ≡ detail_at w i → detail_at w i ≤ 15 → next ≡ set named t true → Marked w next (i + 1)
-  marked_call {v} {t} hv k ht lt e = rw e (flagged hv k ht (omega arith))
 
 -- What a flag says once all records before e are read.
 pub marked_yes : {w : List ℕ} {named : List Bool} {i e : ℕ} (f : ℕ) → Marked w named i → f < 16 → i ≡ e → get_or named f false ≡ true → Caller w f 0 e

@@ -4,11 +4,10 @@ use mathlib.Core.List.{List}
 use Prim.Native.Nat.{ℕ, suc, ◌+◌, ◌-◌, ◌≤◌, ◌<◌}
 use native.Mathlib.Omega.{arith}
 use native.Mathlib.Decide.{dec_le}
-use lib.ListN.{length, get_or}
 use Rattle.model.specs.Plan.{Lines, close, leaf_line, call_line, loop_line, if_line}
 use Rattle.rows.specs.Rows.{kind_at, detail_at, other_at, after_at, level_at, block_at, Rep, Rules, Part}
 use Rattle.rows.proofs.Shape.{rep_le, ends, loop_at, if_at, body_in, then_in, else_in}
-use Rattle.structure.specs.Private.{BlockRight, PlaceRight, LeafRight, CallRight, LoopRight, IfRight, Sound, WholeForm}
+use Rattle.structure.specs.Private.{PlaceRight, Sound, WholeForm}
 
 -- The first form alone.
 alone : Lines → Lines
@@ -214,64 +213,3 @@ pub head_else :
     {w hs : List ℕ} {left l i e v mid en : ℕ} → WholeForm w hs left l i e → v ≡ kind_at w i → v ≡ 3 → mid ≡ other_at w i → en ≡ after_at w i
     → Part w hs (left - 2) l mid en
 head_else h hv v3 hm he = else_in hm he (if_at h.grows h.part hv (λ z. omega arith) (λ z. omega arith) (λ z. omega arith))
-
--- A call's levels, by the target that the code read.
-pub call_high : {w hs : List ℕ} {l i f : ℕ} → f ≡ detail_at w i → 32 - l < get_or hs f 0 → CallRight w hs l i → ⊥
-call_high {w} {hs} {l} {i} {f} hf h q = let x : l + get_or hs f 0 ≤ 32 = rw hf q.levels in omega arith
-
-pub call_fits :
-    {w hs : List ℕ} {l i f g en : ℕ} → f ≡ detail_at w i → l ≤ 32 → f < 16 → f < length hs → get_or hs f 0 ≤ 32 - l
-    → g ≡ other_at w i → g ≡ 0 → en ≡ after_at w i → en ≡ i + 1 → CallRight w hs l i
-call_fits {w} {hs} {l} {i} {f} hf low few before levels hg g0 he next =
-    let x : l + get_or hs f 0 ≤ 32 = omega arith in
-    record { few = omega arith; before = omega arith; levels = rw hf at x; no_other = omega arith; next = omega arith }
-
--- A record that is sound, by the kind v that the code read.
-module _ {w hs : List ℕ} {left l i e v : ℕ} (p : BlockRight w i) (q : PlaceRight w l i e) (hv : v ≡ kind_at w i) where
-  pub sound_leaf : v ≡ 0 → LeafRight w i → Sound w hs left l i e
-  sound_leaf k x =
-      record {
-        priced = p;
-        placed = q;
-        kinds = omega arith;
-        leaf = λ _. x;
-        call = λ z. absurd (omega arith);
-        loop = λ z. absurd (omega arith);
-        cond = λ z. absurd (omega arith);
-      }
-
-  pub sound_call : v ≡ 1 → CallRight w hs l i → Sound w hs left l i e
-  sound_call k x =
-      record {
-        priced = p;
-        placed = q;
-        kinds = omega arith;
-        leaf = λ z. absurd (omega arith);
-        call = λ _. x;
-        loop = λ z. absurd (omega arith);
-        cond = λ z. absurd (omega arith);
-      }
-
-  pub sound_loop : v ≡ 2 → LoopRight w left i → Sound w hs left l i e
-  sound_loop k x =
-      record {
-        priced = p;
-        placed = q;
-        kinds = omega arith;
-        leaf = λ z. absurd (omega arith);
-        call = λ z. absurd (omega arith);
-        loop = λ _. x;
-        cond = λ z. absurd (omega arith);
-      }
-
-  pub sound_if : v ≡ 3 → IfRight w left i → Sound w hs left l i e
-  sound_if k x =
-      record {
-        priced = p;
-        placed = q;
-        kinds = omega arith;
-        leaf = λ z. absurd (omega arith);
-        call = λ z. absurd (omega arith);
-        loop = λ z. absurd (omega arith);
-        cond = λ _. x;
-      }

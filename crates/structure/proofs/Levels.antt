@@ -1,5 +1,5 @@
 -- The height of lines is the greatest reach of their records. Assumes nothing.
-use mathlib.Core.Path.{◌≡◌, refl, sym, ap, ◌∙◌}
+use mathlib.Core.Path.{◌≡◌, refl, ap}
 use mathlib.Core.List.{List}
 use mathlib.Core.Logic.{◌⊎◌, inl, inr, ⊎_elim}
 use Prim.Native.Nat.{ℕ, suc, ◌+◌, ◌≤◌, ◌<◌, max}
@@ -132,14 +132,3 @@ readable p j a b =
     let f = found p j a b in
     let s = found_sound f in
     record { low = omega (arith, s.placed.level, s.placed.low); known = λ x. (s.call x).before; levels = λ x. rw s.placed.level (s.call x).levels }
-
--- How high a record reaches, by the numbers that the code read.
-pub reached_call : (w hs : List ℕ) (i : ℕ) {l f : ℕ} → l ≡ level_at w i → kind_at w i ≡ 1 → f ≡ detail_at w i → l + get_or hs f 0 ≡ top w hs i
-reached_call w hs i hl k hf = rw (hl, hf) (sym (top_call w hs i k))
-
-pub reached_own : (w hs : List ℕ) (i : ℕ) {l v : ℕ} → l ≡ level_at w i → v ≡ kind_at w i → (v ≡ 1 → ⊥) → l ≡ top w hs i
-reached_own w hs i hl hv k = hl ∙ sym (top_own w hs i (λ x. k (hv ∙ x)))
-
--- The level that a call reaches is at most 32, by the numbers that the code read.
-pub call_low : {w hs : List ℕ} {i l f : ℕ} → Readable w hs i → l ≡ level_at w i → kind_at w i ≡ 1 → f ≡ detail_at w i → l + get_or hs f 0 ≤ 32
-call_low r hl k hf = rw (hl, hf) (r.levels k)

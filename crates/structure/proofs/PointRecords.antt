@@ -1,10 +1,10 @@
 -- The records that have a point, or call a function that has one, are those that give their forms a point; and when a record's costs are right.
 -- Assumes nothing.
-use mathlib.Core.Path.{◌≡◌, refl, sym, ap, ◌∙◌}
+use mathlib.Core.Path.{◌≡◌, sym, ap, ◌∙◌}
 use mathlib.Core.Bool.{Bool, true, false}
 use mathlib.Core.List.{List}
 use mathlib.Core.Logic.{inl, inr, ⊎_elim}
-use Prim.Native.Nat.{ℕ, suc, ◌+◌, ◌^◌, ◌≤◌, ◌<◌}
+use Prim.Native.Nat.{ℕ, suc, ◌+◌, ◌≤◌, ◌<◌}
 use native.Mathlib.Omega.{arith}
 use native.Mathlib.Decide.{dec_le, dec_lt}
 use lib.ListN.{length, get_or}
@@ -12,10 +12,10 @@ use borrow.Author.Tests.{eq-eqb, ne_eqb, eqb-true}
 use Rattle.model.specs.Plan.{Block, Lines, close, leaf_line, call_line, loop_line, if_line}
 use Rattle.model.specs.Forms.{Forms, done, forms, Is, Has}
 use Rattle.model.specs.Acceptance.{Ranged}
-use Rattle.rows.specs.Rows.{kind_at, point_at, isolated_at, max_load_at, detail_at, other_at, after_at, block_at, Rep}
+use Rattle.rows.specs.Rows.{kind_at, point_at, detail_at, other_at, after_at, block_at, Rep}
 use Rattle.rows.proofs.Shape.{rep_le}
 use Rattle.rows.proofs.Answers.{said_true, said_yes}
-use Rattle.structure.specs.Private.{BlockRight, Pointed, Flags, HasPoint}
+use Rattle.structure.specs.Private.{Pointed, Flags, HasPoint}
 
 -- A record with a point from i up to e.
 pub record PointRecord (w : List ℕ) (has : List Bool) (i e : ℕ) : Type 0 where
@@ -36,16 +36,6 @@ point_one w i e h = eqb-true (point_at w i) 1 (sym (ap (λ (x : Block). x.point)
 
 pub point_false : (w : List ℕ) (i : ℕ) {b : Block} → b ≡ block_at w i → point_at w i ≡ 0 → b.point ≡ false
 point_false w i e h = ap (λ (x : Block). x.point) e ∙ ne_eqb (point_at w i) 1 (λ z. omega arith)
-
--- A record's costs are right where a point costs 1 at least, that is where its cost is not below its mark.
-pub block_right : (w : List ℕ) (i : ℕ) → point_at w i ≤ 1 → isolated_at w i ≤ 2 ^ 20 → max_load_at w i ≤ 2 ^ 20 → isolated_at w i ≤ max_load_at w i →
-    point_at w i ≤ isolated_at w i → BlockRight w i
-block_right w i k c m l p =
-    record { mark = k; costs = record { isolated_range = c; max_load_range = m; load = l; point_cost = λ e. omega (arith, point_one w i refl e) } }
-
--- .. and wrong where its cost is below its mark.
-pub costless_record : (w : List ℕ) (i : ℕ) → point_at w i ≤ 1 → isolated_at w i < point_at w i → BlockRight w i → ⊥
-costless_record w i k p b = omega (arith, b.costs.point_cost (point_true w i refl (omega arith)))
 
 pub is_point : (w : List ℕ) (i : ℕ) {b : Block} → b ≡ block_at w i → point_at w i ≡ 1 → Is b i
 is_point w i e h = (point_true w i e h, ap (λ (x : Block). x.number) e)

@@ -7,7 +7,7 @@ use Prim.Native.Nat.{ℕ, suc, ◌+◌, ◌≤◌, ◌<◌, max}
 use native.Mathlib.Omega.{arith}
 use native.Mathlib.Decide.{dec_le, dec_lt}
 use lib.Dec.{eqb}
-use lib.ListN.{length, get_or}
+use lib.ListN.{length}
 use borrow.Author.Tests.{eq-eqb, ne_eqb}
 use Rattle.model.specs.Plan.{Block, Lines, close, leaf_line, call_line, loop_line, if_line}
 use Rattle.model.specs.Forms.{Forms, forms}
@@ -15,8 +15,6 @@ use Rattle.model.specs.Acceptance.{Ranged, Seen}
 use Rattle.model.specs.Places.{pick}
 use Rattle.rows.specs.Rows.{kind_at, point_at, detail_at, other_at, after_at, block_at, Rep}
 use Rattle.rows.proofs.Shape.{rep_le}
-use Rattle.rows.specs.Answers.{Says}
-use Rattle.rows.proofs.Answers.{says}
 use Rattle.structure.specs.Private.{Text, Pointed, Flags, HasPoint, silent_end, Allowed}
 use Rattle.structure.proofs.PointRecords.{PointRecord, point_true, point_false, flag_on, flag_off, pointed_record, record_pointed}
 
@@ -299,11 +297,3 @@ module _ {w : List ℕ} {has : List Bool} {fs : List Forms} {i e : ℕ} (g : Fla
 
   pub record_text : (j : ℕ) → i ≤ j → j < e → HasPoint w has j → Pointed (forms fs t.lines)
   record_text j a b x = record_pointed g w t.lines 1 i e t.rep (rw g.count at t.ranged) j a b x
-
--- A call that is no point has one exactly if the flag of its function is set, by the numbers that the code read.
-pub call_has_point :
-    (w : List ℕ) (has : List Bool) (i : ℕ) {f v : ℕ} → v ≡ point_at w i → (v ≡ 1 → ⊥) → kind_at w i ≡ 1 → f ≡ detail_at w i
-    → Says (get_or has f false) (HasPoint w has i)
-call_has_point w has i {f} hv nv k hf =
-    says (get_or has f false) (λ y. inr (k, rw hf at y))
-    (λ y x. ⊎_elim (λ a. nv (hv ∙ a)) (λ a. differ (get_or has f false) y (rw hf a.1)) x)

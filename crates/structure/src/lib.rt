@@ -14,9 +14,9 @@ ghost use Rattle.structure.specs.Private.{Text, Pointed, Flags, HasPoint, silent
 ghost use Rattle.structure.specs.Private.{CallRight, LoopRight, IfRight, Sound, WholeForm, Readable, top};
 
 use rows::{
-    AFTER, BOUNDS, CALL, DETAIL, IF, INNER_BRACKETS, ISOLATED, KIND, LEAF, LEVEL, LOOP, MAX_COST,
-    MAX_FUNCTIONS, MAX_LEAVES, MAX_LEVEL, MAX_LOAD, MAX_LOOP_BOUND, OTHER, POINT, STRIDE, after,
-    get, index, larger,
+    AFTER, BOUNDS, DETAIL, INNER_BRACKETS, ISOLATED, Kind, LEVEL, MAX_COST, MAX_FUNCTIONS,
+    MAX_LEAVES, MAX_LEVEL, MAX_LOAD, MAX_LOOP_BOUND, OTHER, POINT, STRIDE, after, get, index,
+    kind_of,
 };
 
 // Whether the record i is a point or a silent one, and its costs keep rules 3, 5 and 19: a point costs 1 at least.
@@ -27,22 +27,7 @@ fn priced(row: &[u64], i: usize) -> bool
     let c = get(row, i, ISOLATED);
     let m = get(row, i, MAX_LOAD);
     let mark = get(row, i, POINT);
-    if 1 < mark {
-        return false;
-    }
-    if MAX_COST < c {
-        return false;
-    }
-    if MAX_COST < m {
-        return false;
-    }
-    if m < c {
-        return false;
-    }
-    if c < mark {
-        return false;
-    }
-    true
+    mark <= 1 && c <= MAX_COST && m <= MAX_COST && c <= m && mark <= c
 }
 
 // Whether the record i stands at level l, which is not too high, and its form ends after it begins and by `to`.
@@ -51,19 +36,7 @@ fn placed(row: &[u64], i: usize, to: usize, l: u64) -> bool
     ensures { Says result (PlaceRight row.now l i to) }
 {
     let after = index(row, i, AFTER);
-    if get(row, i, LEVEL) != l {
-        return false;
-    }
-    if MAX_LEVEL < l {
-        return false;
-    }
-    if after <= i {
-        return false;
-    }
-    if to < after {
-        return false;
-    }
-    true
+    get(row, i, LEVEL) == l && l <= MAX_LEVEL && i < after && after <= to
 }
 
 // Whether the record i has the fields of a leaf.
@@ -71,17 +44,7 @@ fn leaf_right(row: &[u64], i: usize) -> bool
     requires { i * 8 + 8 ≤ length row.now }
     ensures { Says result (LeafRight row.now i) }
 {
-    let detail = get(row, i, DETAIL);
-    if detail != 0 {
-        return false;
-    }
-    if get(row, i, OTHER) != 0 {
-        return false;
-    }
-    if index(row, i, AFTER) != i + 1 {
-        return false;
-    }
-    true
+    get(row, i, DETAIL) == 0 && get(row, i, OTHER) == 0 && index(row, i, AFTER) == i + 1
 }
 
 // Whether the record i has the fields of a call at level l, where `hs` are the heights of the functions before.
@@ -90,22 +53,11 @@ fn call_right(row: &[u64], i: usize, l: u64, hs: &[u64]) -> bool
     ensures { Says result (CallRight row.now hs.now l i) }
 {
     let f = index(row, i, DETAIL);
-    if MAX_FUNCTIONS <= f {
-        return false;
-    }
-    if hs.len() <= f {
-        return false;
-    }
-    if MAX_LEVEL - l < hs[f] {
-        return false;
-    }
-    if get(row, i, OTHER) != 0 {
-        return false;
-    }
-    if index(row, i, AFTER) != i + 1 {
-        return false;
-    }
-    true
+    f < MAX_FUNCTIONS
+        && f < hs.len()
+        && hs[f] <= MAX_LEVEL - l
+        && get(row, i, OTHER) == 0
+        && index(row, i, AFTER) == i + 1
 }
 
 // Whether the record i has the fields of a loop, where `left` brackets may still open.
@@ -114,19 +66,7 @@ fn loop_right(row: &[u64], i: usize, left: usize) -> bool
     ensures { Says result (LoopRight row.now left i) }
 {
     let n = get(row, i, DETAIL);
-    if n < 1 {
-        return false;
-    }
-    if MAX_LOOP_BOUND < n {
-        return false;
-    }
-    if left < 1 {
-        return false;
-    }
-    if get(row, i, OTHER) != 0 {
-        return false;
-    }
-    true
+    1 <= n && n <= MAX_LOOP_BOUND && 1 <= left && get(row, i, OTHER) == 0
 }
 
 // Whether the record i has the fields of an if, where `left` brackets may still open.
@@ -135,19 +75,7 @@ fn if_right(row: &[u64], i: usize, left: usize) -> bool
     ensures { Says result (IfRight row.now left i) }
 {
     let other = index(row, i, OTHER);
-    if get(row, i, DETAIL) != 0 {
-        return false;
-    }
-    if left < 2 {
-        return false;
-    }
-    if other <= i {
-        return false;
-    }
-    if index(row, i, AFTER) < other {
-        return false;
-    }
-    true
+    get(row, i, DETAIL) == 0 && 2 <= left && i < other && other <= index(row, i, AFTER)
 }
 
 // Whether the record i is what one of its kind must be, apart from the forms inside it.
@@ -155,26 +83,15 @@ fn sound(row: &[u64], i: usize, to: usize, left: usize, l: u64, hs: &[u64]) -> b
     requires { (i < to) × (to * 8 ≤ length row.now) }
     ensures { Says result (Sound row.now hs.now left l i to) }
 {
-    if !priced(row, i) {
-        return false;
-    }
-    if !placed(row, i, to, l) {
-        return false;
-    }
-    let kind = get(row, i, KIND);
-    if kind == LEAF {
-        return leaf_right(row, i);
-    }
-    if kind == CALL {
-        return call_right(row, i, l, hs);
-    }
-    if kind == LOOP {
-        return loop_right(row, i, left);
-    }
-    if kind == IF {
-        return if_right(row, i, left);
-    }
-    false
+    priced(row, i)
+        && placed(row, i, to, l)
+        && match kind_of(row, i) {
+            Some(Kind::Leaf) => leaf_right(row, i),
+            Some(Kind::Call) => call_right(row, i, l, hs),
+            Some(Kind::Loop) => loop_right(row, i, left),
+            Some(Kind::If) => if_right(row, i, left),
+            None => false,
+        }
 }
 
 // Whether one whole form begins at i, and ends by `to`.
@@ -186,19 +103,15 @@ fn whole(row: &[u64], i: usize, to: usize, left: usize, l: u64, hs: &[u64]) -> b
     if !sound(row, i, to, left, l, hs) {
         return false;
     }
-    let kind = get(row, i, KIND);
     let after = index(row, i, AFTER);
-    if kind == LOOP {
-        return valid(row, i + 1, after, left - 1, l + 1, hs);
-    }
-    if kind == IF {
-        let other = index(row, i, OTHER);
-        if !valid(row, i + 1, other, left - 2, l, hs) {
-            return false;
+    match kind_of(row, i) {
+        Some(Kind::Loop) => valid(row, i + 1, after, left - 1, l + 1, hs),
+        Some(Kind::If) => {
+            let other = index(row, i, OTHER);
+            valid(row, i + 1, other, left - 2, l, hs) && valid(row, other, after, left - 2, l, hs)
         }
-        return valid(row, other, after, left - 2, l, hs);
+        _ => true,
     }
-    true
 }
 
 // Whether the records from `from` up to `to` are lines at level l that keep rules 3, 5, 19, 6 and 7, where `left` brackets may still open and
@@ -215,20 +128,20 @@ fn valid(row: &[u64], from: usize, to: usize, left: usize, l: u64, hs: &[u64]) -
         }
         i = after(row, i);
     }
-    if i == to { true } else { false }
+    i == to
 }
 
 // The level of the record i and, where it is a call, of what it calls.
+#[tactic(auto, unfolding(crate::specs::Private::top))]
 fn reach(row: &[u64], i: usize, hs: &[u64]) -> u64
     requires { (i * 8 + 8 ≤ length row.now) × Readable row.now hs.now i }
     ensures { result ≡ top row.now hs.now i }
 {
     let l = get(row, i, LEVEL);
-    if get(row, i, KIND) == CALL {
-        let f = index(row, i, DETAIL);
-        return l + hs[f];
+    match kind_of(row, i) {
+        Some(Kind::Call) => l + hs[index(row, i, DETAIL)],
+        _ => l,
     }
-    l
 }
 
 // The height of the function whose lines are the records from `from` up to `to`.
@@ -238,10 +151,8 @@ fn tall(row: &[u64], from: usize, to: usize, hs: &[u64]) -> u64
     ensures { (p : Part row.now hs.now 62 1 from to) → result ≡ height hs.now p.lines }
 {
     let mut h = 0;
-    let mut i = from;
-    while i < to {
-        h = larger(h, reach(row, i, hs));
-        i += 1;
+    for i in from..to {
+        h = h.max(reach(row, i, hs));
     }
     h
 }
@@ -259,40 +170,19 @@ fn unused(starts: &[u64; BOUNDS], n: usize) -> bool
     requires { n ≤ 16 }
     ensures { Says result ((f : ℕ) → n < f → f ≤ 16 → get_or starts.now f 0 ≡ 0) }
 {
-    let mut f = n + 1;
-    while f <= MAX_FUNCTIONS {
-        if start(starts, f) != 0 {
-            return false;
-        }
-        f += 1;
-    }
-    true
+    starts[n + 1..].iter().all(|bound| *bound == 0)
 }
 
 // Whether the bounds of n functions are right, apart from what lies between them.
 fn bounded(row: &[u64], starts: &[u64; BOUNDS], n: usize) -> bool
     ensures { Says result (Bounds row.now starts.now n) }
 {
-    if n < 1 {
-        return false;
-    }
-    if MAX_FUNCTIONS < n {
-        return false;
-    }
-    if start(starts, 0) != 0 {
-        return false;
-    }
-    let leaves = start(starts, n);
-    if MAX_LEAVES < leaves {
-        return false;
-    }
-    if row.len() < leaves * STRIDE {
-        return false;
-    }
-    if !unused(starts, n) {
-        return false;
-    }
-    true
+    1 <= n
+        && n <= MAX_FUNCTIONS
+        && start(starts, 0) == 0
+        && start(starts, n) <= MAX_LEAVES
+        && start(starts, n) * STRIDE <= row.len()
+        && unused(starts, n)
 }
 
 // Whether the row, with these bounds of n functions, is that of a plan that keeps rules 3 to 7 and 19. The heights of its functions stand in `hs`.
@@ -305,19 +195,13 @@ fn formed(row: &[u64], starts: &[u64; BOUNDS], n: usize, hs: &mut [u64]) -> bool
         return false;
     }
     let leaves = start(starts, n);
-    let mut f = 0;
-    while f < n {
+    for f in 0..n {
         let from = start(starts, f);
         let to = start(starts, f + 1);
-        if leaves < to {
+        if leaves < to || !valid(row, from, to, INNER_BRACKETS, 1, &hs[..f]) {
             return false;
         }
-        if !valid(row, from, to, INNER_BRACKETS, 1, &hs[..f]) {
-            return false;
-        }
-        let h = tall(row, from, to, &hs[..f]);
-        hs[f] = h;
-        f += 1;
+        hs[f] = tall(row, from, to, &hs[..f]);
     }
     true
 }
@@ -327,24 +211,13 @@ pub fn called(row: &[u64], starts: &[u64; BOUNDS], n: usize) -> bool
     requires { PlanOf row.now starts.now n }
     ensures { (p : PlanOf row.now starts.now n) → Says result (Called p.functions) }
 {
-    let leaves = start(starts, n);
     let mut named = [false; MAX_FUNCTIONS];
-    let mut i = 0;
-    while i < leaves {
-        if get(row, i, KIND) == CALL {
-            let f = index(row, i, DETAIL);
-            named[f] = true;
+    for i in 0..start(starts, n) {
+        if let Some(Kind::Call) = kind_of(row, i) {
+            named[index(row, i, DETAIL)] = true;
         }
-        i += 1;
     }
-    let mut f = 0;
-    while f + 1 < n {
-        if !named[f] {
-            return false;
-        }
-        f += 1;
-    }
-    true
+    named[..n - 1].iter().all(|call| *call)
 }
 
 // Whether the record i is a point, or calls a function that has one.
@@ -356,11 +229,10 @@ fn has_point(row: &[u64], i: usize, has: &[bool]) -> bool
     if get(row, i, POINT) == 1 {
         return true;
     }
-    if get(row, i, KIND) == CALL {
-        let f = index(row, i, DETAIL);
-        return has[f];
+    match kind_of(row, i) {
+        Some(Kind::Call) => has[index(row, i, DETAIL)],
+        _ => false,
     }
-    false
 }
 
 // Whether the record i may stand where silent loops reach up to `until`.
@@ -369,31 +241,19 @@ fn allowed(row: &[u64], i: usize, until: usize, has: &[bool]) -> bool
     requires i_in_bounds_2 { kind_at row.now i ≡ 1 → detail_at row.now i < length has.now }
     ensures { Says result (Allowed row.now has.now until i) }
 {
-    if !has_point(row, i, has) {
-        return true;
-    }
-    if i < until {
-        return false;
-    }
-    if get(row, i, POINT) != 1 {
-        return false;
-    }
-    true
+    !has_point(row, i, has) || until <= i && get(row, i, POINT) == 1
 }
 
 // How far silent loops reach, the record i among them.
+#[tactic(auto, unfolding(crate::specs::Private::silent_end))]
 fn silent_until(row: &[u64], i: usize, until: usize) -> usize
     requires { i * 8 + 8 ≤ length row.now }
     ensures { result ≡ Prim.Native.Nat.max until (silent_end row.now i) }
 {
-    if get(row, i, POINT) != 0 {
-        return until;
+    match kind_of(row, i) {
+        Some(Kind::Loop) if get(row, i, POINT) == 0 => until.max(index(row, i, AFTER)),
+        _ => until,
     }
-    if get(row, i, KIND) != LOOP {
-        return until;
-    }
-    let after = index(row, i, AFTER);
-    if until < after { after } else { until }
 }
 
 // Whether a function keeps rule 8, where `has` says which functions before it have a point.
@@ -404,13 +264,11 @@ fn seen(row: &[u64], from: usize, to: usize, has: &[bool]) -> bool
         → Says result (Seen (forms fs t.lines)) }
 {
     let mut until = 0;
-    let mut i = from;
-    while i < to {
+    for i in from..to {
         if !allowed(row, i, until, has) {
             return false;
         }
         until = silent_until(row, i, until);
-        i += 1;
     }
     true
 }
@@ -422,12 +280,10 @@ fn pointed(row: &[u64], from: usize, to: usize, has: &[bool]) -> bool
     ensures { (fs : List Forms) → Flags has.now fs → (t : Text row.now (length has.now) from to)
         → Says result (Pointed (forms fs t.lines)) }
 {
-    let mut i = from;
-    while i < to {
+    for i in from..to {
         if has_point(row, i, has) {
             return true;
         }
-        i += 1;
     }
     false
 }
@@ -438,16 +294,13 @@ pub fn seen_all(row: &[u64], starts: &[u64; BOUNDS], n: usize) -> bool
     ensures { (p : PlanOf row.now starts.now n) → Says result (SeenAll [] p.functions) }
 {
     let mut has = [false; MAX_FUNCTIONS];
-    let mut f = 0;
-    while f < n {
+    for f in 0..n {
         let from = start(starts, f);
         let to = start(starts, f + 1);
         if !seen(row, from, to, &has[..f]) {
             return false;
         }
-        let some = pointed(row, from, to, &has[..f]);
-        has[f] = some;
-        f += 1;
+        has[f] = pointed(row, from, to, &has[..f]);
     }
     true
 }
@@ -461,11 +314,5 @@ pub fn structured(row: &[u64], starts: &[u64; BOUNDS], n: usize, hs: &mut [u64])
     if !formed(row, starts, n, hs) {
         return false;
     }
-    if !seen_all(row, starts, n) {
-        return false;
-    }
-    if !called(row, starts, n) {
-        return false;
-    }
-    true
+    seen_all(row, starts, n) && called(row, starts, n)
 }

@@ -1,5 +1,5 @@
 -- Lent numbers against derived ones: they agree with the plan's table exactly when they are the derived numbers. Assumes nothing.
-use mathlib.Core.Bool.{true}
+use Rattle.std.specs.Prelude.{Some}
 use mathlib.Core.List.{List}
 use mathlib.Core.Path.{◌≡◌, ap, sym, ◌∙◌}
 use Prim.Native.Nat.{ℕ}
@@ -11,9 +11,9 @@ use Rattle.table.specs.declared.Derived.{Derived}
 use Rattle.table.specs.Private.{DerivedNumbers, Derives, Agrees}
 
 -- The numbers t, u, v and d of the plan, which keeps rule 10, and a head that has as many leaves and its functions' totals.
-module _ (p : Plan) (h : Head) (d : Derived) {t u v : List ℕ} (a : Derives p d t u v) (f : d.fits ≡ true) (few : sizes p.functions ≡ h.leaves) where
+module _ (p : Plan) (h : Head) (d : Derived) {t u v : List ℕ} (a : Derives p (Some d) t u v) (few : sizes p.functions ≡ h.leaves) where
   numbers : DerivedNumbers p d t u v
-  numbers = a.numbers f
+  numbers = a.1
 
   cut : (o : List ℕ) → take h.leaves o ≡ take (sizes p.functions) o
   cut o = ap (λ (k : ℕ). take k o) (sym few)
@@ -24,7 +24,7 @@ module _ (p : Plan) (h : Head) (d : Derived) {t u v : List ℕ} (a : Derives p d
   agreement es et el er ez =
       let n = numbers in
       record {
-        fits = sym a.fits ∙ f;
+        fits = a.0;
         total = et ∙ n.total;
         max_load_total = el ∙ n.max_load_total;
         stretch = er ∙ n.stretch;

@@ -1,5 +1,6 @@
 -- The numbers that `measure` and `derive` compute from a row are those of the plan's table.
 -- Assumes nothing.
+use Rattle.std.specs.Prelude.{Some}
 use mathlib.Core.Bool.{Bool, true, false, ◌&&◌}
 use mathlib.Core.List.{List, [], ◌∷◌, ◌++◌, map, map-append}
 use mathlib.Core.Path.{◌≡◌, refl, sym, ap, ◌∙◌, subst}
@@ -326,7 +327,7 @@ still_wide {starts = starts} {cs = cs} {ms = ms} {t₀ = t₀} {u₀ = u₀} {n 
 
 -- The derived numbers of n functions whose totals are cs and ms; r is the stretch of the release.
 abbrev pub derived : List ℕ → List ℕ → ℕ → ℕ → Derived
-derived cs ms r n = record { fits = true; total = get_or cs (n - 1) 0; max_load_total = get_or ms (n - 1) 0; stretch = r; totals = cs }
+derived cs ms r n = record { total = get_or cs (n - 1) 0; max_load_total = get_or ms (n - 1) 0; stretch = r; totals = cs }
 
 -- The row's functions, where the bounds are handed in as indexes.
 pub row_plan : {w s starts : List ℕ} {n : ℕ} → starts ≡ s → Structured w s n → PlanOf w starts n
@@ -387,9 +388,8 @@ module _ {w s : List ℕ} {n : ℕ} (q : Structured w s n) where
         -- Totals within the limit keep rule 10, and the numbers are those of the plan's table.
         pub row_derives :
             {starts : List ℕ} → starts ≡ s → Gives C w starts n cs o → Gives M w starts n ms b → get_or cs (n - 1) 0 ≤ limit → get_or ms (n - 1) 0 ≤ limit
-            → Room n cs o t₀ u₀ → Gave w starts n cs o ms b t₀ u₀ r t u → Derives p (derived cs ms r n) o t u
+            → Room n cs o t₀ u₀ → Gave w starts n cs o ms b t₀ u₀ r t u → Derives p (Some (derived cs ms r n)) o t u
         row_derives =
             moved (λ i m. Gives C w i m cs o → Gives M w i m ms b → get_or cs (m - 1) 0 ≤ limit → get_or ms (m - 1) 0 ≤ limit
-            → Room m cs o t₀ u₀ → Gave w i m cs o ms b t₀ u₀ r t u → Derives p (derived cs ms r m) o t u)
-            (λ x y h k z g.
-            record { fits = rw same (sym (short q (x row) (y row) h k)); numbers = λ e. numbers (x row) (y row) h k z g })
+            → Room m cs o t₀ u₀ → Gave w i m cs o ms b t₀ u₀ r t u → Derives p (Some (derived cs ms r m)) o t u)
+            (λ x y h k z g. (rw same (short q (x row) (y row) h k), numbers (x row) (y row) h k z g))

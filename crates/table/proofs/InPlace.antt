@@ -1,5 +1,6 @@
 -- Turns, tails and isolated totals that fit where they stand are those of the plan's table, and those of the plan's table fit.
 -- Assumes nothing.
+use Rattle.std.specs.Prelude.{Some}
 use mathlib.Core.Bool.{true}
 use mathlib.Core.List.{List, [], map}
 use mathlib.Core.Path.{◌≡◌, refl, sym, ap, ◌∙◌}
@@ -227,16 +228,15 @@ module _ {w s : List ℕ} {n : ℕ} (q : Structured w s n) {starts : List ℕ} (
         (u₀ : List ℕ) {cs o t ms b u : List ℕ} {r : ℕ} → Fitting w starts n cs o t → Gives M w starts n ms b → get_or ms (n - 1) 0 ≤ limit → length cs ≡ 16 → length u₀ ≡ 512
         → ((v : Summed M w starts n ms b) → r ≡ line_silence M ms (lines_of v.plan (n - 1)) 0)
         → ((v : Summed M w starts n ms b) → u ≡ stretches_written M ms (λ f z. line_silence M ms (lines_of v.plan f) z) (lines_of v.plan) starts n n u₀)
-        → Derives p (derived cs ms r n) o t u
+        → Derives p (Some (derived cs ms r n)) o t u
     fitting_derives u₀ {cs} {o} {t} {ms} {b} {u} {r} x y k long wide release stretches =
         moved q (λ i m. Fitting w i m cs o t → Gives M w i m ms b → get_or ms (m - 1) 0 ≤ limit
         → ((v : Summed M w i m ms b) → r ≡ line_silence M ms (lines_of v.plan (m - 1)) 0)
         → ((v : Summed M w i m ms b) → u ≡ stretches_written M ms (λ f z. line_silence M ms (lines_of v.plan f) z) (lines_of v.plan) i m m u₀)
-        → Derives p (derived cs ms r m) o t u)
+        → Derives p (Some (derived cs ms r m)) o t u)
         (λ x y k release stretches.
         let v = own q in
-        let c = max_load_of (derived_numbers.summed q (measured q (x v)) (y v) (low q (x v)) k) in
-        record {
-          fits = rw same (sym (derived_numbers.short q (measured q (x v)) (y v) (low q (x v)) k));
-          numbers = λ _. numbers q (x v) (y v) k u₀ p same long wide (release c) (stretches c);
-        }) e x y k release stretches
+        let c = max_load_of (derived_numbers.summed q (measured q (x v)) (y v) (low q (x v)) k) in (
+          rw same (derived_numbers.short q (measured q (x v)) (y v) (low q (x v)) k),
+          numbers q (x v) (y v) k u₀ p same long wide (release c) (stretches c),
+        )) e x y k release stretches

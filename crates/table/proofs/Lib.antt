@@ -1,5 +1,4 @@
 pub mod Tests
-pub mod Lists
 pub mod Accepting
 pub mod Bridge
 pub mod Plans

@@ -5,9 +5,10 @@ use mathlib.Core.List.{List, []}
 use mathlib.Core.Logic.{◌↔◌}
 use mathlib.Core.Path.{◌≡◌, refl, ap, ◌∙◌, subst}
 use Prim.Native.Nat.{ℕ, ◌-◌, ◌^◌}
-use native.Mathlib.Omega.{arith}
 use lib.Dec.{leb}
 use lib.ListN.{length}
+use Rattle.model.specs.declared.Refusal.{Refusal}
+use Rattle.model.specs.declared.Refusal.TheVariants.{Unseen, Uncalled, Long}
 use Rattle.model.specs.Plan.{C, M, Plan}
 use Rattle.model.specs.Forms.{main}
 use Rattle.model.specs.Total.{total}
@@ -22,11 +23,11 @@ use Rattle.table.specs.Reading.{judged, after_lines, verdict}
 use Rattle.table.proofs.Tests.{four}
 use Rattle.table.proofs.Accepting.{accepted_exactly, formed_exactly}
 
-not_plan : {k j : ℕ} {q : Plan} {A : Type 0} → refused k j ≡ plan q → A
-not_plan e = absurd (let z : ◌≡◌ {A = ℕ} 0 1 = cc in omega arith)
+not_plan : {k : Refusal} {j : ℕ} {q : Plan} {A : Type 0} → refused k j ≡ plan q → A
+not_plan e = cc
 
 -- The tests behind the lines.
-judged_plan : (a b c : Bool) (p q : Plan) → pick a (pick b (pick c (plan p) (refused 10 0)) (refused 9 0)) (refused 8 0) ≡ plan q →
+judged_plan : (a b c : Bool) (p q : Plan) → pick a (pick b (pick c (plan p) (refused Long 0)) (refused Uncalled 0)) (refused Unseen 0) ≡ plan q →
     (a ≡ true) × (b ≡ true) × (c ≡ true) × (p ≡ q)
 judged_plan true true true p q e = (refl, refl, refl, cc)
 judged_plan true true false p q e = not_plan e

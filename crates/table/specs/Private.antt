@@ -1,6 +1,6 @@
 -- What the private functions promise. Nothing of this stands in the contracts of `read`, `judge` and `check`.
 -- Assumes nothing: these are definitions.
-use Rattle.std.specs.Prelude.{true, List, ◌≡◌, ℕ, ◌*◌, ◌^◌, ◌≤◌, take}
+use Rattle.std.specs.Prelude.{true, false, List, ◌≡◌, ℕ, ◌*◌, ◌^◌, ◌≤◌, take, Option, Some, None}
 use Rattle.model.specs.Plan.{Plan}
 use Rattle.model.specs.Acceptance.{sizes}
 use Rattle.reader.specs.declared.Raw.{Raw}
@@ -27,10 +27,10 @@ pub record DerivedNumbers (p : Plan) (d : Derived) (turns tails stretches : List
   pub tails_are : take (sizes p.functions) tails ≡ (table_of p).tails
   pub stretches_are : take (sizes p.functions) stretches ≡ (table_of p).stretches
 
--- Whether rule 10 is kept, and the numbers, if it is.
-pub record Derives (p : Plan) (d : Derived) (turns tails stretches : List ℕ) : Type 0 where
-  pub fits : d.fits ≡ short? p
-  pub numbers : d.fits ≡ true → DerivedNumbers p d turns tails stretches
+-- Rule 10 is kept, and these are the numbers; or it is not kept.
+abbrev pub Derives : Plan → Option Derived → List ℕ → List ℕ → List ℕ → Type 0
+Derives p (Some d) turns tails stretches = (short? p ≡ true) × DerivedNumbers p d turns tails stretches
+Derives p None turns tails stretches = short? p ≡ false
 
 -- A lent table has the derived numbers of the plan, which keeps rule 10.
 pub record Agrees (p : Plan) (turns tails stretches : List ℕ) (h : Head) : Type 0 where

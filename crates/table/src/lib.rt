@@ -8,13 +8,13 @@ ghost use Rattle.model.specs.Acceptance.{sizes};
 ghost use Rattle.rows.specs.Answers.{Says};
 ghost use Rattle.structure.specs.Plans.{Structured};
 ghost use Rattle.table.specs.Table.{zero_head, table_at, good};
-ghost use Rattle.reader.specs.Outcome.{Outcome, refused};
-ghost use Rattle.table.specs.Reading.{after_lines, verdict, verdict_of, stored, Wide, RawOf, ColumnsWritten};
+ghost use Rattle.table.specs.Reading.{judged, verdict, result_of, stored, Wide, RawOf, ColumnsWritten};
 ghost use Rattle.table.specs.Private.{HeadRanged, Derives, Agrees, headed};
 
-use columns::{derive, measure, tails_agree};
-use reader::{Answer, Raw, read_lines};
-use rows::{BOUNDS, ISOLATED, LIMIT, MAX_FUNCTIONS, MAX_LEAVES, MAX_LOAD, MAX_SWITCH, ROW, STRIDE};
+use columns::{Cost, derive, measure, tails_agree};
+use model::Refusal;
+use reader::{Raw, RefusedAt, read_lines};
+use rows::{BOUNDS, LIMIT, MAX_FUNCTIONS, MAX_LEAVES, MAX_SWITCH, ROW, STRIDE};
 use structure::{called, seen_all, structured};
 
 // What stands beside the row of leaf records: deadline and switch cost, the total and the max-load total, the stretch of the release, how many leaves
@@ -33,59 +33,42 @@ pub struct Head {
     pub totals: [u64; MAX_FUNCTIONS],
 }
 
-// What reading a plan answers, and the head afterwards.
-#[derive(Clone, Copy)]
-pub struct Verdict {
-    pub answer: Answer,
-    pub head: Head,
-}
-
-// A head of zeros, to hand in where no plan was read before.
-pub fn no_head() -> Head
-    ensures { result ≡ zero_head }
-{
-    Head {
-        deadline: 0,
-        switch: 0,
-        total: 0,
-        max_load_total: 0,
-        stretch: 0,
-        leaves: 0,
-        functions: 0,
-        bounds: [0; BOUNDS],
-        totals: [0; MAX_FUNCTIONS],
+// A head of zeros.
+impl Default for Head {
+    fn default() -> Head
+        ensures { result ≡ zero_head }
+    {
+        Head {
+            deadline: 0,
+            switch: 0,
+            total: 0,
+            max_load_total: 0,
+            stretch: 0,
+            leaves: 0,
+            functions: 0,
+            bounds: [0; BOUNDS],
+            totals: [0; MAX_FUNCTIONS],
+        }
     }
 }
 
-// The derived numbers beside the columns: whether rule 10 is kept and, if it is, both totals, the stretch of the release, and the functions' isolated totals.
+// The derived numbers beside the columns: both totals, the stretch of the release, and the functions' isolated totals.
 #[derive(Clone, Copy)]
 struct Derived {
-    fits: bool,
     total: u64,
     max_load_total: u64,
     stretch: u64,
     totals: [u64; MAX_FUNCTIONS],
 }
 
-// Unseen, uncalled and long, by their numbers.
-const UNSEEN: u64 = 8;
-
-const UNCALLED: u64 = 9;
-
-const LONG: u64 = 10;
-
 // The bounds as indexes.
 fn indexes(bounds: [u64; BOUNDS]) -> [usize; BOUNDS]
     ensures { result ≡ bounds }
 {
-    let mut starts: [usize; BOUNDS] = [0; BOUNDS];
-    for f in 0..BOUNDS {
-        starts[f] = bounds[f] as usize;
-    }
-    starts
+    bounds.map(|bound| bound as usize)
 }
 
-// The derived numbers of a row that keeps rules 3 to 9 and 19; the columns are written.
+// The derived numbers of a row that keeps rules 3 to 9 and 19, or none where it breaks rule 10; the columns are written.
 fn derive_all(
     row: &[u64],
     bounds: [u64; BOUNDS],
@@ -93,7 +76,7 @@ fn derive_all(
     turns: &mut [u64; MAX_LEAVES],
     tails: &mut [u64; MAX_LEAVES],
     stretches: &mut [u64; MAX_LEAVES],
-) -> Derived
+) -> Option<Derived>
     requires structured { Structured row.now bounds n }
     requires wide { Wide turns.old tails.old stretches.old }
     ensures derives { (p : Plan) (q : Structured row.now bounds n) → p.functions ≡ q.plan.functions
@@ -102,29 +85,22 @@ fn derive_all(
 {
     let starts = indexes(bounds);
     let mut rounds: [u64; MAX_LEAVES] = [0; MAX_LEAVES];
-    let totals = measure(row, &starts, n, ISOLATED, turns);
-    let loads = measure(row, &starts, n, MAX_LOAD, &mut rounds);
+    let totals = measure(row, &starts, n, Cost::Isolated, turns);
+    let loads = measure(row, &starts, n, Cost::MaxLoad, &mut rounds);
     let total = totals[n - 1];
     let max_load_total = loads[n - 1];
     if LIMIT < total || LIMIT < max_load_total {
-        return Derived {
-            fits: false,
-            total,
-            max_load_total,
-            stretch: 0,
-            totals,
-        };
+        return None;
     }
     let stretch = derive(
         row, &starts, n, &totals, turns, &loads, &rounds, tails, stretches,
     );
-    Derived {
-        fits: true,
+    Some(Derived {
         total,
         max_load_total,
         stretch,
         totals,
-    }
+    })
 }
 
 // Whether the first n numbers of both are the same.
@@ -132,52 +108,25 @@ fn same(lent: &[u64], derived: &[u64], n: usize) -> bool
     requires { n ≤ length derived.now }
     ensures { Says result (take n lent.now ≡ take n derived.now) }
 {
-    if lent.len() < n {
-        return false;
-    }
-    let mut i = 0;
-    while i < n {
-        if lent[i] != derived[i] {
-            return false;
-        }
-        i += 1;
-    }
-    true
+    n <= lent.len() && lent[..n] == derived[..n]
+}
+
+// Whether both totals and the stretch of the release stand in the head.
+fn stands(head: Head, total: u64, max_load_total: u64, stretch: u64) -> bool
+    ensures { Says result ((head.total ≡ total) × (head.max_load_total ≡ max_load_total) × (head.stretch ≡ stretch)) }
+{
+    head.total == total && head.max_load_total == max_load_total && head.stretch == stretch
 }
 
 // Whether deadline and switch cost are in range, and a lent row of so many numbers holds the leaves.
 fn ranged(head: Head, room: usize) -> bool
     ensures { Says result (HeadRanged room head) }
 {
-    if head.deadline < 1 {
-        return false;
-    }
-    if LIMIT < head.deadline {
-        return false;
-    }
-    if MAX_SWITCH < head.switch {
-        return false;
-    }
-    if MAX_LEAVES < head.leaves {
-        return false;
-    }
-    if room < head.leaves * STRIDE {
-        return false;
-    }
-    true
-}
-
-// Writes the numbers at the beginning, as far as there is room.
-fn store(numbers: &[u64], lent: &mut [u64])
-    ensures { lent.new ≡ sets lent.old 0 numbers.now }
-{
-    let mut i = 0;
-    while i < numbers.len() {
-        if i < lent.len() {
-            lent[i] = numbers[i];
-        }
-        i += 1;
-    }
+    1 <= head.deadline
+        && head.deadline <= LIMIT
+        && head.switch <= MAX_SWITCH
+        && head.leaves <= MAX_LEAVES
+        && head.leaves * STRIDE <= room
 }
 
 // Whether the lent columns and the head have the derived numbers of a row that keeps rules 3 to 9 and 19. Turns, tails and isolated totals are checked where
@@ -188,30 +137,28 @@ fn agrees(row: &[u64], turns: &[u64], tails: &[u64], stretches: &[u64], head: He
         → sizes p.functions ≡ head.leaves → Says result (Agrees p turns.now tails.now stretches.now head) }
 {
     let n = head.functions;
-    let bounds = head.bounds;
-    let totals = head.totals;
-    let starts = indexes(bounds);
-    if !tails_agree(row, &starts, n, &totals, turns, tails) {
+    let starts = indexes(head.bounds);
+    if !tails_agree(row, &starts, n, &head.totals, turns, tails) {
         return false;
     }
     let mut rounds: [u64; MAX_LEAVES] = [0; MAX_LEAVES];
-    let loads = measure(row, &starts, n, MAX_LOAD, &mut rounds);
+    let loads = measure(row, &starts, n, Cost::MaxLoad, &mut rounds);
     let max_load_total = loads[n - 1];
     if LIMIT < max_load_total {
         return false;
     }
     let mut derived: [u64; MAX_LEAVES] = [0; MAX_LEAVES];
-    let stretch = columns::stretches(row, &starts, n, MAX_LOAD, &loads, &rounds, &mut derived);
-    if head.total != totals[n - 1] {
-        return false;
-    }
-    if head.max_load_total != max_load_total {
-        return false;
-    }
-    if head.stretch != stretch {
-        return false;
-    }
-    same(stretches, &derived, head.leaves)
+    let stretch = columns::stretches(
+        row,
+        &starts,
+        n,
+        Cost::MaxLoad,
+        &loads,
+        &rounds,
+        &mut derived,
+    );
+    stands(head, head.totals[n - 1], max_load_total, stretch)
+        && same(stretches, &derived, head.leaves)
 }
 
 // Whether the first records of these lists, as many as the head says, are with the head the table of an accepted plan.
@@ -221,27 +168,20 @@ pub fn check(row: &[u64], turns: &[u64], tails: &[u64], stretches: &[u64], head:
     if !ranged(head, row.len()) {
         return false;
     }
+    let own = &row[..head.leaves * STRIDE];
     let n = head.functions;
-    let bounds = head.bounds;
-    let end = head.leaves * STRIDE;
     let mut heights: [u64; MAX_FUNCTIONS] = [0; MAX_FUNCTIONS];
-    if !structured(&row[..end], &bounds, n, &mut heights) {
+    if !structured(own, &head.bounds, n, &mut heights) {
         return false;
     }
-    if bounds[n] as usize != head.leaves {
-        return false;
-    }
-    agrees(&row[..end], turns, tails, stretches, head)
+    head.bounds[n] as usize == head.leaves && agrees(own, turns, tails, stretches, head)
 }
 
-// A refusal with line 0; the head is as it was.
-fn refused(k: u64, head: Head) -> Verdict
-    ensures { result ≡ verdict_of (refused k 0) head }
+// A refusal of the plan as a whole, at line 0.
+fn refused(refusal: Refusal) -> RefusedAt
+    ensures { result ≡ record { refusal = refusal; line = 0 } }
 {
-    Verdict {
-        answer: Answer::Refused(k, 0),
-        head,
-    }
+    RefusedAt { refusal, line: 0 }
 }
 
 // The head of an accepted plan, from what was read and what was derived.
@@ -263,50 +203,37 @@ fn head_from(raw: Raw, d: Derived) -> Head
     }
 }
 
-// What to say of a text whose lines gave these raw numbers and this row: rules 8 to 10. The columns are written; of a refused plan they hold nothing.
+// What to say of a plan whose lines gave these raw numbers and this row: rules 8 to 10. The columns are written; of a refused plan they hold nothing.
 pub fn judge(
     raw: Raw,
     row: &[u64],
     turns: &mut [u64; MAX_LEAVES],
     tails: &mut [u64; MAX_LEAVES],
     stretches: &mut [u64; MAX_LEAVES],
-    head: Head,
-) -> Verdict
-    requires { ((o : Outcome) × RawOf o raw row.now) × Wide turns.old tails.old stretches.old }
-    ensures value { (o : Outcome) → RawOf o raw row.now → result ≡ verdict_of (after_lines o) head }
-    ensures columns_written { (o : Outcome) → RawOf o raw row.now
-        → ColumnsWritten (after_lines o) turns.new tails.new stretches.new }
+) -> Result<Head, RefusedAt>
+    requires { ((p : Plan) × RawOf p raw row.now) × Wide turns.old tails.old stretches.old }
+    ensures value { (p : Plan) → RawOf p raw row.now → result ≡ result_of (judged p) }
+    ensures columns_written { (p : Plan) → RawOf p raw row.now
+        → ColumnsWritten (judged p) turns.new tails.new stretches.new }
     ensures wide { Wide turns.new tails.new stretches.new }
 {
-    let answer = raw.answer;
-    if let Answer::Refused(k, j) = answer {
-        return Verdict {
-            answer: Answer::Refused(k, j),
-            head,
-        };
-    }
     let n = raw.functions;
     let bounds = raw.bounds;
-    let end = raw.leaves * STRIDE;
-    if !seen_all(&row[..end], &bounds, n) {
-        return refused(UNSEEN, head);
+    let own = &row[..raw.leaves * STRIDE];
+    if !seen_all(own, &bounds, n) {
+        return Err(refused(Refusal::Unseen));
     }
-    if !called(&row[..end], &bounds, n) {
-        return refused(UNCALLED, head);
+    if !called(own, &bounds, n) {
+        return Err(refused(Refusal::Uncalled));
     }
-    let d = derive_all(&row[..end], bounds, n, turns, tails, stretches);
-    if !d.fits {
-        return refused(LONG, head);
-    }
-    let accepted = head_from(raw, d);
-    Verdict {
-        answer: Answer::Accepted,
-        head: accepted,
+    match derive_all(own, bounds, n, turns, tails, stretches) {
+        Some(derived) => Ok(head_from(raw, derived)),
+        None => Err(refused(Refusal::Long)),
     }
 }
 
 // Reads a plan: its table goes to the beginning of the lent lists, as many records as it has leaves and as the caller lends (`capacity`, of which 512
-// are used), and its head is given; or it is refused, by a number and a line, and everything is as it was.
+// are used), and its head is given; or it is refused, at a line, and everything is as it was.
 pub fn read(
     text: &[u8],
     capacity: usize,
@@ -314,9 +241,8 @@ pub fn read(
     turns: &mut [u64; MAX_LEAVES],
     tails: &mut [u64; MAX_LEAVES],
     stretches: &mut [u64; MAX_LEAVES],
-    head: Head,
-) -> Verdict
-    ensures answers { result ≡ verdict_of (verdict capacity text.now) head }
+) -> Result<Head, RefusedAt>
+    ensures answers { result ≡ result_of (verdict capacity text.now) }
     ensures row { row.new ≡ stored (verdict capacity text.now) (λ t. t.row) row.old }
     ensures turns { turns.new ≡ stored (verdict capacity text.now) (λ t. t.turns) turns.old }
     ensures tails { tails.new ≡ stored (verdict capacity text.now) (λ t. t.tails) tails.old }
@@ -326,16 +252,13 @@ pub fn read(
     let mut t: [u64; MAX_LEAVES] = [0; MAX_LEAVES];
     let mut u: [u64; MAX_LEAVES] = [0; MAX_LEAVES];
     let mut v: [u64; MAX_LEAVES] = [0; MAX_LEAVES];
-    let raw = read_lines(text, capacity, &mut w);
+    let raw = read_lines(text, capacity, &mut w)?;
     let n = raw.leaves;
     let end = n * STRIDE;
-    let said = judge(raw, &w[..end], &mut t, &mut u, &mut v, head);
-    let answer = said.answer;
-    if let Answer::Accepted = answer {
-        store(&w[..end], row);
-        store(&t[..n], turns);
-        store(&u[..n], tails);
-        store(&v[..n], stretches);
-    }
-    said
+    let head = judge(raw, &w[..end], &mut t, &mut u, &mut v)?;
+    row[..end].copy_from_slice(&w[..end]);
+    turns[..n].copy_from_slice(&t[..n]);
+    tails[..n].copy_from_slice(&u[..n]);
+    stretches[..n].copy_from_slice(&v[..n]);
+    Ok(head)
 }

@@ -4,7 +4,8 @@ use mathlib.Core.Path.{◌≡◌, refl}
 use mathlib.Core.List.{[], ◌∷◌, ◌++◌, map}
 use mathlib.Core.Bool.{true, false}
 use Rattle.text.specs.declared.Form.TheVariants.{Task, Leaf, Call, Loop, If}
-use Rattle.text.specs.declared.Read.TheVariants.{Unread, Line}
+use Rattle.text.specs.declared.Class.TheVariants.{Digit, Small, Space, OpenBracket, CloseBracket, LineFeed, Other}
+use Rattle.std.specs.Prelude.{Some, None}
 use Rattle.text.specs.Text.{bytes, lines, line_of, line_at, line_end}
 use Rattle.text.specs.Patterns.{digits, number, item, match, matched, any_over, class_of}
 use Rattle.text.specs.Grammar.{no_form, form, line_form, read_at}
@@ -81,20 +82,20 @@ long_number : line_form (bytes "(task 1234567890123456789012345 4\n") ≡ form (
 unfolding line_form matched item number digits
 long_number = refl
 
-long_held : read_at (bytes "(fun\n(task 1234567890123456789012345 4\n)\n") 5 ≡ Line (Task 2199023255552 4) 39
+long_held : read_at (bytes "(fun\n(task 1234567890123456789012345 4\n)\n") 5 ≡ Some (Task 2199023255552 4, 39)
 unfolding read_at line_end line_at line_of line_form matched item number digits
 long_held = refl
 
 -- The answer at a place in the middle of a line, at the end of a text, and past it.
-middle : read_at (bytes "(fun\n)\n") 1 ≡ Unread
+middle : read_at (bytes "(fun\n)\n") 1 ≡ None
 unfolding read_at line_end line_at line_of line_form matched item number digits
 middle = refl
 
-at_end : read_at (bytes "(fun\n") 5 ≡ Unread
+at_end : read_at (bytes "(fun\n") 5 ≡ None
 unfolding read_at line_end line_at line_of line_form matched item number digits
 at_end = refl
 
-past_end : read_at (bytes "(fun\n") 9 ≡ Unread
+past_end : read_at (bytes "(fun\n") 9 ≡ None
 unfolding read_at line_end line_at line_of line_form matched item number digits
 past_end = refl
 
@@ -121,9 +122,9 @@ unfolding decimal numerals
 greatest = refl
 
 -- The ends of both ranges, digits and small letters, and their neighbours.
-classes : map class_of (47 ∷ 48 ∷ 57 ∷ 58 ∷ 96 ∷ 97 ∷ 122 ∷ 123 ∷ []) ≡ 6 ∷ 0 ∷ 0 ∷ 6 ∷ 6 ∷ 1 ∷ 1 ∷ 6 ∷ []
+classes : map class_of (47 ∷ 48 ∷ 57 ∷ 58 ∷ 96 ∷ 97 ∷ 122 ∷ 123 ∷ []) ≡ Other ∷ Digit ∷ Digit ∷ Other ∷ Other ∷ Small ∷ Small ∷ Other ∷ []
 classes = refl
 
 -- The single bytes that have a class of their own, line feed, space and both brackets, and their neighbours.
-single_classes : map class_of (9 ∷ 10 ∷ 11 ∷ 31 ∷ 32 ∷ 33 ∷ 39 ∷ 40 ∷ 41 ∷ 42 ∷ []) ≡ 6 ∷ 5 ∷ 6 ∷ 6 ∷ 2 ∷ 6 ∷ 6 ∷ 3 ∷ 4 ∷ 6 ∷ []
+single_classes : map class_of (9 ∷ 10 ∷ 11 ∷ 31 ∷ 32 ∷ 33 ∷ 39 ∷ 40 ∷ 41 ∷ 42 ∷ []) ≡ Other ∷ LineFeed ∷ Other ∷ Other ∷ Space ∷ Other ∷ Other ∷ OpenBracket ∷ CloseBracket ∷ Other ∷ []
 single_classes = refl

@@ -9,8 +9,7 @@ use lib.ListN.{length, get_or}
 use Rattle.text.specs.declared.Shown.{Shown}
 use Rattle.text.specs.declared.Form.{Form}
 use Rattle.text.specs.declared.Form.TheVariants.{Task, Leaf, Call, Loop, If}
-use Rattle.text.specs.declared.Read.{Read}
-use Rattle.text.specs.declared.Read.TheVariants.{Line}
+use Rattle.std.specs.Prelude.{Option, Some}
 use Rattle.text.specs.Text.{bytes, line_at, line_end}
 use Rattle.text.specs.Patterns.{matched, miss, ShownAt}
 use Rattle.text.specs.Grammar as grammar
@@ -66,9 +65,9 @@ module _ {s : List ℕ} {at : ℕ} {row row' : List ℕ} {f : Shown} {e : ℕ} (
 module _ (s : List ℕ) (at : ℕ) (p : List ℕ) (F : Bool → List ℕ → Form) (other : grammar.Line) where
   pub answer_fit : {limit : ℕ} {row row' : List ℕ} {f : Shown} {e : ℕ} {g : Form} (w : ShownAt limit s at p row row' f e)
       → g ≡ cap_form (F f.kind w.numbers)
-      → Line g e ≡ answered (line_end s at) (or_else (matched p false (line_at s at)) F other)
+      → Some (g, e) ≡ answered (line_end s at) (or_else (matched p false (line_at s at)) F other)
   answer_fit w h = rw (h, w.after, w.fits)
 
-  pub answer_miss : {r : Read} → matched p false (line_at s at) ≡ miss → r ≡ answered (line_end s at) other
+  pub answer_miss : {r : Option (Form × ℕ)} → matched p false (line_at s at) ≡ miss → r ≡ answered (line_end s at) other
       → r ≡ answered (line_end s at) (or_else (matched p false (line_at s at)) F other)
   answer_miss w h = rw w h

@@ -12,13 +12,13 @@ use lib.Seq.{drop-cons, sets, length-sets, get_or-set_same, get_or-set_other}
 use lib.Dec.{eqb, ltb}
 use borrow.Author.Tests.{eq-eqb, ne_eqb, eqb-true}
 use Rattle.text.specs.Text.{line_of, line_at, line_end}
-use Rattle.text.specs.Patterns.{class_of, digits, number, none, some, is_upper, misfit, fit, kind_item, number_item, item}
+use Rattle.text.specs.Patterns.{is_digit, digits, number, none, some, is_upper, misfit, fit, kind_item, number_item, item}
 use Rattle.text.specs.Patterns.{Match, miss, match, with_number, ended, matched, capped, any_over, ShownAt, MatchAt}
-use Rattle.text.specs.Private.{Onward, DigitsTo, NumberAt, StandsAt, KindTaken, NumberTaken, CapitalAt}
-use Rattle.text.proofs.Classes.{digit, class_no_digit}
+use Rattle.text.specs.Private.{DigitIs, Onward, DigitsTo, NumberAt, StandsAt, KindTaken, NumberTaken, CapitalAt}
+use Rattle.text.proofs.Classes.{digit}
 use Rattle.text.specs.declared.Shown.{Shown}
-use Rattle.text.specs.declared.Fitted.TheVariants.{Fit}
-use Rattle.text.specs.declared.Num.TheVariants.{At, Over}
+use Rattle.std.specs.Prelude.{Option, Some, None}
+use Rattle.std.specs.Option.{is_some}
 
 -- PLACES
 
@@ -64,6 +64,15 @@ on_on a b = record { past = omega (arith, a.past, b.past); within = b.within; sa
 
 -- NUMBERS
 
+-- Whether a byte is a digit, where its value is given or not.
+pub digit_some : (b : ℕ) (value : Option ℕ) → DigitIs b value → is_some value ≡ true → (48 ≤ b) × (b ≤ 57)
+digit_some b None h e = absurd cc
+digit_some b (Some d) h e = (h.0, h.1)
+
+pub digit_none : (b : ℕ) (value : Option ℕ) → DigitIs b value → is_some value ≡ false → is_digit b ≡ false
+digit_none b None h e = h
+digit_none b (Some d) h e = absurd cc
+
 module _ (s : List ℕ) (i : ℕ) (h : i < length s) where
   -- A digit moves the value on.
   pub digits_step : (n : ℕ) → 48 ≤ get_or s i 0 → get_or s i 0 ≤ 57
@@ -72,14 +81,14 @@ module _ (s : List ℕ) (i : ℕ) (h : i < length s) where
   digits_step n l u = rw (line_cons s i h (λ e. omega arith), digit (get_or s i 0) l u)
 
   -- No digit ends the number.
-  pub digits_stop : (n : ℕ) → (class_of (get_or s i 0) ≡ 0 → ⊥) → digits n (line_at s i) ≡ some n (line_at s i)
+  pub digits_stop : (n : ℕ) → is_digit (get_or s i 0) ≡ false → digits n (line_at s i) ≡ some n (line_at s i)
   unfolding digits
-  digits_stop n f = let (r, e) = line_starts s i h in rw (e, class_no_digit (get_or s i 0) f)
+  digits_stop n f = let (r, e) = line_starts s i h in rw (e, f)
 
   -- Where no digit stands, no number does.
-  pub number_no : (class_of (get_or s i 0) ≡ 0 → ⊥) → number (line_at s i) ≡ none
+  pub number_no : is_digit (get_or s i 0) ≡ false → number (line_at s i) ≡ none
   unfolding number
-  number_no f = let (r, e) = line_starts s i h in rw (e, class_no_digit (get_or s i 0) f)
+  number_no f = let (r, e) = line_starts s i h in rw (e, f)
 
   -- 0 is a number by itself.
   pub number_zero : get_or s i 0 ≡ 48 → number (line_at s i) ≡ some 0 (line_at s (i + 1))
@@ -109,7 +118,7 @@ pub record Reading (limit : ℕ) (s : List ℕ) (at v i : ℕ) : Type 0 where
 
 -- Where no digit follows, the number is read.
 pub stop_at : {limit : ℕ} {s : List ℕ} {at v i : ℕ} (r : Reading limit s at v i) → digits v (line_at s i) ≡ some v (line_at s i)
-    → NumberAt limit s at (At v i)
+    → NumberAt limit s at (Some (Some v, i))
 stop_at r e = (r.reads ∙ e, r.small, r.on)
 
 -- One more digit, with which the number stays below the limit.
@@ -120,7 +129,7 @@ one_digit {limit} {s} {at} {v} {i} r h l u e =
 
 -- A value over the limit stays over it, whatever digits follow.
 pub over_at : {limit : ℕ} {s : List ℕ} {at w i e : ℕ} → Onward s at i → number (line_at s at) ≡ digits w (line_at s i) → limit < w → DigitsTo s i e
-    → NumberAt limit s at (Over e)
+    → NumberAt limit s at (Some (None, e))
 over_at {w = w} on q h d = (
   d.value w,
   q ∙ d.reads w,
@@ -331,7 +340,7 @@ module _ {limit : ℕ} {s : List ℕ} {at : ℕ} {p row : List ℕ} {f : Shown} 
           let c : f.count ≡ 0 + length (map (capped limit) m.taken) = m.counted ∙ (sym (length-map m.taken (capped limit)) ∙ omega arith) in
           rw (m.stored, c, map_more (capped limit) m.taken n) (sets_more row (map (capped limit) m.taken) 0 (capped limit n))
 
-  pub capital_step : {g : Shown} {e : ℕ} {row'' : List ℕ} → j < length p → CapitalAt limit s i (get_or p j 0) row' row'' f (Fit g e)
+  pub capital_step : {g : Shown} {e : ℕ} {row'' : List ℕ} → j < length p → CapitalAt limit s i (get_or p j 0) row' row'' f (Some (g, e))
       → Matching limit s at p row g row'' e (j + 1)
   capital_step h (on, inl k) = kind_step h on k
   capital_step h (on, inr k) = number_step h on k
@@ -359,7 +368,7 @@ module _ {limit : ℕ} {s : List ℕ} {at : ℕ} {p row : List ℕ} {f : Shown} 
       go (b ∷ r) = refl
 
   -- Where it stands, the pattern matches, and the line ends there.
-  pub match_whole : length p ≤ j → i < length s → get_or s i 0 ≡ 10 → MatchAt limit s at p row row' (Fit f (i + 1))
+  pub match_whole : length p ≤ j → i < length s → get_or s i 0 ≡ 10 → MatchAt limit s at p row row' (Some (f, i + 1))
   match_whole h l e =
       record {
         numbers = m.taken;

@@ -10,7 +10,7 @@ use lib.ListN.{length, get_or, drop, length-drop, drop_of_length-le}
 use lib.Seq.{drop-cons, drop-drop}
 use lib.Dec.{eqb}
 use Rattle.text.specs.declared.Form.{Form}
-use Rattle.text.specs.declared.Read.{Read}
+use Rattle.std.specs.Prelude.{Option}
 use Rattle.text.specs.Text.{joined, lines, line_of, after_line, line_at, rest_at, line_end}
 use Rattle.text.specs.Patterns.{matched, item}
 use Rattle.text.specs.Grammar as grammar
@@ -107,7 +107,7 @@ found s i g e =
     }
 
 -- What reading at a place answers is so.
-pub read_means : (s : List ℕ) (i : ℕ) (r : Read) → r ≡ read_at s i → Means s i r
+pub read_means : (s : List ℕ) (i : ℕ) (r : Option (Form × ℕ)) → r ≡ read_at s i → Means s i r
 unfolding read_at
 read_means s i r e = subst (Means s i) (sym e) (go (line_form (line_at s i)) refl)
   where

@@ -10,7 +10,7 @@ use lib.ListN.{length, drop}
 use lib.Dec.{leb}
 use Rattle.text.specs.declared.Form.{Form}
 use Rattle.text.specs.declared.Form.TheVariants.{Task, Leaf, Call, Loop, If}
-use Rattle.text.specs.declared.Read.{Read}
+use Rattle.std.specs.Prelude.{Option}
 use Rattle.text.specs.Text.{lines, line_at, rest_at, line_end}
 use Rattle.text.specs.Patterns.{number, some, match, matched, capped}
 use Rattle.text.specs.Grammar.{form, line_form, read_at, Found, Means}
@@ -62,7 +62,7 @@ pub rest_end : (s : List ℕ) (i : ℕ) → rest_at s i ≡ drop (line_end s i) 
 rest_end = positions.rest_end
 
 -- What reading at a place answers is so: the line there is no form, or it is this form with its numbers held and the next line begins there.
-pub read_means : (s : List ℕ) (i : ℕ) (r : Read) → r ≡ read_at s i → Means s i r
+pub read_means : (s : List ℕ) (i : ℕ) (r : Option (Form × ℕ)) → r ≡ read_at s i → Means s i r
 read_means = positions.read_means
 
 -- A line that was read is the first of the lines from its place on, and the others begin where it ends.

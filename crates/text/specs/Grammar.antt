@@ -1,12 +1,9 @@
 -- The plan's own table of patterns, what a line of a plan is, and what reading one at a place answers (01, 'A plan, one form a line').
 -- Assumes nothing: these are definitions.
-use Rattle.std.specs.Prelude.{ℕ, ◌^◌, ◌<◌, ◌≤◌, ◌≡◌, List, Bool, false, length, get_or, drop}
+use Rattle.std.specs.Prelude.{ℕ, ◌^◌, ◌<◌, ◌≤◌, ◌≡◌, List, Bool, false, length, get_or, drop, Option, Some, None}
 use Prim.Native.String.{String}
 use Rattle.text.specs.declared.Form.{Form}
 use Rattle.text.specs.declared.Form.TheVariants.{Task, Fun, Then, Else, Close, Leaf, Call, Loop, If}
-use Rattle.text.specs.declared.Read.{Read}
-use Rattle.text.specs.declared.Read.TheVariants as answers
-use Rattle.text.specs.declared.Read.TheVariants.{Unread}
 use Rattle.text.specs.Text.{bytes, line_at, rest_at, line_end}
 use Rattle.text.specs.Patterns.{Match, miss, match, matched, capped}
 
@@ -62,12 +59,12 @@ cap_form (Loop k b c m) = Loop k (cap b) (cap c) (cap m)
 cap_form (If k c m) = If k (cap c) (cap m)
 
 -- What is answered of a line that ends before the place e.
-abbrev pub answered : ℕ → Line → Read
-answered e no_form = Unread
-answered e (form f) = answers.Line (cap_form f) e
+abbrev pub answered : ℕ → Line → Option (Form × ℕ)
+answered e no_form = None
+answered e (form f) = Some (cap_form f, e)
 
 -- What reading at a place answers: the form of the line there with its numbers held, and the place after the line.
-unfoldable pub read_at : List ℕ → ℕ → Read
+unfoldable pub read_at : List ℕ → ℕ → Option (Form × ℕ)
 read_at s i = answered (line_end s i) (line_form (line_at s i))
 
 -- The line at a place is the form f, held, and the next line begins at e.
@@ -80,6 +77,6 @@ pub record Found (s : List ℕ) (i : ℕ) (f : Form) (e : ℕ) : Type 0 where
   pub reads : line_form (line_at s i) ≡ form exact
 
 -- What an answer says of the line at a place.
-abbrev pub Means : List ℕ → ℕ → Read → Type 0
-Means s i Unread = line_form (line_at s i) ≡ no_form
-Means s i (answers.Line f e) = Found s i f e
+abbrev pub Means : List ℕ → ℕ → Option (Form × ℕ) → Type 0
+Means s i None = line_form (line_at s i) ≡ no_form
+Means s i (Some (f, e)) = Found s i f e

@@ -1,21 +1,21 @@
 -- Patterns, for any text: when a line fits a pattern, and which kind and numbers it then shows.
 -- Assumes nothing: these are definitions.
-use Rattle.std.specs.Prelude.{ℕ, ◌+◌, ◌-◌, ◌*◌, min, ◌≡◌, List, [], ◌∷◌, map, Bool, true, false, ◌&&◌, ◌||◌, cond as pick, length, eqb, leb, ltb}
+use Rattle.std.specs.Prelude.{ℕ, ◌+◌, ◌-◌, ◌*◌, min, ◌≡◌, List, [], ◌∷◌, map, Bool, true, false, ◌&&◌, ◌||◌, cond as pick, length, eqb, leb, ltb, Option, Some, None}
 use Rattle.std.proofs.lemmas.List.Edits.{sets}
 use Rattle.text.specs.declared.Shown.{Shown}
-use Rattle.text.specs.declared.Fitted.{Fitted}
-use Rattle.text.specs.declared.Fitted.TheVariants.{Misfit, Fit}
+use Rattle.text.specs.declared.Class.{Class}
+use Rattle.text.specs.declared.Class.TheVariants.{Digit, Small, Space, OpenBracket, CloseBracket, LineFeed, Other}
 use Rattle.text.specs.Text.{line_at, line_end}
 
--- The class of a byte (01): digit 0, small letter 1, space 2, open bracket 3, close bracket 4, line feed 5, other 6.
-abbrev pub class_of : ℕ → ℕ
+-- The class of a byte (01).
+abbrev pub class_of : ℕ → Class
 class_of b =
-    pick (leb 48 b && leb b 57) 0
-    (pick (leb 97 b && leb b 122) 1
-    (pick (eqb b 32) 2
-    (pick (eqb b 40) 3
-    (pick (eqb b 41) 4
-    (pick (eqb b 10) 5 6)))))
+    pick (leb 48 b && leb b 57) Digit
+    (pick (leb 97 b && leb b 122) Small
+    (pick (eqb b 32) Space
+    (pick (eqb b 40) OpenBracket
+    (pick (eqb b 41) CloseBracket
+    (pick (eqb b 10) LineFeed Other)))))
 
 -- 0 to 9
 abbrev pub is_digit : ℕ → Bool
@@ -110,6 +110,6 @@ pub record ShownAt (limit : ℕ) (s : List ℕ) (at : ℕ) (pattern row row' : L
   pub after : e ≡ line_end s at
 
 -- What an answer says of a pattern and the line at a place, and what the lent row then holds.
-abbrev pub MatchAt : ℕ → List ℕ → ℕ → List ℕ → List ℕ → List ℕ → Fitted → Type 0
-MatchAt limit s at pattern row row' Misfit = matched pattern false (line_at s at) ≡ miss
-MatchAt limit s at pattern row row' (Fit f e) = ShownAt limit s at pattern row row' f e
+abbrev pub MatchAt : ℕ → List ℕ → ℕ → List ℕ → List ℕ → List ℕ → Option (Shown × ℕ) → Type 0
+MatchAt limit s at pattern row row' None = matched pattern false (line_at s at) ≡ miss
+MatchAt limit s at pattern row row' (Some (f, e)) = ShownAt limit s at pattern row row' f e

@@ -5,6 +5,9 @@ use mathlib.Core.Logic.{◌↔◌}
 use mathlib.Core.Path.{◌≡◌, refl, sym, ap, ◌∙◌}
 use Prim.Native.Nat.{ℕ, ◌+◌, ◌-◌, ◌≤◌}
 use native.Mathlib.Omega.{arith}
+use Rattle.model.specs.declared.Refusal.{Refusal}
+use Rattle.model.specs.declared.Refusal.TheVariants.{Garbled}
+use Rattle.model.specs.Refusals.{number_of}
 use Rattle.model.specs.Places.{pick}
 use Rattle.model.specs.declared.Call.{Call}
 use Rattle.model.specs.declared.Call.TheVariants.{Release, Report, End}
@@ -15,8 +18,7 @@ use Rattle.model.specs.Histories.{Exchange, ◌gets◌}
 use Rattle.table.specs.Table.{Table}
 use Rattle.control.specs.declared.State.{State}
 use Rattle.print.specs.Lines.{answer_line}
-use Rattle.flight_log.specs.declared.Entry.{Entry}
-use Rattle.flight_log.specs.declared.Entry.TheVariants.{Said, Other}
+use Rattle.std.specs.Prelude.{Option, Some, None}
 use Rattle.flight_log.specs.Log.{entry_of, call_text, Small}
 use Rattle.flight_log.proofs.Theorems.{other_exactly}
 use Rattle.transcript.specs.Transcript.{reply_to, reading_of, is_go, gap, shared, suspended, after_call, ticks, after_end}
@@ -145,12 +147,12 @@ counted_step (ends e w l open_is onward) counts =
     (ap (λ (t : List ℕ). answer_line (Closed w l) ++ t) (gap_ticks k y onward), λ q. let z : ◌≡◌ {A = ℕ} 0 1 = cc in absurd (omega arith))
 
 -- The same of any line of a log.
-pub counted_line : (t : Table) (s : State) (xs : List Exchange) (n : ℕ) (e : Entry) → CountedOpen s xs n →
+pub counted_line : (t : Table) (s : State) (xs : List Exchange) (n : ℕ) (e : Option Call) → CountedOpen s xs n →
     (entry_told t s n e ≡ line_told t (record { state = s; accepted = xs }) e)
     × CountedOpen (next_progress t (record { state = s; accepted = xs }) e).state (next_progress t (record { state = s; accepted = xs }) e).accepted
     (entry_shared t s n e)
-counted_line t s xs n (Said c) counts = counted_step (effect t s c) counts
-counted_line t s xs n Other counts = (refl, counts)
+counted_line t s xs n (Some c) counts = counted_step (effect t s c) counts
+counted_line t s xs n None counts = (refl, counts)
 
 -- LINES OF A LOG
 
@@ -158,36 +160,36 @@ counted_line t s xs n Other counts = (refl, counts)
 abbrev progress : State → List Exchange → Progress
 progress s xs = record { state = s; accepted = xs }
 
-kept_progress : {s : State} {c : Call} {r : Reply State} → Effect s c r → (xs : List Exchange) (k : ℕ) → r.answer ≡ Refused k →
+kept_progress : {s : State} {c : Call} {r : Reply State} → Effect s c r → (xs : List Exchange) (k : Refusal) → r.answer ≡ Refused k →
     progress r.state (after_call xs c r.answer) ≡ progress s xs
 kept_progress (kept c n h) xs k q = refl
 kept_progress (opens w r m l x z o) xs k q = let z : ◌≡◌ {A = ℕ} 0 1 = cc in absurd (omega arith)
 kept_progress (goes i n w r m l x q h z o) xs k v = let z : ◌≡◌ {A = ℕ} 0 1 = cc in absurd (omega arith)
 kept_progress (ends n w l q h) xs k v = let z : ◌≡◌ {A = ℕ} 0 1 = cc in absurd (omega arith)
 
-pub refused_moves_nothing : (t : Table) (x : Progress) (e : Entry) (k : ℕ) → (reply_to t x.state e).answer ≡ Refused k → next_progress t x e ≡ x
-refused_moves_nothing t x (Said c) k q = kept_progress (effect t x.state c) x.accepted k q
-refused_moves_nothing t x Other k q = refl
+pub refused_moves_nothing : (t : Table) (x : Progress) (e : Option Call) (k : Refusal) → (reply_to t x.state e).answer ≡ Refused k → next_progress t x e ≡ x
+refused_moves_nothing t x (Some c) k q = kept_progress (effect t x.state c) x.accepted k q
+refused_moves_nothing t x None k q = refl
 
 -- A call is never refused by 18.
-below_18 : {s : State} {c : Call} {r : Reply State} → Effect s c r → r.answer ≡ Refused 18 → ⊥
-below_18 (kept c k h) e = let z : k ≡ 18 = cc in omega arith
-below_18 (opens w r m l x z o) e = let z : ◌≡◌ {A = ℕ} 0 1 = cc in omega arith
-below_18 (goes i n w r m l x q h z o) e = let z : ◌≡◌ {A = ℕ} 0 1 = cc in omega arith
-below_18 (ends n w l q h) e = let z : ◌≡◌ {A = ℕ} 0 1 = cc in omega arith
+below_garbled : {s : State} {c : Call} {r : Reply State} → Effect s c r → r.answer ≡ Refused Garbled → ⊥
+below_garbled (kept c k h) e = let z : number_of k ≡ 18 = ap number_of {y = Garbled} cc in omega arith
+below_garbled (opens w r m l x z o) e = let z : ◌≡◌ {A = ℕ} 0 1 = cc in omega arith
+below_garbled (goes i n w r m l x q h z o) e = let z : ◌≡◌ {A = ℕ} 0 1 = cc in omega arith
+below_garbled (ends n w l q h) e = let z : ◌≡◌ {A = ℕ} 0 1 = cc in omega arith
 
-garbled_other : (t : Table) (s : State) (e : Entry) → ((reply_to t s e).answer ≡ Refused 18) ↔ (e ≡ Other)
-garbled_other t s (Said c) = (λ h. absurd (below_18 (effect t s c) h), λ h. let z : ◌≡◌ {A = ℕ} 0 1 = cc in absurd (omega arith))
-garbled_other t s Other = (λ h. refl, λ h. refl)
+garbled_other : (t : Table) (s : State) (e : Option Call) → ((reply_to t s e).answer ≡ Refused Garbled) ↔ (e ≡ None)
+garbled_other t s (Some c) = (λ h. absurd (below_garbled (effect t s c) h), λ h. let z : ◌≡◌ {A = ℕ} 0 1 = cc in absurd (omega arith))
+garbled_other t s None = (λ h. refl, λ h. refl)
 
-pub garbled_exactly : (t : Table) (s : State) (l : List ℕ) → ((reply_to t s (entry_of l)).answer ≡ Refused 18) ↔ ((c : Call) → Small c → l ≡ call_text c → ⊥)
+pub garbled_exactly : (t : Table) (s : State) (l : List ℕ) → ((reply_to t s (entry_of l)).answer ≡ Refused Garbled) ↔ ((c : Call) → Small c → l ≡ call_text c → ⊥)
 garbled_exactly t s l = (
   λ h. (other_exactly l).0 ((garbled_other t s (entry_of l)).0 h),
   λ h. (garbled_other t s (entry_of l)).1 ((other_exactly l).1 h),
 )
 
 -- Behind any lines the accepted calls of an open release are counted.
-counted_after : (t : Table) (es : List Entry) (x : Progress) (n : ℕ) → CountedOpen x.state x.accepted n →
+counted_after : (t : Table) (es : List (Option Call)) (x : Progress) (n : ℕ) → CountedOpen x.state x.accepted n →
     (m : ℕ) × CountedOpen (progress_after t x es).state (progress_after t x es).accepted m
 unfolding progress_after
 counted_after t [] x n k = (n, k)
@@ -202,10 +204,10 @@ end_sum (ends e w l open_is onward) counts q = gap_sum (counts open_is) (End e g
 pub idle_counted : CountedOpen at_first.state at_first.accepted 0
 idle_counted q = let z : ◌≡◌ {A = ℕ} 0 1 = cc in absurd (omega arith)
 
-pub sum_is_end_reading : (t : Table) (es : List Entry) (e : ℕ) (w : Ending) (late : Bool) →
+pub sum_is_end_reading : (t : Table) (es : List (Option Call)) (e : ℕ) (w : Ending) (late : Bool) →
     let x = progress_after t at_first es in
-    let xs = (next_progress t x (Said (End e))).accepted in
-    (reply_to t x.state (Said (End e))).answer ≡ Closed w late → shared xs + suspended xs ≡ e
+    let xs = (next_progress t x (Some (End e))).accepted in
+    (reply_to t x.state (Some (End e))).answer ≡ Closed w late → shared xs + suspended xs ≡ e
 sum_is_end_reading t es e w late q =
     let x = progress_after t at_first es in
     let (n, k) = counted_after t es at_first 0 idle_counted in

@@ -7,6 +7,9 @@ use native.Mathlib.Omega.{arith}
 use lib.IntN.{ℤ}
 use lib.Dec.{leb, ltb}
 use borrow.Author.Tests.{ltb-false}
+use Rattle.model.specs.declared.Refusal.{Refusal}
+use Rattle.model.specs.declared.Refusal.TheVariants.{Broken, Busy, Unfit, Idle, Stranger, Backward, Astray}
+use Rattle.model.specs.Refusals.{number_of}
 use Rattle.model.specs.Plan.{C, Plan, all_leaves}
 use Rattle.model.specs.Forms.{main}
 use Rattle.model.specs.Total.{total}
@@ -40,7 +43,7 @@ doing false = Suspended
 -- A refused call keeps the state. After an accepted release or report one is open with its reading, and the others run exactly if the decision was go. The
 -- reading of an accepted report or end is not below the last one, and an end leaves a fresh state.
 pub data Effect (s : State) : Call → Reply State → Type 0 where
-  kept : (c : Call) (k : ℕ) → k ≤ 17 → Effect s c (refuse s k)
+  kept : (c : Call) (k : Refusal) → number_of k ≤ 17 → Effect s c (refuse s k)
   opens : (w : Word) (r : ℕ) (m : ℤ) (l : Bool) (x : State) → x.reading ≡ 0 → x.others ≡ doing (is_go (Decided w r m l)) →
       Effect s Release (replied x (Decided w r m l))
   goes : (n e : ℕ) (w : Word) (r : ℕ) (m : ℤ) (l : Bool) (x : State) → s.running ≡ true → s.reading ≤ e → x.reading ≡ e →
@@ -60,20 +63,20 @@ module _ (p : Plan) (s : State) where
   unfolding respond
   idle_effect Release = go (leb (total C (main p) + p.switch) p.deadline)
     where
-      go : (b : Bool) → Effect s Release (in_numbers p s (pick b (decided p at_release 0 Running) (refuse idle 13)))
+      go : (b : Bool) → Effect s Release (in_numbers p s (pick b (decided p at_release 0 Running) (refuse idle Unfit)))
       go true =
           let o = outlook p at_release in
           opens (word (holds p o 0) Running) o.remaining (margin p o 0) (late p 0)
           (state_at_release p 0 (others_by_word (word (holds p o 0) Running) Running)) refl
           (word_tells (holds p o 0) Running o.remaining (margin p o 0) (late p 0))
-      go false = kept Release 13 (omega arith)
-  idle_effect (Report n e) = kept (Report n e) 14 (omega arith)
-  idle_effect (End e) = kept (End e) 14 (omega arith)
+      go false = kept Release Unfit (omega arith)
+  idle_effect (Report n e) = kept (Report n e) Idle (omega arith)
+  idle_effect (End e) = kept (End e) Idle (omega arith)
 
   -- One is open, and the state stands at these levels.
   module _ (open_is : s.running ≡ true) (ls : Levels) where
     found_effect : (n e : ℕ) → s.reading ≤ e → (o : Option Levels) → Effect s (Report n e) (in_numbers p s (reached p (running_at s ls) n e s.others o))
-    found_effect n e h none = kept (Report n e) 17 (omega arith)
+    found_effect n e h none = kept (Report n e) Astray (omega arith)
     found_effect n e h (some ms) =
         let o = outlook p (at_report n ms) in
         goes n e (word (holds p o e) s.others) o.remaining (margin p o e) (late p e)
@@ -82,26 +85,26 @@ module _ (p : Plan) (s : State) where
 
     running_effect : (c : Call) → Effect s c (in_numbers p s (respond p (running_at s ls) c))
     unfolding respond
-    running_effect Release = kept Release 12 (omega arith)
+    running_effect Release = kept Release Busy (omega arith)
     running_effect (Report n e) = go (is_point (all_leaves p.functions) n) (ltb e s.reading) refl
       where
         go : (b d : Bool) → ltb e s.reading ≡ d → Effect s (Report n e) (in_numbers p s (pick b
-            (pick d (refuse (running_at s ls) 16) (reached p (running_at s ls) n e s.others (next_levels p (place_of s ls) n)))
-            (refuse (running_at s ls) 15)))
-        go false d h = kept (Report n e) 15 (omega arith)
-        go true true h = kept (Report n e) 16 (omega arith)
+            (pick d (refuse (running_at s ls) Backward) (reached p (running_at s ls) n e s.others (next_levels p (place_of s ls) n)))
+            (refuse (running_at s ls) Stranger)))
+        go false d h = kept (Report n e) Stranger (omega arith)
+        go true true h = kept (Report n e) Backward (omega arith)
         go true false h = found_effect n e (ltb-false e s.reading h) (next_levels p (place_of s ls) n)
     running_effect (End e) = go (ltb e s.reading) (can_close p (place_of s ls)) refl
       where
-        go : (d b : Bool) → ltb e s.reading ≡ d → Effect s (End e) (in_numbers p s (pick d (refuse (running_at s ls) 16)
-            (pick b (record { state = idle; answer = Closed (ending s.others) (late p e) }) (refuse (running_at s ls) 17))))
-        go true b h = kept (End e) 16 (omega arith)
+        go : (d b : Bool) → ltb e s.reading ≡ d → Effect s (End e) (in_numbers p s (pick d (refuse (running_at s ls) Backward)
+            (pick b (record { state = idle; answer = Closed (ending s.others) (late p e) }) (refuse (running_at s ls) Astray))))
+        go true b h = kept (End e) Backward (omega arith)
         go false true h = ends e (ending s.others) (late p e) open_is (ltb-false e s.reading h)
-        go false false h = kept (End e) 17 (omega arith)
+        go false false h = kept (End e) Astray (omega arith)
 
   -- By whether one is open, and whether the state stands anywhere.
   standing_effect : (c : Call) → s.running ≡ true → (o : Option Levels) → Effect s c (on_state p s c (found_at s o))
-  standing_effect c e none = kept c 11 (omega arith)
+  standing_effect c e none = kept c Broken (omega arith)
   standing_effect c e (some ls) = running_effect e ls c
 
   state_effect : (c : Call) (b : Bool) → s.running ≡ b → Effect s c (on_state p s c (read_state p s b))
@@ -114,5 +117,5 @@ unfolding call_on
 effect t s c = go (plan_of t)
   where
     go : (o : Option Plan) → Effect s c (on_plan s c o)
-    go none = kept c 11 (omega arith)
+    go none = kept c Broken (omega arith)
     go (some p) = state_effect p s c s.running refl

@@ -7,15 +7,17 @@ use native.Mathlib.Numerals.{add-one}
 use native.Mathlib.Omega.{arith}
 use lib.Dec.{eqb, leb}
 use borrow.Author.Tests.{leb-true, leb-false}
-use lib.ListN.{length, take, get_or}
+use lib.ListN.{length, take, get_or, length-take}
 use lib.Seq.{sets, take_all, take-suc}
 use Rattle.text.specs.Text.{line_of}
+use Rattle.model.specs.declared.Refusal.TheVariants.{Garbled}
 use Rattle.model.specs.declared.Answer.TheVariants.{Refused}
 use Rattle.table.specs.Table.{Table}
 use Rattle.print.specs.Lines.{answer_line}
 use Rattle.print.specs.Printed.{PrintedWithin}
 use Rattle.print.proofs.Laws.{joined, wider}
-use Rattle.flight_log.specs.declared.Entry.{Entry}
+use Rattle.model.specs.declared.Call.{Call}
+use Rattle.std.specs.Prelude.{Option}
 use Rattle.flight_log.specs.Log.{entry_of}
 use Rattle.transcript.specs.declared.Told.{Told}
 use Rattle.transcript.specs.declared.Replay.{Replay}
@@ -50,7 +52,7 @@ after_byte t c a b = after_join t c a (b ∷ []) ∙ (unfold piece_after in refl
 abbrev pub carried_at : List ℕ → ℕ → Told → Carried
 carried_at line held x = record { line = take held line; state = x.state; shared = x.shared }
 
--- The first i bytes of a piece were taken.
+-- The first i of the bytes used of a piece were taken.
 pub record Feeding (t : Table) (c : Carried) (piece old new line : List ℕ) (held : ℕ) (x : Told) (i : ℕ) : Type 0 where
   pub within : i ≤ length piece
   pub few : i ≤ 4096
@@ -100,7 +102,7 @@ module _ {t : Table} {c : Carried} {piece old new line more : List ℕ} {held n 
   }
 
   -- A line feed.
-  pub feeding_line : {e : Entry} {out : List ℕ} {y : Told} → eqb b 10 ≡ true → e ≡ entry_of (line_of (take n more)) → Tells new t x e out y →
+  pub feeding_line : {e : Option Call} {out : List ℕ} {y : Told} → eqb b 10 ≡ true → e ≡ entry_of (line_of (take n more)) → Tells new t x e out y →
       Feeding t c piece old out more 0 y (i + 1)
   feeding_line {e} {out} {y} q k r = record {
     within = omega arith;
@@ -131,11 +133,11 @@ used_all p most j e = by (leb (length p) most) refl
         let same : j ≡ most = omega arith in
         ap (λ n. take n p) same
 
-pub fed_all : {t : Table} {c : Carried} {piece old new line : List ℕ} {held : ℕ} {x : Told} {i : ℕ} → Feeding t c piece old new line held x i →
-    i ≡ min (length piece) 4096 →
+pub fed_all : {t : Table} {c : Carried} {piece old new line : List ℕ} {held : ℕ} {x : Told} {i m : ℕ} → Feeding t c (take m piece) old new line held x i →
+    m ≡ min (length piece) 4096 → m ≤ i →
     FedPiece old t c piece new (fed_of line held x)
-fed_all {t} {c} {piece} {i} f k =
-    let used : take i piece ≡ take 4096 piece = used_all piece 4096 i k in
+fed_all {t} {c} {piece} {i = i} {m = m} f k all =
+    let used : take i (take m piece) ≡ take 4096 piece = take_all i (take m piece) (omega (arith, length-take m piece)) ∙ used_all piece 4096 m k in
     record {
       told = rw used at (wider {more = 524288} (omega arith) f.printed);
       fits = omega (arith, f.printed.printed.after, f.printed.short);
@@ -146,13 +148,13 @@ fed_all {t} {c} {piece} {i} f k =
 
 -- A line that was begun is refused.
 pub closed_cut : (replay : Replay) {old new : List ℕ} {n : ℕ} → 1 ≤ length replay.line → 1 ≤ replay.held →
-    PrintedWithin 53 old 0 (answer_line (Refused 18)) new n → ClosedLog old (carried_of replay) new n
+    PrintedWithin 53 old 0 (answer_line (Refused Garbled)) new n → ClosedLog old (carried_of replay) new n
 closed_cut replay long begun p = record {
   told = rw (cut_is replay.line replay.held long begun) (wider (omega arith) p);
   fits = omega (arith, p.printed.after, p.short);
 }
   where
-    cut_is : (l : List ℕ) (held : ℕ) → 1 ≤ length l → 1 ≤ held → cut_told (take held l) ≡ answer_line (Refused 18)
+    cut_is : (l : List ℕ) (held : ℕ) → 1 ≤ length l → 1 ≤ held → cut_told (take held l) ≡ answer_line (Refused Garbled)
     cut_is [] held a h = absurd (omega arith)
     cut_is (b ∷ l) zero a h = absurd (omega arith)
     cut_is (b ∷ l) (suc held) a h = refl

@@ -6,6 +6,8 @@ use native.Mathlib.Omega.{arith}
 use lib.ListN.{length, take}
 use lib.Seq.{sets, take_all}
 use Rattle.text.specs.Text.{lines}
+use Rattle.model.specs.Refusals.{number_of}
+use Rattle.model.specs.declared.Refusal.{Refusal}
 use Rattle.model.specs.Plan.{Plan}
 use Rattle.model.specs.Acceptance.{sizes}
 use Rattle.model.specs.declared.Answer.{Answer}
@@ -15,7 +17,7 @@ use Rattle.rows.proofs.Records.{records_all_length}
 use Rattle.reader.specs.Outcome.{plan, refused}
 use Rattle.table.specs.declared.Head.{Head}
 use Rattle.table.specs.Table.{Table, table_of, table_at}
-use Rattle.table.specs.Reading.{verdict, verdict_of, stored}
+use Rattle.table.specs.Reading.{verdict, head_after, stored}
 use Rattle.table.proofs.Theorems.{read_as_plan}
 use Rattle.table.proofs.Written.{turns_size, tails_size, stretches_size}
 use Rattle.print.specs.Printed.{PrintedWithin}
@@ -23,7 +25,8 @@ use Rattle.print.specs.Lines.{answer_line, refused_plan_line}
 use Rattle.print.proofs.Laws.{all_of}
 use Rattle.print.proofs.OneLine.{lines_answer, lines_ticks}
 use Rattle.print.proofs.Theorems.{begins}
-use Rattle.flight_log.specs.declared.Entry.{Entry}
+use Rattle.model.specs.declared.Call.{Call}
+use Rattle.std.specs.Prelude.{Option}
 use Rattle.transcript.specs.Transcript.{reply_to, shared, suspended, ticks, after_end, Progress, next_progress, told, at_first}
 use Rattle.transcript.specs.Transcript.{transcript, replayed, replay}
 use Rattle.transcript.specs.Pieces.{Carried, begin, piece_told, piece_after, close_told, PrintedOf, ended, piece, whole_log}
@@ -87,18 +90,18 @@ pub printed_replay : (text : List ℕ) (p : Plan) → verdict 512 text ≡ plan 
     (row turns tails stretches : List ℕ) (h : Head) → length row ≡ 4096 → length turns ≡ 512 → length tails ≡ 512 → length stretches ≡ 512 →
     let v = verdict 512 text in
     let t = table_at (stored v (λ x. x.row) row) (stored v (λ x. x.turns) turns) (stored v (λ x. x.tails) tails)
-    (stored v (λ x. x.stretches) stretches) (verdict_of v h).head in
+    (stored v (λ x. x.stretches) stretches) (head_after v h) in
     (pieces : List (List ℕ)) (out : List ℕ) → PrintedOf t begin pieces out → out ≡ replay text (whole_log pieces)
 printed_replay text p e row turns tails stretches h a b c d ps out k =
     let few = ((read_as_plan 512 text p).0 e).1.formed.few_leaves in
     let t = table_at (stored (plan p) (λ x. x.row) row) (stored (plan p) (λ x. x.turns) turns) (stored (plan p) (λ x. x.tails) tails)
-    (stored (plan p) (λ x. x.stretches) stretches) (verdict_of (plan p) h).head in
+    (stored (plan p) (λ x. x.stretches) stretches) (head_after (plan p) h) in
     let q : PrintedOf t begin ps out = rw e at k in
     printed_transcript t ps out q ∙
     (ap (λ x. transcript x (whole_log ps)) (read_table p few row turns tails stretches a b c d) ∙
     sym (ap (λ o. replayed o (whole_log ps)) e))
 
-pub refused_replay : (text log : List ℕ) (k j : ℕ) → verdict 512 text ≡ refused k j → replay text log ≡ refused_plan_line k j
+pub refused_replay : (text log : List ℕ) (k : Refusal) (j : ℕ) → verdict 512 text ≡ refused k j → replay text log ≡ refused_plan_line (number_of k) j
 refused_replay text log k j e = ap (λ o. replayed o log) e
 
 -- ONE LINE FOR EACH ANSWER
@@ -117,7 +120,7 @@ end_lines (Closed e late) xs r =
     lines_ticks (shared xs) (suspended xs) (shared xs + suspended xs) r ∙ ap (λ (l : List (List ℕ)). l ++ lines r) (sym (ticks_line_is xs))
 
 -- The lines that are printed of one line of a log and those behind it.
-pub lines_told : (t : Table) (x : Progress) (e : Entry) (es : List Entry) →
+pub lines_told : (t : Table) (x : Progress) (e : Option Call) (es : List (Option Call)) →
     let a = (reply_to t x.state e).answer in
     let next = next_progress t x e in
     lines (told t x (e ∷ es)) ≡ answer_line a ∷ (lines (after_end a next.accepted) ++ lines (told t next es))

@@ -9,7 +9,7 @@ use Rattle.control.specs.declared.State.{State}
 use Rattle.control.specs.State.{fresh}
 use Rattle.control.specs.Calls.{call_on, controller_of}
 use Rattle.print.specs.Lines.{answer_line}
-use Rattle.flight_log.specs.declared.Entry.TheVariants.{Said}
+use Rattle.std.specs.Prelude.{Some}
 use Rattle.flight_log.specs.Log.{log_text, AllSmall}
 use Rattle.flight_log.proofs.Theorems.{entries_said}
 use Rattle.transcript.specs.Transcript.{after_call, after_end, told, at_first, transcript, answers_told}
@@ -19,7 +19,7 @@ abbrev calls_of : List Exchange → List Call
 calls_of xs = map (λ x. x.call) xs
 
 answered_told : (t : Table) (s : State) (accepted xs : List Exchange) → Answered (controller_of t) s xs →
-    told t (record { state = s; accepted = accepted }) (map Said (calls_of xs)) ≡ answers_told accepted xs
+    told t (record { state = s; accepted = accepted }) (map Some (calls_of xs)) ≡ answers_told accepted xs
 unfolding told answers_told Answered
 answered_told t s accepted [] h = refl
 answered_told t s accepted (x ∷ xs) (e, h) =

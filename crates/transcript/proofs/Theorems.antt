@@ -9,6 +9,9 @@ use mathlib.Core.Path.{◌≡◌}
 use Prim.Native.Nat.{ℕ, ◌+◌}
 use lib.ListN.{length}
 use Rattle.text.specs.Text.{bytes, lines}
+use Rattle.model.specs.Refusals.{number_of}
+use Rattle.model.specs.declared.Refusal.{Refusal}
+use Rattle.model.specs.declared.Refusal.TheVariants.{Broken, Garbled}
 use Rattle.model.specs.Places.{pick}
 use Rattle.model.specs.Plan.{Plan}
 use Rattle.model.specs.declared.Call.{Call}
@@ -21,14 +24,13 @@ use Rattle.reader.specs.Outcome.{plan, refused}
 use Rattle.reader.specs.Print.{print}
 use Rattle.table.specs.declared.Head.{Head}
 use Rattle.table.specs.Table.{Table, table_of, table_at}
-use Rattle.table.specs.Reading.{verdict, verdict_of, stored}
+use Rattle.table.specs.Reading.{verdict, head_after, stored}
 use Rattle.table.proofs.Theorems.{read_as_plan}
 use Rattle.control.specs.declared.State.{State}
 use Rattle.control.specs.State.{fresh}
 use Rattle.control.specs.Calls.{controller_of}
 use Rattle.print.specs.Lines.{answer_line, refused_plan_line}
-use Rattle.flight_log.specs.declared.Entry.{Entry}
-use Rattle.flight_log.specs.declared.Entry.TheVariants.{Said}
+use Rattle.std.specs.Prelude.{Option, Some}
 use Rattle.flight_log.specs.Log.{entry_of, call_text, Small, log_text, AllSmall}
 use Rattle.transcript.specs.Transcript.{reply_to, is_go, gap, shared, suspended, ticks, after_end, Progress, next_progress, progress_after}
 use Rattle.transcript.specs.Transcript.{told, at_first, transcript, replay, answers_told}
@@ -47,7 +49,7 @@ pub printed_is_replay : (text : List ℕ) (p : Plan) → verdict 512 text ≡ pl
     (row turns tails stretches : List ℕ) (h : Head) → length row ≡ 4096 → length turns ≡ 512 → length tails ≡ 512 → length stretches ≡ 512 →
     let v = verdict 512 text in
     let t = table_at (stored v (λ x. x.row) row) (stored v (λ x. x.turns) turns) (stored v (λ x. x.tails) tails)
-    (stored v (λ x. x.stretches) stretches) (verdict_of v h).head in
+    (stored v (λ x. x.stretches) stretches) (head_after v h) in
     (pieces : List (List ℕ)) (out : List ℕ) → PrintedOf t begin pieces out → out ≡ replay text (whole_log pieces)
 printed_is_replay = printing.printed_replay
 
@@ -56,7 +58,7 @@ pub printed_is_transcript : (t : Table) (pieces : List (List ℕ)) (out : List �
 printed_is_transcript = printing.printed_transcript
 
 -- The replay of any log on a refused plan is, by definition, the plan's refusal.
-pub refused_plan_replayed : (text log : List ℕ) (k j : ℕ) → verdict 512 text ≡ refused k j → replay text log ≡ refused_plan_line k j
+pub refused_plan_replayed : (text log : List ℕ) (k : Refusal) (j : ℕ) → verdict 512 text ≡ refused k j → replay text log ≡ refused_plan_line (number_of k) j
 refused_plan_replayed = printing.refused_replay
 
 -- Consider calls with numbers below 2^64 and their answers on a table, made one after the other from a fresh state. The replay of the log that says these
@@ -69,7 +71,7 @@ calls_replayed = said.calls_replayed
 
 -- Consider lines of a log, the first of them e. The lines printed are one for the answer to e, what stands after the answer of an accepted end, and those
 -- that are printed of the other lines.
-pub one_answer_each : (t : Table) (x : Progress) (e : Entry) (es : List Entry) →
+pub one_answer_each : (t : Table) (x : Progress) (e : Option Call) (es : List (Option Call)) →
     let a = (reply_to t x.state e).answer in
     let next = next_progress t x e in
     lines (told t x (e ∷ es)) ≡ answer_line a ∷ (lines (after_end a next.accepted) ++ lines (told t next es))
@@ -81,16 +83,16 @@ ticks_one_line = printing.ticks_line_is
 
 -- A line of a log is refused by 18 exactly when it is the text of no call with numbers below 2^64, whatever the table and the state; so no other check of the
 -- line comes before this one.
-pub garbled_exactly : (t : Table) (s : State) (l : List ℕ) → ((reply_to t s (entry_of l)).answer ≡ Refused 18) ↔ ((c : Call) → Small c → l ≡ call_text c → ⊥)
+pub garbled_exactly : (t : Table) (s : State) (l : List ℕ) → ((reply_to t s (entry_of l)).answer ≡ Refused Garbled) ↔ ((c : Call) → Small c → l ≡ call_text c → ⊥)
 garbled_exactly = counting.garbled_exactly
 
 -- A refused line moves nothing: neither the state nor the accepted calls, of which the ticks are.
-pub refused_moves_nothing : (t : Table) (x : Progress) (e : Entry) (k : ℕ) → (reply_to t x.state e).answer ≡ Refused k → next_progress t x e ≡ x
+pub refused_moves_nothing : (t : Table) (x : Progress) (e : Option Call) (k : Refusal) → (reply_to t x.state e).answer ≡ Refused k → next_progress t x e ≡ x
 refused_moves_nothing = counting.refused_moves_nothing
 
 -- 11 does not arise: on the table of a plan that was read no line of a log is refused by it.
-pub never_broken : (text : List ℕ) (p : Plan) → verdict 512 text ≡ plan p → (es : List Entry) (e : Entry) →
-    (reply_to (table_of p) (progress_after (table_of p) at_first es).state e).answer ≡ Refused 11 → ⊥
+pub never_broken : (text : List ℕ) (p : Plan) → verdict 512 text ≡ plan p → (es : List (Option Call)) (e : Option Call) →
+    (reply_to (table_of p) (progress_after (table_of p) at_first es).state e).answer ≡ Refused Broken → ⊥
 never_broken text p h = unbroken.never_broken p ((read_as_plan 512 text p).0 h).1
 
 -- TICKS
@@ -106,10 +108,10 @@ pub gap_counted : (xs : List Exchange) (x y : Exchange) →
 gap_counted = counting.gap_counted
 
 -- Consider any lines of a log, and behind them an end that is accepted. Its ticks shared and suspended together are its reading.
-pub sum_is_end_reading : (t : Table) (es : List Entry) (e : ℕ) (w : Ending) (late : Bool) →
+pub sum_is_end_reading : (t : Table) (es : List (Option Call)) (e : ℕ) (w : Ending) (late : Bool) →
     let x = progress_after t at_first es in
-    let xs = (next_progress t x (Said (End e))).accepted in
-    (reply_to t x.state (Said (End e))).answer ≡ Closed w late → shared xs + suspended xs ≡ e
+    let xs = (next_progress t x (Some (End e))).accepted in
+    (reply_to t x.state (Some (End e))).answer ≡ Closed w late → shared xs + suspended xs ≡ e
 sum_is_end_reading = counting.sum_is_end_reading
 
 -- PLAN A

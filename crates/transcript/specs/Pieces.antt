@@ -2,6 +2,7 @@
 -- Assumes nothing: these are definitions.
 use Rattle.std.specs.Prelude.{ℕ, ◌+◌, ◌-◌, ◌≤◌, ◌≡◌, List, [], ◌∷◌, ◌++◌, length, take, eqb}
 use Rattle.text.specs.Text.{line_of}
+use Rattle.model.specs.declared.Refusal.TheVariants.{Garbled}
 use Rattle.model.specs.Places.{pick}
 use Rattle.model.specs.declared.Call.{Call}
 use Rattle.model.specs.declared.Call.TheVariants.{Release, Report, End}
@@ -14,8 +15,7 @@ use Rattle.control.specs.declared.State.{State}
 use Rattle.control.specs.State.{fresh}
 use Rattle.print.specs.Lines.{answer_line, ticks_line}
 use Rattle.print.specs.Printed.{PrintedWithin}
-use Rattle.flight_log.specs.declared.Entry.{Entry}
-use Rattle.flight_log.specs.declared.Entry.TheVariants.{Said, Other}
+use Rattle.std.specs.Prelude.{Option, Some, None}
 use Rattle.flight_log.specs.Log.{entry_of}
 use Rattle.transcript.specs.declared.Replay.{Replay}
 use Rattle.transcript.specs.declared.Fed.{Fed}
@@ -62,18 +62,18 @@ ticks_after (Decided w r m late) e shared = []
 ticks_after (Closed w late) e shared = ticks_to e shared
 
 -- A line more, by its entry: what is printed of it, and what is carried on.
-abbrev pub entry_shared : Table → State → ℕ → Entry → ℕ
-entry_shared t s shared (Said c) = shared_after s c (reply_to t s (Said c)).answer shared
-entry_shared t s shared Other = shared
+abbrev pub entry_shared : Table → State → ℕ → Option Call → ℕ
+entry_shared t s shared (Some c) = shared_after s c (reply_to t s (Some c)).answer shared
+entry_shared t s shared None = shared
 
-abbrev pub entry_ticks : Table → State → ℕ → Entry → List ℕ
-entry_ticks t s shared (Said c) = ticks_after (reply_to t s (Said c)).answer (reading_of c) (entry_shared t s shared (Said c))
-entry_ticks t s shared Other = []
+abbrev pub entry_ticks : Table → State → ℕ → Option Call → List ℕ
+entry_ticks t s shared (Some c) = ticks_after (reply_to t s (Some c)).answer (reading_of c) (entry_shared t s shared (Some c))
+entry_ticks t s shared None = []
 
-abbrev pub entry_told : Table → State → ℕ → Entry → List ℕ
+abbrev pub entry_told : Table → State → ℕ → Option Call → List ℕ
 entry_told t s shared e = answer_line (reply_to t s e).answer ++ entry_ticks t s shared e
 
-abbrev pub entry_after : Table → State → ℕ → Entry → Carried
+abbrev pub entry_after : Table → State → ℕ → Option Call → Carried
 entry_after t s shared e = record { line = []; state = (reply_to t s e).state; shared = entry_shared t s shared e }
 
 -- A byte more of the line: 64 bytes of it are held, more than a line of the grammar has.
@@ -81,7 +81,7 @@ abbrev pub held_with : List ℕ → ℕ → List ℕ
 held_with l b = take 64 (l ++ (b ∷ []))
 
 -- A byte more: a line feed ends the line.
-abbrev pub ended_entry : Carried → ℕ → Entry
+abbrev pub ended_entry : Carried → ℕ → Option Call
 ended_entry c b = entry_of (line_of (held_with c.line b))
 
 abbrev pub byte_told : Table → Carried → ℕ → List ℕ
@@ -104,7 +104,7 @@ piece_after t c (b ∷ bs) = piece_after t (byte_after t c b) bs
 -- The end of the log: a line that was begun has no line feed, and is refused by 18.
 abbrev pub cut_told : List ℕ → List ℕ
 cut_told [] = []
-cut_told (b ∷ bs) = answer_line (Refused 18)
+cut_told (b ∷ bs) = answer_line (Refused Garbled)
 
 abbrev pub close_told : Carried → List ℕ
 close_told c = cut_told c.line

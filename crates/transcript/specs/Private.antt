@@ -2,7 +2,8 @@
 -- Assumes nothing: these are definitions.
 use Rattle.std.specs.Prelude.{ℕ, ◌≤◌, ◌≡◌, List, [], ◌∷◌, ◌++◌, length, take}
 use Rattle.table.specs.Table.{Table}
-use Rattle.flight_log.specs.declared.Entry.{Entry}
+use Rattle.model.specs.declared.Call.{Call}
+use Rattle.std.specs.Prelude.{Option}
 use Rattle.print.specs.Printed.{PrintedWithin}
 use Rattle.transcript.specs.declared.Told.{Told}
 use Rattle.transcript.specs.declared.Fed.{Fed}
@@ -16,7 +17,7 @@ pub record HeldLine (old : List ℕ) (held b : ℕ) (new : List ℕ) (more : ℕ
   pub few : more ≤ length old
 
 -- A line was answered: what is printed of it stands behind the others, and state and ticks moved on.
-pub record Tells (old : List ℕ) (t : Table) (x : Told) (e : Entry) (new : List ℕ) (r : Told) : Type 0 where
+pub record Tells (old : List ℕ) (t : Table) (x : Told) (e : Option Call) (new : List ℕ) (r : Told) : Type 0 where
   pub text_told : PrintedWithin 128 old x.next (entry_told t x.state x.shared e) new r.next
   pub state_is : r.state ≡ (reply_to t x.state e).state
   pub shared_is : r.shared ≡ entry_shared t x.state x.shared e

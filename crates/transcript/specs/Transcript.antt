@@ -1,6 +1,8 @@
 -- The replay of a flight log (02, L1), from the plan's text and the log's bytes alone: each line's answer, and after an accepted end the ticks of its release.
 -- Assumes nothing: these are definitions.
 use Rattle.std.specs.Prelude.{ℕ, ◌+◌, ◌-◌, Bool, true, false, List, [], ◌∷◌, ◌++◌}
+use Rattle.model.specs.declared.Refusal.TheVariants.{Garbled}
+use Rattle.model.specs.Refusals.{number_of}
 use Rattle.model.specs.Places.{pick}
 use Rattle.model.specs.declared.Call.{Call}
 use Rattle.model.specs.declared.Call.TheVariants.{Release, Report, End}
@@ -16,14 +18,13 @@ use Rattle.control.specs.declared.State.{State}
 use Rattle.control.specs.State.{fresh}
 use Rattle.control.specs.Calls.{call_on}
 use Rattle.print.specs.Lines.{answer_line, ticks_line, refused_plan_line}
-use Rattle.flight_log.specs.declared.Entry.{Entry}
-use Rattle.flight_log.specs.declared.Entry.TheVariants.{Said, Other}
+use Rattle.std.specs.Prelude.{Option, Some, None}
 use Rattle.flight_log.specs.Log.{entries}
 
 -- The reply to a line: 18 to one of another form, before all other checks of it; else that to the call which it says.
-abbrev pub reply_to : Table → State → Entry → Reply State
-reply_to t s (Said c) = call_on t s c
-reply_to t s Other = refuse s 18
+abbrev pub reply_to : Table → State → Option Call → Reply State
+reply_to t s (Some c) = call_on t s c
+reply_to t s None = refuse s Garbled
 
 -- TICKS SHARED AND SUSPENDED
 
@@ -69,9 +70,9 @@ after_call xs c (Refused n) = xs
 after_call xs c (Decided w r m late) = with_call xs c (Decided w r m late)
 after_call xs c (Closed e late) = with_call xs c (Closed e late)
 
-abbrev pub after_entry : List Exchange → Entry → Answer → List Exchange
-after_entry xs (Said c) a = after_call xs c a
-after_entry xs Other a = xs
+abbrev pub after_entry : List Exchange → Option Call → Answer → List Exchange
+after_entry xs (Some c) a = after_call xs c a
+after_entry xs None a = xs
 
 -- WHAT IS PRINTED
 
@@ -91,24 +92,24 @@ pub record Progress : Type 0 where
   pub accepted : List Exchange
 
 -- After one more line.
-abbrev pub next_progress : Table → Progress → Entry → Progress
+abbrev pub next_progress : Table → Progress → Option Call → Progress
 next_progress t x e =
     let r = reply_to t x.state e in
     record { state = r.state; accepted = after_entry x.accepted e r.answer }
 
 -- After some lines.
-unfoldable pub progress_after : Table → Progress → List Entry → Progress
+unfoldable pub progress_after : Table → Progress → List (Option Call) → Progress
 progress_after t x [] = x
 progress_after t x (e ∷ es) = progress_after t (next_progress t x e) es
 
 -- What is printed of one line: its answer, and after that of an accepted end the ticks.
-abbrev pub line_told : Table → Progress → Entry → List ℕ
+abbrev pub line_told : Table → Progress → Option Call → List ℕ
 line_told t x e =
     let a = (reply_to t x.state e).answer in
     answer_line a ++ after_end a (next_progress t x e).accepted
 
 -- What is printed of lines, one after the other.
-unfoldable pub told : Table → Progress → List Entry → List ℕ
+unfoldable pub told : Table → Progress → List (Option Call) → List ℕ
 told t x [] = []
 told t x (e ∷ es) = line_told t x e ++ told t (next_progress t x e) es
 
@@ -123,7 +124,7 @@ transcript t log = told t at_first (entries log)
 -- The replay of a log on the plan that a text is read as, in a row of 512 records; of a refused plan its refusal is printed, whatever the log.
 abbrev pub replayed : Outcome → List ℕ → List ℕ
 replayed (plan p) log = transcript (table_of p) log
-replayed (refused k j) log = refused_plan_line k j
+replayed (refused k j) log = refused_plan_line (number_of k) j
 
 abbrev pub replay : List ℕ → List ℕ → List ℕ
 replay text log = replayed (verdict 512 text) log

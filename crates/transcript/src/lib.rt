@@ -5,16 +5,15 @@ ghost use Rattle.std.specs.Prelude.{◌≡◌, ◌++◌};
 ghost use Rattle.table.specs.Table.{table_at, good};
 ghost use Rattle.print.specs.Printed.{PrintedWithin};
 ghost use Rattle.print.specs.Lines.{answer_line};
-ghost use Rattle.flight_log.specs.declared.Entry.TheVariants.{Said};
 ghost use Rattle.transcript.specs.Transcript.{reading_of};
 ghost use Rattle.transcript.specs.Pieces.{carried_of, begin, shared_to, shared_by, shared_after, ticks_to, ticks_after, FedPiece, ClosedLog};
 ghost use Rattle.transcript.specs.Private.{HeldLine, Tells, fed_of};
 
 use control::{State, checked_call, fresh};
-use flight_log::{Entry, read_entry};
-use model::{Answer, Call, Others};
+use flight_log::read_entry;
+use model::{Answer, Call, Others, Refusal};
 use print::{answer_line, ticks_line};
-use rows::{MAX_LEAVES, ROW, less};
+use rows::{MAX_LEAVES, ROW};
 use table::{Head, check};
 
 // What is carried from piece to piece: the first bytes of the line being read and how many they are, the controller's state, and the ticks shared since the
@@ -54,9 +53,6 @@ const PRINTED: usize = 128;
 // How many bytes the answers to a piece have room for: each line ends in a byte of the piece.
 pub const ANSWERS: usize = PIECE * PRINTED;
 
-// Refusal: a log line of another form.
-const GARBLED: u64 = 18;
-
 // Before the first byte of a log.
 pub fn start() -> Replay
     ensures { carried_of result ≡ begin }
@@ -75,9 +71,10 @@ fn hold(line: &mut [u8], held: usize, b: u8) -> usize
 {
     if held < line.len() {
         line[held] = b;
-        return held + 1;
+        held + 1
+    } else {
+        line.len()
     }
-    line.len()
 }
 
 // The reading of a call. That of a release is 0.
@@ -86,8 +83,7 @@ fn reading_of(call: Call) -> u64
 {
     match call {
         Call::Release => 0,
-        Call::Report(_, reading) => reading,
-        Call::End(reading) => reading,
+        Call::Report(_, reading) | Call::End(reading) => reading,
     }
 }
 
@@ -96,7 +92,7 @@ fn shared_to(others: Others, last: u64, reading: u64, shared: u64) -> u64
     ensures { result ≡ shared_to others last reading shared }
 {
     match others {
-        Others::Running => less(reading, less(last, shared)),
+        Others::Running => reading.saturating_sub(last.saturating_sub(shared)),
         Others::Suspended => shared,
     }
 }
@@ -105,12 +101,11 @@ fn shared_to(others: Others, last: u64, reading: u64, shared: u64) -> u64
 fn shared_by(state: State, call: Call, shared: u64) -> u64
     ensures { result ≡ shared_by state call shared }
 {
-    let others = state.others;
-    let last = state.reading;
     match call {
         Call::Release => 0,
-        Call::Report(_, reading) => shared_to(others, last, reading, shared),
-        Call::End(reading) => shared_to(others, last, reading, shared),
+        Call::Report(_, reading) | Call::End(reading) => {
+            shared_to(state.others, state.reading, reading, shared)
+        }
     }
 }
 
@@ -120,8 +115,7 @@ fn shared_after(state: State, call: Call, answer: Answer, shared: u64) -> u64
 {
     match answer {
         Answer::Refused(_) => shared,
-        Answer::Decided(_, _, _, _) => shared_by(state, call, shared),
-        Answer::Closed(_, _) => shared_by(state, call, shared),
+        Answer::Decided(_, _, _, _) | Answer::Closed(_, _) => shared_by(state, call, shared),
     }
 }
 
@@ -129,7 +123,7 @@ fn shared_after(state: State, call: Call, answer: Answer, shared: u64) -> u64
 fn put_ticks(out: &mut [u8; ANSWERS], at: usize, shared: u64, reading: u64) -> usize
     ensures { PrintedWithin 63 out.old at (ticks_to reading shared) out.new result }
 {
-    let suspended = less(reading, shared);
+    let suspended = reading.saturating_sub(shared);
     ticks_line(out, at, shared, suspended, shared + suspended)
 }
 
@@ -139,8 +133,7 @@ fn put_told(out: &mut [u8; ANSWERS], at: usize, answer: Answer, reading: u64, sh
 {
     let next = answer_line(out, at, answer);
     match answer {
-        Answer::Refused(_) => next,
-        Answer::Decided(_, _, _, _) => next,
+        Answer::Refused(_) | Answer::Decided(_, _, _, _) => next,
         Answer::Closed(_, _) => put_ticks(out, next, shared, reading),
     }
 }
@@ -159,17 +152,16 @@ fn tell_call(
 ) -> Told
     requires { checked ≡ good (table_at row.now turns.now tails.now stretches.now head) }
     ensures { Tells out.old (table_at row.now turns.now tails.now stretches.now head) told
-        (Said asked) out.new result }
+        (Some asked) out.new result }
 {
-    let state = told.state;
-    let step = checked_call(checked, row, turns, tails, stretches, head, state, asked);
-    let answer = step.answer;
-    let after = step.state;
-    let shared = shared_after(state, asked, answer, told.shared);
+    let step = checked_call(
+        checked, row, turns, tails, stretches, head, told.state, asked,
+    );
+    let shared = shared_after(told.state, asked, step.answer, told.shared);
     Told {
-        next: put_told(out, told.next, answer, reading_of(asked), shared),
-        state: after,
-        shared: shared,
+        next: put_told(out, told.next, step.answer, reading_of(asked), shared),
+        state: step.state,
+        shared,
     }
 }
 
@@ -183,25 +175,19 @@ fn tell(
     stretches: &[u64; MAX_LEAVES],
     head: Head,
     told: Told,
-    entry: Entry,
+    entry: Option<Call>,
 ) -> Told
     requires { checked ≡ good (table_at row.now turns.now tails.now stretches.now head) }
     ensures { Tells out.old (table_at row.now turns.now tails.now stretches.now head) told entry
         out.new result }
 {
     match entry {
-        Entry::Said(asked) => {
-            tell_call(
-                out, checked, row, turns, tails, stretches, head, told, asked,
-            )
-        }
-        Entry::Other => {
-            let state = told.state;
-            Told {
-                next: answer_line(out, told.next, Answer::Refused(GARBLED)),
-                state: state,
-                shared: told.shared,
-            }
+        Some(asked) => tell_call(
+            out, checked, row, turns, tails, stretches, head, told, asked,
+        ),
+        None => {
+            let next = answer_line(out, told.next, Answer::Refused(Refusal::Garbled));
+            Told { next, ..told }
         }
     }
 }
@@ -210,16 +196,14 @@ fn tell(
 fn handed_back(line: [u8; HELD], held: usize, told: Told) -> Fed
     ensures { result ≡ fed_of line held told }
 {
-    let state = told.state;
-    let carried = Replay {
-        line: line,
-        held: held,
-        state: state,
-        shared: told.shared,
-    };
     Fed {
         size: told.next,
-        replay: carried,
+        replay: Replay {
+            line,
+            held,
+            state: told.state,
+            shared: told.shared,
+        },
     }
 }
 
@@ -241,18 +225,12 @@ pub fn feed(
     let checked = check(row, turns, tails, stretches, head);
     let mut line = replay.line;
     let mut held = replay.held;
-    let before = replay.state;
     let mut told = Told {
         next: 0,
-        state: before,
+        state: replay.state,
         shared: replay.shared,
     };
-    let mut i = 0;
-    while i < piece.len() {
-        if i == PIECE {
-            break;
-        }
-        let b = piece[i];
+    for &b in &piece[..piece.len().min(PIECE)] {
         held = hold(&mut line, held, b);
         if b == b'\n' {
             let entry = read_entry(&line[..held]);
@@ -261,7 +239,6 @@ pub fn feed(
             );
             held = 0;
         }
-        i += 1;
     }
     handed_back(line, held, told)
 }
@@ -271,7 +248,8 @@ pub fn close(out: &mut [u8; ANSWERS], replay: Replay) -> usize
     ensures { ClosedLog out.old (carried_of replay) out.new result }
 {
     if replay.held == 0 {
-        return 0;
+        0
+    } else {
+        answer_line(out, 0, Answer::Refused(Refusal::Garbled))
     }
-    answer_line(out, 0, Answer::Refused(GARBLED))
 }

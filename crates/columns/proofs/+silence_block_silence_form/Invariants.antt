@@ -14,7 +14,7 @@ abbrev pub decreases-silence_form : goal.decreases-silence_form
 decreases-silence_form l = l.left + l.left
 
 abbrev pub invariant-silence_block-loop-i : goal.invariant-silence_block-loop-i
-invariant-silence_block-loop-i l = (p : Sized (cost_in l.column) l.row l.sums l.turn l.left l.from l.to 0) → SilenceSoFar (cost_in l.column) l.row l.sums l.turn l.left l.i l.to l.acc (λ s. line_silence (cost_in l.column) l.sums p.forms.part.lines s) (tally (cost_in l.column) l.sums p.forms.part.lines)
+invariant-silence_block-loop-i l = (p : Sized (cost_in l.cost) l.walk.row.now l.walk.sums.now l.walk.turn.now l.left l.from l.to 0) → SilenceSoFar (cost_in l.cost) l.walk.row.now l.walk.sums.now l.walk.turn.now l.left l.i l.to l.acc (λ s. line_silence (cost_in l.cost) l.walk.sums.now p.forms.part.lines s) (tally (cost_in l.cost) l.walk.sums.now p.forms.part.lines)
 
 abbrev pub decreases-silence_block-loop-i : goal.decreases-silence_block-loop-i
 decreases-silence_block-loop-i l = l.to - l.i

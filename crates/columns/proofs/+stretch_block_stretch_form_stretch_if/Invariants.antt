@@ -16,8 +16,5 @@ decreases-stretch_form l = l.left + l.left + l.left + 1
 abbrev pub decreases-stretch_if : goal.decreases-stretch_if
 decreases-stretch_if l = l.left + l.left + l.left
 
-abbrev pub invariant-stretch_block-loop-n : goal.invariant-stretch_block-loop-n
-invariant-stretch_block-loop-n l = (l.n ≤ l.initial.n) × Kept (l.from + l.n) l.initial.seq l.seq × ((p : Sized (cost_in l.column) l.row l.sums l.turn l.left l.from l.to l.s) → Back (stretch_rule (cost_in l.column) l.sums (λ f y. silence_of (head_at l.heads f) y)) l.row l.from p.forms.part.lines l.s l.n l.t l.out l.initial.out) × ((p : Sized (cost_in l.column) l.row l.sums l.turn l.left l.from l.to l.s) → l.follows ≡ follow_calls (cost_in l.column) l.sums (later l.n p.forms.part.lines) l.s l.initial.follows)
-
-abbrev pub decreases-stretch_block-loop-n : goal.decreases-stretch_block-loop-n
-decreases-stretch_block-loop-n l = l.n
+abbrev pub invariant-stretch_block-loop-k : goal.invariant-stretch_block-loop-k
+invariant-stretch_block-loop-k l = (l.k ≤ l.n) × Kept (l.from + l.k) l.initial.seq l.seq × ((p : Sized (cost_in l.cost) l.walk.row.now l.walk.sums.now l.walk.turn.now l.left l.from l.to l.s) → Back (stretch_rule (cost_in l.cost) l.walk.sums.now (λ f y. silence_of (head_at l.heads f) y)) l.walk.row.now l.from p.forms.part.lines l.s l.k l.t l.out l.initial.out) × ((p : Sized (cost_in l.cost) l.walk.row.now l.walk.sums.now l.walk.turn.now l.left l.from l.to l.s) → l.follows ≡ follow_calls (cost_in l.cost) l.walk.sums.now (later l.k p.forms.part.lines) l.s l.initial.follows)

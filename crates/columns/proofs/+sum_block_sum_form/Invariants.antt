@@ -15,7 +15,7 @@ abbrev pub decreases-sum_form : goal.decreases-sum_form
 decreases-sum_form l = l.left + l.left
 
 abbrev pub invariant-sum_block-loop-i : goal.invariant-sum_block-loop-i
-invariant-sum_block-loop-i l = (l.acc ≤ ceiling) × ((p : Piece l.row l.left l.from l.to) → Passed l.row (cost_in l.column) l.sums l.left l.i l.to l.acc (tally (cost_in l.column) l.sums p.part.lines) l.turn (sets l.initial.turn l.from (turns (cost_in l.column) l.sums p.part.lines)))
+invariant-sum_block-loop-i l = (l.acc ≤ ceiling) × ((p : Piece l.row l.left l.from l.to) → Passed l.row (cost_in l.cost) l.sums l.left l.i l.to l.acc (tally (cost_in l.cost) l.sums p.part.lines) l.turn (sets l.initial.turn l.from (turns (cost_in l.cost) l.sums p.part.lines)))
 
 abbrev pub decreases-sum_block-loop-i : goal.decreases-sum_block-loop-i
 decreases-sum_block-loop-i l = l.to - l.i

@@ -12,8 +12,5 @@ decreases-tail_block l = l.left + l.left + 1
 abbrev pub decreases-tail_form : goal.decreases-tail_form
 decreases-tail_form l = l.left + l.left
 
-abbrev pub invariant-tail_block-loop-n : goal.invariant-tail_block-loop-n
-invariant-tail_block-loop-n l = (l.n ≤ l.initial.n) × Kept (l.from + l.n) l.initial.seq l.seq × ((p : Sized C l.row l.sums l.turn l.left l.from l.to l.e) → Back (tail_rule l.sums) l.row l.from p.forms.part.lines l.e l.n l.t l.out l.initial.out)
-
-abbrev pub decreases-tail_block-loop-n : goal.decreases-tail_block-loop-n
-decreases-tail_block-loop-n l = l.n
+abbrev pub invariant-tail_block-loop-k : goal.invariant-tail_block-loop-k
+invariant-tail_block-loop-k l = (l.k ≤ l.n) × Kept (l.from + l.k) l.initial.seq l.seq × ((p : Sized C l.walk.row.now l.walk.sums.now l.walk.turn.now l.left l.from l.to l.e) → Back (tail_rule l.walk.sums.now) l.walk.row.now l.from p.forms.part.lines l.e l.k l.t l.out l.initial.out)

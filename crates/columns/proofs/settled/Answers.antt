@@ -1,17 +1,15 @@
 -- `columns::settled` meets its contract. Assumes nothing.
-use mathlib.Core.Path.{refl}
-use Rattle.columns.proofs.Fitting.{settled_on}
-use native.Mathlib.Omega.{arith}
+use lib.ListN.{take, drop}
+use mathlib.Core.Path.{◌≡◌}
+use Prim.Native.Nat.{◌-◌}
+use Rattle.std.proofs.Common.{rules, tests}
+use Rattle.std.proofs.lemmas.Iterator.{cases_from_all, YieldsList-from_slice}
+use Rattle.columns.proofs.Fitting.{settled_says}
 use Rattle.columns.proofs.settled.Goals as goal
 
-pub loop-f-init : goal.loop-f-init
-loop-f-init c = (omega arith, λ g a b. absurd (omega arith))
-
-pub returns-then-sums-f-ne0 : goal.returns-then-sums-f-ne0
-returns-then-sums-f-ne0 c = λ h. c.if-sums-f-ne0.true (h c.loop-f.f c.loop-f.invariant.0 (omega (arith, c.loop-f-test.true)))
-
-pub loop-f-preserved : goal.loop-f-preserved
-loop-f-preserved c = (omega (arith, c.loop-f.invariant.0), settled_on c.args.sums.now c.loop-f.invariant.1 (omega (arith, c.if-sums-f-ne0.false)) refl)
-
 pub returns : goal.returns
-returns c = λ g a b. c.loop-f.invariant.1 g a (omega (arith, c.loop-f-test.false, b))
+returns c =
+    let s = c.args in
+    let xs = take (16 - s.n) (drop s.n s.sums.now) in
+    settled_says s.sums.now s.n c.all.result c.told-sums c.requires
+    (cases_from_all _ _ _ (λ x. x ≡ 0) (λ x. x ≡ 0 → ⊥) c.all.ensures.ran (YieldsList-from_slice xs (search rules)) (λ x q k. search (rules, tests)) (λ x q k. search (rules, tests)))

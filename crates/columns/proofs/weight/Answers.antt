@@ -1,81 +1,55 @@
 -- `columns::weight` meets its contract. Assumes nothing.
 use Rattle.columns.proofs.Readiness.{loop_weight}
-use Rattle.columns.proofs.Sizes.{leaf_lead, call_lead}
+use Rattle.columns.proofs.Sizes.{leaf_lead, call_lead, call_target, not_call, not_loop}
 use Rattle.columns.specs.Sums.{cost_in}
 use Rattle.rows.proofs.Shape.{leaf_at, call_at, loop_at}
 use lib.ListN.{get_or}
 use Prim.Native.Nat.{ℕ}
-use mathlib.Core.Path.{◌≡◌, sym, ap, ◌∙◌}
+use mathlib.Core.Path.{refl, sym, ap, ◌∙◌}
 use native.Mathlib.Omega.{arith}
 use Rattle.columns.proofs.weight.Goals as goal
 
-pub returns-then-kind-eq-LEAF : goal.returns-then-kind-eq-LEAF
-returns-then-kind-eq-LEAF c =
-    let lt = c.requires.i_lt_to.0 in
-    let l = c.args.column in
-    let ts = c.args.sums.now in
-    let v = c.get-kind.ensures in
-    λ p. c.cost-c.ensures ∙ sym (leaf_lead (cost_in l) ts (leaf_at lt p.forms.part v c.if-kind-eq-LEAF.true))
+pub offset_bounds-walk-index : goal.offset_bounds-walk-index
+offset_bounds-walk-index c = omega (arith, call_target c.requires.i_lt_to.0 c.requires.ready.forms c.in-Call.ensures, c.index.ensures)
 
-pub offset_bounds-sums-f : goal.offset_bounds-sums-f
-offset_bounds-sums-f c =
-    let lt = c.requires.i_lt_to.0 in
-    let z = c.requires.ready in
-    let v = c.get-kind.ensures in
-    let h = call_at lt z.forms.part v c.if-kind-eq-CALL.true in
-    omega (arith, h.target, c.index-f.ensures)
-
-pub bounds-sums-f : goal.bounds-sums-f
-bounds-sums-f c =
-    let lt = c.requires.i_lt_to.0 in
-    let z = c.requires.ready in
-    let v = c.get-kind.ensures in
-    let h = call_at lt z.forms.part v c.if-kind-eq-CALL.true in
-    omega (arith, h.target, c.index-f.ensures)
+pub bounds-walk-index : goal.bounds-walk-index
+bounds-walk-index c = omega (arith, call_target c.requires.i_lt_to.0 c.requires.ready.forms c.in-Call.ensures, c.index.ensures)
 
 pub overflow_add-result : goal.overflow_add-result
 overflow_add-result c =
     let lt = c.requires.i_lt_to.0 in
     let z = c.requires.ready in
-    let l = c.args.column in
-    let ts = c.args.sums.now in
-    let v = c.get-kind.ensures in
-    let h = call_at lt z.forms.part v c.if-kind-eq-CALL.true in
-    let g = ap (λ (y : ℕ). get_or ts y 0) c.index-f.ensures in
-    omega (arith, g, c.cost-c.ensures, call_lead (cost_in l) ts h, z.small)
+    let ts = c.args.walk.now.sums.now in
+    let g = ap (λ (y : ℕ). get_or ts y 0) c.index.ensures in
+    omega (arith, g, c.of-c.ensures, call_lead (cost_in c.args.cost) ts (call_at lt z.forms.part refl c.in-Call.ensures), z.small)
 
-pub returns-then-kind-eq-CALL : goal.returns-then-kind-eq-CALL
-returns-then-kind-eq-CALL c =
+pub returns-in-Call : goal.returns-in-Call
+returns-in-Call c =
     let lt = c.requires.i_lt_to.0 in
-    let l = c.args.column in
-    let ts = c.args.sums.now in
-    let v = c.get-kind.ensures in
-    let g = ap (λ (y : ℕ). get_or ts y 0) c.index-f.ensures in
-    λ p. let h = call_at lt p.forms.part v c.if-kind-eq-CALL.true in
-    omega (arith, g, c.cost-c.ensures, call_lead (cost_in l) ts h)
+    let ts = c.args.walk.now.sums.now in
+    let g = ap (λ (y : ℕ). get_or ts y 0) c.index.ensures in
+    λ p. omega (arith, g, c.of-c.ensures, call_lead (cost_in c.args.cost) ts (call_at lt p.forms.part refl c.in-Call.ensures))
 
 pub overflow_mul-result : goal.overflow_mul-result
 overflow_mul-result c =
     let lt = c.requires.i_lt_to.0 in
     let z = c.requires.ready in
-    let v = c.get-kind.ensures in
-    let v2 : c.get-kind.result ≡ 2 = omega (arith, v, c.if-kind-eq-LEAF.false, c.if-kind-eq-CALL.false, c.requires.i_lt_to.3) in
-    let h = loop_at lt z.forms.part v v2 in
-    omega (arith, loop_weight lt z h c.cost-c.ensures c.get.ensures, z.small)
+    omega (arith, loop_weight lt z (loop_at lt z.forms.part refl c.in-Loop.ensures) c.of-c.ensures c.get.ensures, z.small)
 
-pub overflow_add-result-2 : goal.overflow_add-result-2
-overflow_add-result-2 c =
+pub overflow_add-result-in-Loop : goal.overflow_add-result-in-Loop
+overflow_add-result-in-Loop c =
     let lt = c.requires.i_lt_to.0 in
     let z = c.requires.ready in
-    let v = c.get-kind.ensures in
-    let v2 : c.get-kind.result ≡ 2 = omega (arith, v, c.if-kind-eq-LEAF.false, c.if-kind-eq-CALL.false, c.requires.i_lt_to.3) in
-    let h = loop_at lt z.forms.part v v2 in
-    omega (arith, loop_weight lt z h c.cost-c.ensures c.get.ensures, z.small)
+    omega (arith, loop_weight lt z (loop_at lt z.forms.part refl c.in-Loop.ensures) c.of-c.ensures c.get.ensures, z.small)
 
-pub returns : goal.returns
-returns c =
+pub returns-in-Loop : goal.returns-in-Loop
+returns-in-Loop c =
     let lt = c.requires.i_lt_to.0 in
-    let v = c.get-kind.ensures in
-    λ p. let v2 : c.get-kind.result ≡ 2 = omega (arith, v, c.if-kind-eq-LEAF.false, c.if-kind-eq-CALL.false, c.requires.i_lt_to.3) in
-    let h = loop_at lt p.forms.part v v2 in
-    loop_weight lt p h c.cost-c.ensures c.get.ensures
+    λ p. loop_weight lt p (loop_at lt p.forms.part refl c.in-Loop.ensures) c.of-c.ensures c.get.ensures
+
+pub returns-in_default : goal.returns-in_default
+returns-in_default c =
+    let r = c.requires.i_lt_to in
+    let k = c.form_kind in
+    let d = c.in_default in
+    λ p. c.of-c.ensures ∙ sym (leaf_lead (cost_in c.args.cost) c.args.walk.now.sums.now (leaf_at r.0 p.forms.part refl (omega (arith, not_call k.result k.ensures d.not-Call, not_loop k.result k.ensures d.not-Loop, r.1))))

@@ -16,8 +16,8 @@ next_times-times-requires c =
 pub slice_bounds-last_point-end : goal.slice_bounds-last_point-end
 slice_bounds-last_point-end c = sym (bounds_17 c.requires.lent.rowed)
 
-pub last_point-last-requires : goal.last_point-last-requires
-last_point-last-requires c =
+pub last_point-requires : goal.last_point-requires
+last_point-requires c =
     let k = c.requires in record {
       le_level = (k.new.least, k.new.most);
       decoded = decoded_here k;
@@ -31,4 +31,4 @@ returns c =
     let visits-33 : length c.args.place.earlier ≡ 33 = search rules in
     let times-33 : length c.next_times-times.result ≡ 33 = search rules in
     λ k. arrived_here k place-33 visits-33 leaves_33 earlier_33 c.next_times-times.result c.args.reading
-    (new_times k c.next_times-times.result times-33 c.next_times-times.ensures) c.last_point-last.ensures c.weigh-w.result (c.weigh-w.ensures k.lent.rowed.head)
+    (new_times k c.next_times-times.result times-33 c.next_times-times.ensures) c.last_point.ensures c.weigh-weighing.result (c.weigh-weighing.ensures k.lent.rowed.head)

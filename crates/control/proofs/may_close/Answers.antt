@@ -18,7 +18,7 @@ returns-then-state-eq0 c = λ q ls k. first_closes q c.args.state c.if-state-eq0
 pub can_end-requires : goal.can_end-requires
 can_end-requires c =
     let o = c.requires in
-    let z = c.spot_of-place.ensures in
+    let z = c.from.ensures in
     let one : 1 ≤ c.args.state.level = omega (arith, c.if-state-eq0.false) in
     let few = stands_few o.rowed.head.plan o.rowed.head.accepted c.args.state o.stands.0 o.stands.1 in
     let e = ap (λ (x : Place). x.level) z in record {
@@ -26,7 +26,7 @@ can_end-requires c =
       decoded = spot_decoded o.rowed c.args.state z one o.stands.0 o.stands.1;
     }
 
-pub returns : goal.returns
-returns c =
+pub returns-else-state-eq0 : goal.returns-else-state-eq0
+returns-else-state-eq0 c =
     λ q ls k.
-    later_closes q c.args.state (omega (arith, c.if-state-eq0.false)) c.spot_of-place.ensures c.can_end.result c.can_end.ensures ls k
+    later_closes q c.args.state (omega (arith, c.if-state-eq0.false)) c.from.ensures c.can_end.result c.can_end.ensures ls k

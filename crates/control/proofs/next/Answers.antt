@@ -24,7 +24,7 @@ pub next_place-requires : goal.next_place-requires
 next_place-requires c =
     let o = c.requires.good_on_row in
     let p = o.rowed.head.plan in
-    let z = c.spot_of-place.ensures in
+    let z = c.from-place.ensures in
     let one : 1 ≤ c.args.state.level = omega (arith, c.if-state-eq0.false) in
     let few = stands_few p o.rowed.head.accepted c.args.state o.stands.0 o.stands.1 in
     let e = ap (λ (x : Place). x.level) z in record {
@@ -36,4 +36,4 @@ next_place-requires c =
 pub returns : goal.returns
 returns c =
     λ q ls k.
-    later_found q c.args.state c.args.x c.next_place.result (omega (arith, c.if-state-eq0.false)) c.spot_of-place.ensures c.next_place.ensures ls k
+    later_found q c.args.state c.args.x c.next_place.result (omega (arith, c.if-state-eq0.false)) c.from-place.ensures c.next_place.ensures ls k

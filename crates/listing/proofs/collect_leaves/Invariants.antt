@@ -1,11 +1,7 @@
 -- `listing::collect_leaves` meets its contract. The loop's invariant: what is listed of the leaves passed is stored, at most one point for each.
 -- Assumes nothing.
-use Prim.Native.Nat.{◌-◌, ◌≤◌}
 use Rattle.listing.proofs.Numbers.{First}
 use Rattle.listing.proofs.collect_leaves.Given as goal
 
 abbrev pub invariant-loop-i : goal.invariant-loop-i
-invariant-loop-i l = (l.i ≤ l.n) × First l.row l.tails l.stretches l.initial.points l.i l.points l.count
-
-abbrev pub decreases-loop-i : goal.decreases-loop-i
-decreases-loop-i l = l.n - l.i
+invariant-loop-i l = First l.row l.tails l.stretches l.initial.points l.i l.points l.count

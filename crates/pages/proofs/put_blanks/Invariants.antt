@@ -1,11 +1,7 @@
--- `pages::put_blanks` meets its contract. The loop's invariant: as many blanks are written as were passed. Assumes nothing.
-use Prim.Native.Nat.{◌-◌, ◌≤◌}
-use lib.ListN.{replicate}
+-- `pages::put_blanks`: as many blanks are written as were passed. Assumes nothing.
+use Rattle.std.proofs.Common.{replicate}
 use Rattle.print.specs.Printed.{Printed}
 use Rattle.pages.proofs.put_blanks.Given as goal
 
 abbrev pub invariant-loop-i : goal.invariant-loop-i
-invariant-loop-i l = (l.i ≤ l.count) × Printed l.initial.out l.at (replicate l.i 32) l.out l.end
-
-abbrev pub decreases-loop-i : goal.decreases-loop-i
-decreases-loop-i l = l.count - l.i
+invariant-loop-i l = Printed l.initial.out l.at (replicate l._i 32) l.out l.end

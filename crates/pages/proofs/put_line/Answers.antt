@@ -1,29 +1,22 @@
--- `pages::put_line` meets its contract. The loop's invariant: the numbers passed are written in their fields, and what is left of the line is that of the
--- other numbers. Assumes nothing.
-use native.Mathlib.Omega.{arith}
-use Rattle.print.proofs.Laws.{same_size}
-use Rattle.pages.specs.Sheet.{sheet_line}
+-- `pages::put_line` meets its contract: each width goes with its number. Assumes nothing.
+use Rattle.std.proofs.Common.{arith, rules}
+use Rattle.std.proofs.lemmas.List.{length_push}
+use Rattle.std.proofs.lemmas.Slice.Zip.{zip_turn, zip_end}
 use Rattle.pages.proofs.Lines.{line_begun, begun_more, line_ended}
 use Rattle.pages.proofs.put_line.Goals as goal
 
-pub loop-i-init : goal.loop-i-init
-loop-i-init c =
-    let s = c.args in
-    (omega arith, line_begun s.widths.now s.numbers.now s.out.now s.at)
+pub loop-width-init : goal.loop-width-init
+loop-width-init c = line_begun c.args.widths.now c.args.numbers.now c.args.out.now c.args.at
 
-pub loop-i-smaller : goal.loop-i-smaller
-loop-i-smaller c = omega arith
-
-pub loop-i-preserved : goal.loop-i-preserved
-loop-i-preserved c =
-    let l = c.loop-i in
-    let h = c.loop-i-test.true in
-    (omega (arith, h), rw c.less-left.ensures (begun_more (omega (arith, h)) h l.invariant.1 c.put_aligned-end.ensures))
+pub loop-width-preserved : goal.loop-width-preserved
+loop-width-preserved c =
+    let turn = zip_turn c.args.widths.now c.args.numbers.now c.loop-width.yielded c.into_iter-width-iterator.result c.loop-width.width-iterator c.next.new.self
+    c.next.result (search rules) (search rules) c.loop-width.yielded_by (c.in-Some.width, c.in-Some.n) c.in-Some.is c.next.ensures.steps in
+    rw (length_push c.loop-width.yielded (c.in-Some.width, c.in-Some.n), c.saturating_sub-left.ensures, turn.2 0)
+    (begun_more turn.0 turn.1 c.loop-width.invariant (rw (turn.2 0, turn.3 0) at c.put_aligned-end.ensures))
 
 pub returns : goal.returns
-returns c = line_ended (omega (arith, c.loop-i-test.false)) c.loop-i.invariant.1 c.put_blanks-last.ensures c.put_bytes.ensures
-
-pub shape_of-out : goal.shape_of-out
-shape_of-out c =
-    let s = c.args in
-    same_size s.out.now s.at (sheet_line s.widths.now s.numbers.now) (line_ended (omega (arith, c.loop-i-test.false)) c.loop-i.invariant.1 c.put_blanks-last.ensures c.put_bytes.ensures).stored
+returns c =
+    let all = zip_end c.args.widths.now c.args.numbers.now c.loop-width.yielded c.into_iter-width-iterator.result c.loop-width.width-iterator c.next.new.self
+    c.next.result (search rules) (search rules) c.loop-width.yielded_by c.in-None.is c.next.ensures.steps in
+    line_ended (omega (arith, all)) c.loop-width.invariant c.put_blanks-last.ensures c.put_bytes.ensures

@@ -1,50 +1,61 @@
-use Rattle.rows.proofs.Answers.{said_true, said_false}
-use Rattle.place.proofs.Ending.{main_spanned}
-use Rattle.place.proofs.Holding.{held_none, held_down, says_first, held_enters, head_room, head_open, open_plan, says_up}
+use Rattle.place.proofs.Holding.{held_none, held_down, held_enters, head_room, head_open, level_plan, says_level}
+use Rattle.place.specs.Private.{Enters}
+use lib.ListN.{get_or}
+use Prim.Native.Nat.{◌-◌, ◌≤◌}
 use mathlib.Core.Path.{refl}
 use native.Mathlib.Omega.{arith}
+use Rattle.place.proofs.+holds.Goals.{else-l-gt1-via-then-l-gt1+else-not-enters, else-l-gt1-via-else-l-gt1}
 use Rattle.place.proofs.+holds.Goals as goal
 
 pub returns-then-l-eq0 : goal.returns-then-l-eq0
 returns-then-l-eq0 t c = λ p. held_none _ _ _ _ _ c.if-l-eq0.true
 
 pub returns-then-not-holds : goal.returns-then-not-holds
-returns-then-not-holds t c = λ p k. said_false c.holds.result c.if-not-holds.true (c.holds.ensures p) (held_down p (omega arith) k)
-
-pub overflow_sub-n : goal.overflow_sub-n
-overflow_sub-n t c = omega (arith, c.requires.function_table.count)
-
-pub entry-from-requires : goal.entry-from-requires
-entry-from-requires t c = omega (arith, c.requires.function_table.fits)
-
-pub entry-to-requires : goal.entry-to-requires
-entry-to-requires t c = omega (arith, c.requires.function_table.fits)
-
-pub settled-requires : goal.settled-requires
-settled-requires t c =
-    let sp = main_spanned c.requires.function_table c.entry-from.ensures c.entry-to.ensures in record {
-      to_in_bounds = sp.room;
-      piece = sp.piece;
-    }
-
-pub returns-then-l-eq1 : goal.returns-then-l-eq1
-returns-then-l-eq1 t c = λ p. says_first p (omega (arith, c.if-l-eq0.false)) c.settled.result c.if-l-eq1.true c.entry-from.ensures c.entry-to.ensures (said_true c.holds.result c.if-not-holds.false (c.holds.ensures p)) c.leaf_at-here.ensures refl c.settled.ensures
+returns-then-not-holds t c = λ p k. c.if-not-holds.ensures p (held_down p (omega arith) k)
 
 pub enters-requires : goal.enters-requires
-enters-requires t c = let p = c.requires.function_table in head_room p (omega (arith, c.if-l-eq0.false, c.if-l-eq1.false)) (said_true c.holds.result c.if-not-holds.false (c.holds.ensures p)) c.leaf_at-head.ensures
+enters-requires t c = let p = c.requires.function_table in head_room p (omega arith) (c.if-not-holds.ensures p) refl
 
 pub returns-then-not-enters : goal.returns-then-not-enters
-returns-then-not-enters t c = λ p k. said_false c.enters.result c.if-not-enters.true c.enters.ensures (rw c.leaf_at-head.ensures (held_enters p (omega (arith, c.if-l-eq0.false, c.if-l-eq1.false)) k))
+returns-then-not-enters t c = λ p k. c.if-not-enters.ensures (held_enters p (omega arith) k)
 
-pub opening-s-requires : goal.opening-s-requires
-opening-s-requires t c = let p = c.requires.function_table in head_open p (omega (arith, c.if-l-eq0.false, c.if-l-eq1.false)) (said_true c.holds.result c.if-not-holds.false (c.holds.ensures p)) c.leaf_at-head.ensures refl (said_true c.enters.result c.if-not-enters.false c.enters.ensures)
+pub span-level-requires-clause-enterable : goal.span-level-requires-clause-enterable
+span-level-requires-clause-enterable t c =
+    let p = c.requires.function_table in
+    λ two.
+    elim c.else-l-gt1.branch [
+      | else-l-gt1-via-then-l-gt1+else-not-enters w ↦ head_open p two (c.if-not-holds.ensures p) refl refl w.if-not-enters.ensures
+      | else-l-gt1-via-else-l-gt1 w ↦ absurd (omega (arith, two, w.if-l-gt1.false))
+    ]
 
-pub settled-requires-2 : goal.settled-requires-2
-settled-requires-2 t c =
-    let p = c.requires.function_table in let both = open_plan p (omega (arith, c.if-l-eq0.false, c.if-l-eq1.false)) (said_true c.holds.result c.if-not-holds.false (c.holds.ensures p)) c.leaf_at-head.ensures refl (said_true c.enters.result c.if-not-enters.false c.enters.ensures) c.opening-s.ensures.0 c.opening-s.ensures.1 in record {
-      to_in_bounds = both.0;
-      piece = both.1;
-    }
+pub settled-requires-clause-to_in_bounds : goal.settled-requires-clause-to_in_bounds
+settled-requires-clause-to_in_bounds t c =
+    let p = c.requires.function_table in
+    let en : 2 ≤ c.args.l → Enters c.args.row.now (get_or c.args.leaves.now (c.args.l - 1) 0) (get_or c.args.earlier.now (c.args.l - 1) 0) =
+    λ two.
+    elim c.else-l-gt1.branch [
+      | else-l-gt1-via-then-l-gt1+else-not-enters w ↦ w.if-not-enters.ensures
+      | else-l-gt1-via-else-l-gt1 w ↦ absurd (omega (arith, two, w.if-l-gt1.false))
+    ] in
+    (level_plan p (omega (arith, c.if-l-eq0.false)) (c.if-not-holds.ensures p) en c.span-level.ensures.0 c.span-level.ensures.1).0
+
+pub settled-requires-clause-piece : goal.settled-requires-clause-piece
+settled-requires-clause-piece t c =
+    let p = c.requires.function_table in
+    let en : 2 ≤ c.args.l → Enters c.args.row.now (get_or c.args.leaves.now (c.args.l - 1) 0) (get_or c.args.earlier.now (c.args.l - 1) 0) =
+    λ two.
+    elim c.else-l-gt1.branch [
+      | else-l-gt1-via-then-l-gt1+else-not-enters w ↦ w.if-not-enters.ensures
+      | else-l-gt1-via-else-l-gt1 w ↦ absurd (omega (arith, two, w.if-l-gt1.false))
+    ] in
+    (level_plan p (omega (arith, c.if-l-eq0.false)) (c.if-not-holds.ensures p) en c.span-level.ensures.0 c.span-level.ensures.1).1
 
 pub returns : goal.returns
-returns t c = λ p. says_up p (omega (arith, c.if-l-eq0.false, c.if-l-eq1.false)) c.settled-2.result c.leaf_at-head.ensures refl (said_true c.enters.result c.if-not-enters.false c.enters.ensures) c.opening-s.ensures.0 c.opening-s.ensures.1 (said_true c.holds.result c.if-not-holds.false (c.holds.ensures p)) c.leaf_at-here.ensures refl c.settled-2.ensures
+returns t c =
+    let en : 2 ≤ c.args.l → Enters c.args.row.now (get_or c.args.leaves.now (c.args.l - 1) 0) (get_or c.args.earlier.now (c.args.l - 1) 0) =
+    λ two.
+    elim c.else-l-gt1.branch [
+      | else-l-gt1-via-then-l-gt1+else-not-enters w ↦ w.if-not-enters.ensures
+      | else-l-gt1-via-else-l-gt1 w ↦ absurd (omega (arith, two, w.if-l-gt1.false))
+    ] in
+    λ p. says_level p (omega (arith, c.if-l-eq0.false)) (c.if-not-holds.ensures p) en c.span-level.ensures.0 c.span-level.ensures.1 c.settled.result c.settled.ensures

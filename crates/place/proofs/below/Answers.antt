@@ -1,33 +1,29 @@
-use Rattle.place.proofs.Finding.{running, below_none, below_low, below_again, below_fresh, again_fits}
-use Prim.Native.Nat.{◌+◌, ◌*◌, ◌≤◌}
+use Rattle.place.proofs.Finding.{running, below_low, below_again, below_fresh, again_fits}
+use Prim.Native.Nat.{◌+◌, ◌*◌}
 use native.Mathlib.Omega.{arith}
-use borrow.Author.Rules.{rules}
 use Rattle.place.proofs.below.Goals as goal
 
-pub fall-r-requires : goal.fall-r-requires
-fall-r-requires c =
-    record {
-      le_l = (c.requires.le_level.0, c.requires.le_level.1);
-      running = running c.requires.placed;
-    }
+pub returns-in_err-at : goal.returns-in_err-at
+returns-in_err-at c = λ q. rw c.from_residual.ensures (c.in_err-at.ensures (running q))
 
-pub returns-then-r-eq0 : goal.returns-then-r-eq0
-returns-then-r-eq0 c = λ q. let z = c.fall-r.ensures (running q) in below_none q _ c.if-r-eq0.true z
+pub offset_bounds-leaves-at : goal.offset_bounds-leaves-at
+offset_bounds-leaves-at c = omega (arith, below_low c.requires.placed c.args.x c.requires.le_level.1 (c.in_ok-at.ensures (running c.requires.placed)))
 
-pub leaf_at-requires : goal.leaf_at-requires
-leaf_at-requires c = let low : c.fall-r.result ≤ 32 = below_low c.requires.placed c.args.x c.requires.le_level.1 (c.fall-r.ensures (running c.requires.placed)) in low
+pub bounds-leaves-at : goal.bounds-leaves-at
+bounds-leaves-at c = omega (arith, below_low c.requires.placed c.args.x c.requires.le_level.1 (c.in_ok-at.ensures (running c.requires.placed)))
 
-pub offset_bounds-earlier-r : goal.offset_bounds-earlier-r
-offset_bounds-earlier-r c = let low : c.fall-r.result ≤ 32 = below_low c.requires.placed c.args.x c.requires.le_level.1 (c.fall-r.ensures (running c.requires.placed)) in let x = low in omega arith
+pub offset_bounds-earlier-at : goal.offset_bounds-earlier-at
+offset_bounds-earlier-at c = omega (arith, below_low c.requires.placed c.args.x c.requires.le_level.1 (c.in_ok-at.ensures (running c.requires.placed)))
 
-pub bounds-earlier-r : goal.bounds-earlier-r
-bounds-earlier-r c = let low : c.fall-r.result ≤ 32 = below_low c.requires.placed c.args.x c.requires.le_level.1 (c.fall-r.ensures (running c.requires.placed)) in let x = low in search rules
+pub bounds-earlier-at : goal.bounds-earlier-at
+bounds-earlier-at c = omega (arith, below_low c.requires.placed c.args.x c.requires.le_level.1 (c.in_ok-at.ensures (running c.requires.placed)))
 
 pub overflow_add-result : goal.overflow_add-result
-overflow_add-result c = let low : c.fall-r.result ≤ 32 = below_low c.requires.placed c.args.x c.requires.le_level.1 (c.fall-r.ensures (running c.requires.placed)) in let x = c.args.x in omega (arith, again_fits c.requires.placed x c.if-r-eq0.false low c.leaf_at.ensures c.if-leaf_at-x.true (c.fall-r.ensures (running c.requires.placed)), c.shared_slice_known-1.given (x * 8 + 4))
+overflow_add-result c =
+    omega (arith, again_fits c.requires.placed c.args.x c.requires.le_level.1 c.if-leaves-at.true (c.in_ok-at.ensures (running c.requires.placed)), c.type_inv.row (c.args.x * 8 + 4))
 
-pub returns-then-leaf_at-x : goal.returns-then-leaf_at-x
-returns-then-leaf_at-x c = let low : c.fall-r.result ≤ 32 = below_low c.requires.placed c.args.x c.requires.le_level.1 (c.fall-r.ensures (running c.requires.placed)) in λ q. below_again q _ c.if-r-eq0.false low c.leaf_at.ensures c.if-leaf_at-x.true (c.fall-r.ensures (running q))
+pub returns-then-leaves-at : goal.returns-then-leaves-at
+returns-then-leaves-at c = λ q. below_again q c.args.x c.requires.le_level.1 c.if-leaves-at.true (c.in_ok-at.ensures (running q))
 
 pub returns : goal.returns
-returns c = let low : c.fall-r.result ≤ 32 = below_low c.requires.placed c.args.x c.requires.le_level.1 (c.fall-r.ensures (running c.requires.placed)) in λ q. below_fresh q _ c.if-r-eq0.false low c.leaf_at.ensures c.if-leaf_at-x.false (c.fall-r.ensures (running q))
+returns c = λ q. below_fresh q c.args.x c.requires.le_level.1 c.if-leaves-at.false (c.in_ok-at.ensures (running q))

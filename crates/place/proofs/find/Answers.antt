@@ -1,67 +1,56 @@
 -- `place::find` meets its contract. Assumes nothing.
-use mathlib.Core.Path.{ap, sym, ◌∙◌}
-use Prim.Native.Nat.{ℕ}
-use native.Mathlib.Omega.{arith}
+use Rattle.std.specs.Option.{is_some}
+use mathlib.Core.Bool.{true, false}
+use mathlib.Core.Path.{◌≡◌, refl}
+use lib.ListN.{get_or}
+use borrow.Author.Rules.{rules}
 use Rattle.rows.specs.Rows.{kind_at}
-use Rattle.place.proofs.Finding.{leaf_room, none_found, call_here, loop_here, find_flat, call_enter, call_pass, call_stop, loop_left}
+use Rattle.place.proofs.Finding.{none_found, call_here, loop_here, find_flat, call_enter, call_pass, call_stop, loop_left}
+use Rattle.place.proofs.find.Goals.{else-eq-2-via-then-eq-2+else-is_none, else-eq-2-via-else-eq-2}
 use Rattle.place.proofs.find.Goals as goal
 
-pub get-kind-requires : goal.get-kind-requires
-get-kind-requires c = (omega arith, omega (arith, leaf_room c.requires.placed c.requires.le_l.0 c.leaf_at-here.ensures))
+pub enclosed-sight-requires-clause-enterable : goal.enclosed-sight-requires-clause-enterable
+enclosed-sight-requires-clause-enterable c =
+    let k : kind_at c.args.row.now (get_or c.args.leaves.now c.args.l 0) ≡ 1 = search rules in (call_here c.requires.placed c.requires.le_l.0 refl k).head
 
-pub sought-v-requires : goal.sought-v-requires
-sought-v-requires c =
-    let k = call_here c.requires.placed c.requires.le_l.0 c.leaf_at-here.ensures c.get-kind.ensures c.if-kind-eq-CALL.true in record {
-      enterable = k.head;
-      head_in_bounds = k.spanned.room;
-      piece = k.spanned.piece;
-    }
+pub enclosed-sight-requires-clause-head_in_bounds : goal.enclosed-sight-requires-clause-head_in_bounds
+enclosed-sight-requires-clause-head_in_bounds c =
+    let k : kind_at c.args.row.now (get_or c.args.leaves.now c.args.l 0) ≡ 1 = search rules in (call_here c.requires.placed c.requires.le_l.0 refl k).spanned.room
 
-pub returns-then-v-eq-MEET : goal.returns-then-v-eq-MEET
-returns-then-v-eq-MEET c =
+pub enclosed-sight-requires-clause-piece : goal.enclosed-sight-requires-clause-piece
+enclosed-sight-requires-clause-piece c =
+    let k : kind_at c.args.row.now (get_or c.args.leaves.now c.args.l 0) ≡ 1 = search rules in (call_here c.requires.placed c.requires.le_l.0 refl k).spanned.piece
+
+pub returns-then-sight : goal.returns-then-sight
+returns-then-sight c =
+    let k : kind_at c.args.row.now (get_or c.args.leaves.now c.args.l 0) ≡ 1 = search rules in
+    λ q. let h = c.requires.le_l.0 in call_enter q h c.args.x (call_here q h refl k) c.enclosed-sight.ensures c.if-sight.true
+
+pub returns-then-sight-2 : goal.returns-then-sight-2
+returns-then-sight-2 c =
+    let k : kind_at c.args.row.now (get_or c.args.leaves.now c.args.l 0) ≡ 1 = search rules in
+    λ q. let h = c.requires.le_l.0 in call_pass q h c.args.x (call_here q h refl k) c.enclosed-sight.ensures c.below-under.result c.if-sight.false c.if-sight-2.true (c.below-under.ensures q)
+
+pub returns-else-sight-2 : goal.returns-else-sight-2
+returns-else-sight-2 c =
+    let k : kind_at c.args.row.now (get_or c.args.leaves.now c.args.l 0) ≡ 1 = search rules in
+    λ q. let h = c.requires.le_l.0 in call_stop q h c.args.x (call_here q h refl k) c.enclosed-sight.ensures c.if-sight.false c.if-sight-2.false
+
+pub round_again-requires-clause-x_value : goal.round_again-requires-clause-x_value
+round_again-requires-clause-x_value c =
+    let e : is_some c.below-under.result ≡ false = search rules in λ q. none_found q c.requires.le_l.0 c.args.x c.below-under.result e (c.below-under.ensures q)
+
+pub returns : goal.returns
+returns c =
+    let k : kind_at c.args.row.now (get_or c.args.leaves.now c.args.l 0) ≡ 1 → ⊥ = search rules in
     λ q.
     let h = c.requires.le_l.0 in
-    let e = c.leaf_at-here.ensures in
-    let g = c.get-kind.ensures in
-    call_enter q h c.args.x (call_here q h e g c.if-kind-eq-CALL.true) c.sought-v.ensures c.if-v-eq-MEET.true
-
-pub returns-then-v-eq-PASS : goal.returns-then-v-eq-PASS
-returns-then-v-eq-PASS c =
-    λ q.
-    let h = c.requires.le_l.0 in
-    let e = c.leaf_at-here.ensures in
-    let g = c.get-kind.ensures in
-    call_pass q h c.args.x (call_here q h e g c.if-kind-eq-CALL.true) c.sought-v.ensures c.if-v-eq-PASS.true (c.below-under.ensures q)
-
-pub returns-then-kind-eq-CALL : goal.returns-then-kind-eq-CALL
-returns-then-kind-eq-CALL c =
-    λ q.
-    let h = c.requires.le_l.0 in
-    let e = c.leaf_at-here.ensures in
-    let g = c.get-kind.ensures in
-    call_stop q h c.args.x (call_here q h e g c.if-kind-eq-CALL.true) c.sought-v.ensures c.if-v-eq-MEET.false c.if-v-eq-PASS.false
-
-pub returns-then-kind-ne-LOOP : goal.returns-then-kind-ne-LOOP
-returns-then-kind-ne-LOOP c =
-    λ q.
-    let h = c.requires.le_l.0 in
-    let e = c.leaf_at-here.ensures in
-    let g = c.get-kind.ensures in
-    find_flat q h c.args.x e g c.if-kind-eq-CALL.false c.if-kind-ne-LOOP.true (c.below-under.ensures q)
-
-pub returns-then-under-gt0 : goal.returns-then-under-gt0
-returns-then-under-gt0 c =
-    λ q.
-    let h = c.requires.le_l.0 in
-    let e = c.leaf_at-here.ensures in
-    let g = c.get-kind.ensures in
-    loop_left q h c.args.x e (loop_here q h e g c.if-kind-ne-LOOP.false) (omega arith) (c.below-under.ensures q)
-
-pub round_again-requires : goal.round_again-requires
-round_again-requires c =
-    let e = c.leaf_at-here.ensures in
-    let kind = ap (λ (p : ℕ). kind_at c.args.row.now p) (sym e) ∙ (sym c.get-kind.ensures ∙ c.if-kind-ne-LOOP.false) in record {
-      le_l = (c.requires.le_l.0, c.requires.le_l.1, kind);
-      placed = c.requires.placed;
-      x_value = λ q. none_found q c.requires.le_l.0 c.args.x c.if-under-gt0.false (c.below-under.ensures q);
-    }
+    elim c.else-eq-2.branch [
+      | else-eq-2-via-then-eq-2+else-is_none w ↦
+          let two : kind_at c.args.row.now (get_or c.args.leaves.now c.args.l 0) ≡ 2 = search rules in
+          let e : is_some c.below-under.result ≡ true = search rules in
+          loop_left q h c.args.x refl (loop_here q h refl two) c.below-under.result e (c.below-under.ensures q)
+      | else-eq-2-via-else-eq-2 w ↦
+          let two : kind_at c.args.row.now (get_or c.args.leaves.now c.args.l 0) ≡ 2 → ⊥ = search rules in
+          find_flat q h c.args.x c.below-under.result k two (c.below-under.ensures q)
+    ]

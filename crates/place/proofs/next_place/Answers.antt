@@ -1,21 +1,17 @@
-use Rattle.place.proofs.Stacking.{placed, next_none, next_some, found_small}
+use Rattle.place.proofs.Stacking.{placed, next_some}
 use Rattle.place.proofs.next_place.Goals as goal
 
-pub find-f-requires : goal.find-f-requires
-find-f-requires c =
-    record {
-      le_l = (c.requires.le_level.0, c.requires.le_level.1);
-      placed = placed c.requires.le_level.0 c.requires.decoded;
-    }
+pub find-requires-clause-placed : goal.find-requires-clause-placed
+find-requires-clause-placed c = placed c.requires.le_level.0 c.requires.decoded
 
-pub returns-then-l-eq0 : goal.returns-then-l-eq0
-returns-then-l-eq0 c = λ q. let z = c.find-f.ensures (placed c.requires.le_level.0 q) in next_none c.args.row.now c.args.place.level z c.if-l-eq0.true
+pub returns-in_err-found : goal.returns-in_err-found
+returns-in_err-found c = λ q. rw c.from_residual.ensures (c.in_err-found.ensures (placed c.requires.le_level.0 q))
 
-pub put-new-requires : goal.put-new-requires
-put-new-requires c = found_small c.args.row.now c.args.place.level (c.find-f.ensures (placed c.requires.le_level.0 c.requires.decoded))
+pub put-requires : goal.put-requires
+put-requires c = (c.in_ok-found.ensures (placed c.requires.le_level.0 c.requires.decoded)).1.0
 
-pub put-counts-requires : goal.put-counts-requires
-put-counts-requires c = found_small c.args.row.now c.args.place.level (c.find-f.ensures (placed c.requires.le_level.0 c.requires.decoded))
+pub put-requires-2 : goal.put-requires-2
+put-requires-2 c = (c.in_ok-found.ensures (placed c.requires.le_level.0 c.requires.decoded)).1.0
 
 pub returns : goal.returns
-returns c = λ q. let z = c.find-f.ensures (placed c.requires.le_level.0 q) in next_some c.args.row.now c.args.place.level z q.marked c.if-l-eq0.false c.requires.x_value c.put-new.ensures c.put-counts.ensures
+returns c = λ q. next_some c.args.row.now c.args.place.level (c.in_ok-found.ensures (placed c.requires.le_level.0 q)) q.marked c.requires.x_value c.put.ensures c.put-2.ensures

@@ -1,4 +1,4 @@
--- `print::put_number` meets its contract: its steps are those of `decimal`. The measure is the number, and its tenth is less. Assumes nothing.
+-- `print::put_number`: the number's tenth is less. Assumes nothing.
 use Rattle.print.proofs.+put_number.Given as goal
 
 abbrev pub decreases-put_number : goal.decreases-put_number

@@ -1,17 +1,17 @@
--- `print::put_signed` meets its contract, once for negative numbers and once for the others. Assumes nothing.
-use Rattle.print.proofs.Signed.{below, above, size_read, put_below, put_above}
+-- `print::put_signed` meets its contract: the sign, and the size behind it. Assumes nothing.
+use Rattle.std.proofs.Common.{true, false}
+use Rattle.print.proofs.Signed.{put_parts}
 use Rattle.print.proofs.put_signed.Goals as goal
-
-pub returns-then-z-lt0 : goal.returns-then-z-lt0
-returns-then-z-lt0 c =
-    let b = below c.args.z c.ranges.z c.if-z-lt0.true in
-    let n = c.size in
-    put_below b (size_read _ c.ranges.z n.ensures) n.type_inv c.put_bytes-minus.ensures
-    c.put_number.ensures
+use Rattle.print.proofs.put_signed.Goals.{then-z-lt0, else-z-lt0}
 
 pub returns : goal.returns
 returns c =
-    let a = above c.args.z c.ranges.z c.if-z-lt0.false in
-    let n = c.size-2 in
-    put_above a (size_read _ c.ranges.z n.ensures) n.type_inv c.put_byte-first.ensures
-    c.put_number-2.ensures
+    let size = c.unsigned_abs.ensures in
+    elim c.if-z-lt0.branch [
+      | then-z-lt0 w ↦
+          put_parts c.args.z true c.ranges.z w.if-z-lt0.true size.value size.bound w.put_bytes-first.ensures
+          (rw (w.out-is, w.first-is) at c.put_number.ensures)
+      | else-z-lt0 w ↦
+          put_parts c.args.z false c.ranges.z w.if-z-lt0.false size.value size.bound w.put_byte-first.ensures
+          (rw (w.out-is, w.first-is) at c.put_number.ensures)
+    ]

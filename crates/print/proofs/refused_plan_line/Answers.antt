@@ -1,11 +1,10 @@
--- `print::refused_plan_line` meets its contract: the word, two fields and a line feed, one behind the other. Assumes nothing.
-use native.Mathlib.Omega.{arith}
+-- `print::refused_plan_line` meets its contract: the line is one of a word and two numbers. Assumes nothing.
+use Rattle.std.proofs.Common.{arith}
+use Rattle.text.specs.Text.{bytes}
 use Rattle.print.specs.Lines.{refused_plan_line}
-use Rattle.print.proofs.Laws.{joined, whole, wider}
+use Rattle.print.proofs.Laws.{two_numbers, wider}
 use Rattle.print.proofs.refused_plan_line.Goals as goal
 
 pub returns : goal.returns
 unfolding refused_plan_line
-returns c =
-    wider (omega arith) (joined (whole c.put_bytes-first.ensures) (joined c.put_field-second.ensures
-    (joined c.put_field-end.ensures (whole c.put_byte.ensures))))
+returns c = wider (omega arith) (rw (two_numbers (bytes "refused") c.args.number c.args.line) at c.numbers_line.ensures)

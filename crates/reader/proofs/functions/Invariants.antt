@@ -1,11 +1,15 @@
 -- `reader::functions` meets its contract: the loop holds the plan so far, and each way out is one law. Assumes nothing.
 use Rattle.reader.proofs.Tasks.{Holding}
+use mathlib.Core.Path.{◌≡◌}
 use lib.ListN.{length}
 use Prim.Native.Nat.{◌-◌}
 use Rattle.reader.proofs.functions.Given as goal
 
-abbrev pub invariant-loop-e : goal.invariant-loop-e
-invariant-loop-e l = Holding l.text l.room l.d l.t l.initial.row l.at l.i l.n l.own l.bounds l.heights l.row
+abbrev pub invariant-loop-end : goal.invariant-loop-end
+invariant-loop-end l = record {
+  held : Holding l.text l.room l.raw.deadline l.raw.switch l.initial.row l.spot.at l.spot.line l.spot.leaves l.raw.functions l.raw.bounds l.raw.heights l.row;
+  counted : l.raw.leaves ≡ l.spot.leaves;
+}
 
-abbrev pub decreases-loop-e : goal.decreases-loop-e
-decreases-loop-e l = length l.text - l.at
+abbrev pub decreases-loop-end : goal.decreases-loop-end
+decreases-loop-end l = length l.text - l.spot.at

@@ -1,33 +1,28 @@
+use Prim.Native.Nat.{ℕ, ◌+◌, ◌-◌, ◌<◌}
 use mathlib.Core.Path.{◌≡◌, ◌∙◌, sym}
-use native.Mathlib.Decide.{dec_lt}
+use mathlib.Core.List.{List}
 use native.Mathlib.Omega.{arith}
+use lib.ListN.{length, get_or, take}
+use Rattle.std.proofs.Common.{drop, tests, length-take, length-drop}
+use Rattle.std.proofs.lemmas.List.{get_or-drop, get_or-take}
+use Rattle.std.proofs.lemmas.Iterator.{cases_from_all, YieldsList-from_slice}
+use Rattle.rows.proofs.Answers.{says_by}
+use borrow.Author.Rules.{rules}
 use Rattle.structure.proofs.unused.Goals as goal
 
-pub loop-f-init : goal.loop-f-init
-loop-f-init c = (omega arith, omega arith, λ k a b. absurd (omega arith))
-
-pub returns-then-start-ne0 : goal.returns-then-start-ne0
-returns-then-start-ne0 c = λ h. c.if-start-ne0.true (c.start.ensures ∙ h c.loop-f.f c.loop-f.invariant.0 c.loop-f-test.true)
-
-pub overflow_add-f-in-loop-f : goal.overflow_add-f-in-loop-f
-overflow_add-f-in-loop-f c = omega arith
-
-pub loop-f-smaller : goal.loop-f-smaller
-loop-f-smaller c = omega arith
-
-pub loop-f-preserved : goal.loop-f-preserved
-loop-f-preserved c = (
-  omega arith,
-  omega arith,
-  λ k a b.
-      elim (dec_lt k c.loop-f.f) [
-        | yes z ↦ c.loop-f.invariant.2 k a z
-        | no z ↦
-            let e : k ≡ c.loop-f.f = omega arith in
-            let y : c.start.result ≡ 0 = omega (arith, c.if-start-ne0.false) in
-            rw e (sym c.start.ensures ∙ y)
-      ],
-)
+-- The bounds behind the last function's end.
+behind : (s : List ℕ) (n k : ℕ) → k < 17 - (n + 1) → get_or (take (17 - (n + 1)) (drop (n + 1) s)) k 0 ≡ get_or s (n + 1 + k) 0
+behind s n k h = get_or-take (17 - (n + 1)) (drop (n + 1) s) k 0 h ∙ get_or-drop (n + 1) s k 0
 
 pub returns : goal.returns
-returns c = λ f a b. c.loop-f.invariant.2 f a (omega arith)
+returns c =
+    let s = c.args.starts.now in
+    let n = c.args.n in
+    let xs : List ℕ = take (17 - (n + 1)) (drop (n + 1) s) in
+    let many : length xs ≡ 17 - (n + 1) = omega (arith, length-take (17 - (n + 1)) (drop (n + 1) s), length-drop (n + 1) s) in
+    let by_call = cases_from_all _ _ c.all.result (λ x. x ≡ 0) (λ x. x ≡ 0 → ⊥) c.all.ensures.ran (YieldsList-from_slice xs c.iter.ensures.rest) (λ x q k. search (rules, tests)) (λ x q k. search (rules, tests)) in
+    says_by c.all.result by_call
+    (λ all f lo hi.
+    let e : n + 1 + (f - (n + 1)) ≡ f = omega arith in
+    rw e at (sym (behind s n (f - (n + 1)) (omega arith)) ∙ all (f - (n + 1)) 0 (omega arith) (omega arith)))
+    (λ some all. some.2 0 (behind s n some.0 (omega (arith, some.1)) ∙ all (n + 1 + some.0) (omega arith) (omega (arith, some.1))))

@@ -30,7 +30,7 @@ measure-loads-requires c =
     let q = c.requires.0 in
     let e = c.indexes-starts.ensures in
     let long : length c.indexes-starts.result ≡ 17 = search (rules, c.indexes-starts.type_inv) in record {
-      n_in_bounds = (omega (arith, q.plan.bounds.few), q.plan.bounds.few, refl, (omega arith, omega arith));
+      n_in_bounds = (omega (arith, q.plan.bounds.few), q.plan.bounds.few, refl);
       plan_of = row_plan e q;
     }
 
@@ -51,91 +51,34 @@ stretches-stretch-requires c =
     let x = fits in
     let y = c.measure-loads.ensures.measured in
     let k = c.if-max_load_total-gt-LIMIT.false in record {
-      le_n = (q.plan.bounds.some, omega (arith, q.plan.bounds.few), q.plan.bounds.few, (omega arith, omega arith));
+      le_n = (q.plan.bounds.some, omega (arith, q.plan.bounds.few), q.plan.bounds.few);
       summed = fitting_costed q e x y k;
     }
-
-pub overflow_sub-n : goal.overflow_sub-n
-overflow_sub-n c = c.requires.0.plan.bounds.some
-
-pub offset_bounds-totals-n : goal.offset_bounds-totals-n
-offset_bounds-totals-n c = record { fits = omega (arith, c.requires.0.plan.bounds.few) }
-
-pub bounds-totals-n : goal.bounds-totals-n
-bounds-totals-n c = omega (arith, c.requires.0.plan.bounds.few, c.requires.0.plan.bounds.some)
-
-pub returns-then-head-totals : goal.returns-then-head-totals
-returns-then-head-totals c =
-    let totals-long : length c.args.head.totals ≡ 16 = let g = c.well_formed.1.1.1.1.0.1.1.1.1.1.1.1.1.1.1.0 in search (rules, g) in
-    let fits : (Fitting c.args.row.now c.indexes-starts.result c.args.head.functions c.args.head.totals c.args.turns.now c.args.tails.now) = λ v. said_true c.tails_agree.result c.if-not-tails_agree.false (c.tails_agree.ensures v) in
-    λ p q same few g.
-    let h = c.args.head in
-    let x = fits in
-    let y = c.measure-loads.ensures.measured in
-    let k = c.if-max_load_total-gt-LIMIT.false in
-    let d = derived h.totals c.measure-loads.result c.stretches-stretch.result h.functions in
-    let a = fitting_derives q c.indexes-starts.ensures p same (replicate 512 0) x y k totals-long (length-replicate {A = ℕ} 512 0) c.stretches-stretch.ensures.value c.stretches-stretch.ensures.stretch_after in
-    c.if-head-totals.true (agreeing.total_same p h d a refl few g)
-
-pub returns-then-head-max_load_total : goal.returns-then-head-max_load_total
-returns-then-head-max_load_total c =
-    let totals-long : length c.args.head.totals ≡ 16 = let g = c.well_formed.1.1.1.1.0.1.1.1.1.1.1.1.1.1.1.0 in search (rules, g) in
-    let fits : (Fitting c.args.row.now c.indexes-starts.result c.args.head.functions c.args.head.totals c.args.turns.now c.args.tails.now) = λ v. said_true c.tails_agree.result c.if-not-tails_agree.false (c.tails_agree.ensures v) in
-    λ p q same few g.
-    let h = c.args.head in
-    let x = fits in
-    let y = c.measure-loads.ensures.measured in
-    let k = c.if-max_load_total-gt-LIMIT.false in
-    let d = derived h.totals c.measure-loads.result c.stretches-stretch.result h.functions in
-    let a = fitting_derives q c.indexes-starts.ensures p same (replicate 512 0) x y k totals-long (length-replicate {A = ℕ} 512 0) c.stretches-stretch.ensures.value c.stretches-stretch.ensures.stretch_after in
-    c.if-head-max_load_total.true (agreeing.loaded_same p h d a refl few g)
-
-pub returns-then-head-stretch : goal.returns-then-head-stretch
-returns-then-head-stretch c =
-    let totals-long : length c.args.head.totals ≡ 16 = let g = c.well_formed.1.1.1.1.0.1.1.1.1.1.1.1.1.1.1.0 in search (rules, g) in
-    let fits : (Fitting c.args.row.now c.indexes-starts.result c.args.head.functions c.args.head.totals c.args.turns.now c.args.tails.now) = λ v. said_true c.tails_agree.result c.if-not-tails_agree.false (c.tails_agree.ensures v) in
-    λ p q same few g.
-    let h = c.args.head in
-    let x = fits in
-    let y = c.measure-loads.ensures.measured in
-    let k = c.if-max_load_total-gt-LIMIT.false in
-    let d = derived h.totals c.measure-loads.result c.stretches-stretch.result h.functions in
-    let a = fitting_derives q c.indexes-starts.ensures p same (replicate 512 0) x y k totals-long (length-replicate {A = ℕ} 512 0) c.stretches-stretch.ensures.value c.stretches-stretch.ensures.stretch_after in
-    c.if-head-stretch.true (agreeing.stretch_same p h d a refl few g)
-
-pub slice_bounds-same-end : goal.slice_bounds-same-end
-slice_bounds-same-end c =
-    let fits : (Fitting c.args.row.now c.indexes-starts.result c.args.head.functions c.args.head.totals c.args.turns.now c.args.tails.now) = λ v. said_true c.tails_agree.result c.if-not-tails_agree.false (c.tails_agree.ensures v) in
-    let q = c.requires.0 in
-    let e = c.indexes-starts.ensures in
-    let x = fits in
-    let y = c.measure-loads.ensures.measured in
-    let k = c.if-max_load_total-gt-LIMIT.false in
-    let wide = written_wide (replicate 512 0) (length-replicate {A = ℕ} 512 0) c.stretches-stretch.ensures.stretch_after (fitting_costed q e x y k) in
-    sym wide
 
 pub same-requires : goal.same-requires
 same-requires c =
     let fits : (Fitting c.args.row.now c.indexes-starts.result c.args.head.functions c.args.head.totals c.args.turns.now c.args.tails.now) = λ v. said_true c.tails_agree.result c.if-not-tails_agree.false (c.tails_agree.ensures v) in
-    let q = c.requires.0 in
-    let e = c.indexes-starts.ensures in
-    let x = fits in
-    let y = c.measure-loads.ensures.measured in
-    let k = c.if-max_load_total-gt-LIMIT.false in
-    let wide = written_wide (replicate 512 0) (length-replicate {A = ℕ} 512 0) c.stretches-stretch.ensures.stretch_after (fitting_costed q e x y k) in
+    let wide = written_wide (replicate 512 0) (length-replicate {A = ℕ} 512 0) c.stretches-stretch.ensures.stretch_after (fitting_costed c.requires.0 c.indexes-starts.ensures fits c.measure-loads.ensures.measured c.if-max_load_total-gt-LIMIT.false) in
     omega (arith, wide, c.requires.1)
 
-pub returns : goal.returns
-returns c =
+pub returns-then-stands : goal.returns-then-stands
+returns-then-stands c =
     let totals-long : length c.args.head.totals ≡ 16 = let g = c.well_formed.1.1.1.1.0.1.1.1.1.1.1.1.1.1.1.0 in search (rules, g) in
     let fits : (Fitting c.args.row.now c.indexes-starts.result c.args.head.functions c.args.head.totals c.args.turns.now c.args.tails.now) = λ v. said_true c.tails_agree.result c.if-not-tails_agree.false (c.tails_agree.ensures v) in
     λ p q same few.
     let h = c.args.head in
-    let x = fits in
-    let y = c.measure-loads.ensures.measured in
-    let k = c.if-max_load_total-gt-LIMIT.false in
     let d = derived h.totals c.measure-loads.result c.stretches-stretch.result h.functions in
-    let a = fitting_derives q c.indexes-starts.ensures p same (replicate 512 0) x y k totals-long (length-replicate {A = ℕ} 512 0) c.stretches-stretch.ensures.value c.stretches-stretch.ensures.stretch_after in
-    same_answer c.same.result
-    (λ z. agreeing.agreement p h d a refl few refl (omega (arith, c.if-head-totals.false)) (omega (arith, c.if-head-max_load_total.false)) (omega (arith, c.if-head-stretch.false)) z)
-    (λ g. agreeing.stretches_same p h d a refl few g) c.same.ensures
+    let a = fitting_derives q c.indexes-starts.ensures p same (replicate 512 0) fits c.measure-loads.ensures.measured c.if-max_load_total-gt-LIMIT.false totals-long (length-replicate {A = ℕ} 512 0) c.stretches-stretch.ensures.value c.stretches-stretch.ensures.stretch_after in
+    let told = c.if-stands.ensures in
+    same_answer c.same.result (λ z. agreeing.agreement p h d a few refl told.0 told.1 told.2 z) (λ g. agreeing.stretches_same p h d a few g) c.same.ensures
+
+pub returns-else-stands : goal.returns-else-stands
+returns-else-stands c =
+    let totals-long : length c.args.head.totals ≡ 16 = let g = c.well_formed.1.1.1.1.0.1.1.1.1.1.1.1.1.1.1.0 in search (rules, g) in
+    let fits : (Fitting c.args.row.now c.indexes-starts.result c.args.head.functions c.args.head.totals c.args.turns.now c.args.tails.now) = λ v. said_true c.tails_agree.result c.if-not-tails_agree.false (c.tails_agree.ensures v) in
+    λ p q same few.
+    let h = c.args.head in
+    let d = derived h.totals c.measure-loads.result c.stretches-stretch.result h.functions in
+    let a = fitting_derives q c.indexes-starts.ensures p same (replicate 512 0) fits c.measure-loads.ensures.measured c.if-max_load_total-gt-LIMIT.false totals-long (length-replicate {A = ℕ} 512 0) c.stretches-stretch.ensures.value c.stretches-stretch.ensures.stretch_after in
+    rw c.if-stands.false
+    (λ g. c.if-stands.ensures (agreeing.total_same p h d a few g, agreeing.loaded_same p h d a few g, agreeing.stretch_same p h d a few g))

@@ -1,12 +1,11 @@
 -- `table::derive_all` meets its contract. Assumes nothing.
 use mathlib.Core.Bool.{false}
 use mathlib.Core.Logic.{inl, inr}
-use mathlib.Core.Path.{◌≡◌, refl, sym}
+use mathlib.Core.Path.{◌≡◌, refl}
 use Prim.Native.Nat.{◌-◌}
 use native.Mathlib.Omega.{arith}
 use lib.ListN.{length, get_or}
 use Rattle.table.specs.Accepting.{short?}
-use Rattle.table.proofs.Tests.{no_truth}
 use Rattle.table.proofs.Deriving.{Room, still_wide, row_plan, row_summed, row_long_isolated, row_long_loaded, row_derives}
 use borrow.Author.Rules.{rules}
 use Rattle.table.proofs.derive_all.Goals as goal
@@ -16,7 +15,7 @@ measure-totals-requires c =
     let q = c.requires.structured in
     let e = c.indexes-starts.ensures in
     let long : length c.indexes-starts.result ≡ 17 = search rules in record {
-      n_in_bounds = (omega (arith, q.plan.bounds.few), q.plan.bounds.few, c.requires.wide.turns_wide, (omega arith, omega arith));
+      n_in_bounds = (omega (arith, q.plan.bounds.few), q.plan.bounds.few, c.requires.wide.turns_wide);
       plan_of = row_plan e q;
     }
 
@@ -25,7 +24,7 @@ measure-loads-requires c =
     let q = c.requires.structured in
     let e = c.indexes-starts.ensures in
     let long : length c.indexes-starts.result ≡ 17 = search rules in record {
-      n_in_bounds = (omega (arith, q.plan.bounds.few), q.plan.bounds.few, refl, (omega arith, omega arith));
+      n_in_bounds = (omega (arith, q.plan.bounds.few), q.plan.bounds.few, refl);
       plan_of = row_plan e q;
     }
 
@@ -41,7 +40,7 @@ returns-then-total-gt-LIMIT c =
             | inl h ↦ row_long_isolated q p same e x.measured y h
             | inr h ↦ row_long_loaded q p same e x.measured y h.1
           ] in
-          record { fits = sym long; numbers = λ z. no_truth z });
+          long);
       wide_2 = record { turns_wide = x.by_index.1; tails_wide = c.requires.wide.tails_wide; stretches_wide = c.requires.wide.stretches_wide };
     }
 

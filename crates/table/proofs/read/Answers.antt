@@ -1,166 +1,70 @@
 -- `table::read` meets its contract. Assumes nothing.
-use mathlib.Core.Path.{◌≡◌, sym}
-use mathlib.Core.List.{List}
+use Rattle.std.specs.Prelude.{Err}
+use mathlib.Core.Path.{◌≡◌, sym, ap, ◌∙◌}
 use Prim.Native.Nat.{ℕ, ◌*◌, ◌≤◌}
 use native.Mathlib.Omega.{arith}
-use lib.ListN.{length, take, replicate, length-take, length-replicate}
+use lib.ListN.{replicate, length-replicate}
 use lib.Seq.{length-take-le}
-use Rattle.reader.specs.Machine.{outcome}
-use Rattle.reader.specs.Outcome.{Outcome}
-use Rattle.table.specs.Reading.{after_lines, RawOf}
+use Rattle.std.proofs.lemmas.Result.{err_from_is_err_and}
+use Rattle.table.specs.Reading.{judged, verdict, after_lines, result_of}
 use Rattle.table.proofs.Writing as writing
 use Rattle.table.proofs.read.Goals as goal
 
 pub overflow_mul-end : goal.overflow_mul-end
 overflow_mul-end c =
-    let said : Outcome = outcome c.args.capacity c.args.text.now in
-    let raws : List ℕ = c.read_lines-raw.new.row in
-    let many : ℕ = c.read_lines-raw.result.leaves in
-    let left : RawOf said c.read_lines-raw.result (take (many * 8) raws) = writing.came c.args.capacity c.args.text.now (replicate 4096 0) raws
-    (length-replicate {A = ℕ} 4096 0) c.read_lines-raw.ensures.answers c.read_lines-raw.ensures.writes in
-    let few : many ≤ 512 = writing.few said left in record { fits = omega (arith, few) }
+    let k = writing.came c.args.capacity c.args.text.now (replicate 4096 0) c.read_lines.new.row (length-replicate {A = ℕ} 4096 0) c.in_ok-raw.ensures.answers c.read_lines.ensures.writes in
+    record { fits = omega (arith, k.few) }
 
 pub slice_bounds-w-end : goal.slice_bounds-w-end
 slice_bounds-w-end c =
-    let said : Outcome = outcome c.args.capacity c.args.text.now in
-    let raws : List ℕ = c.read_lines-raw.new.row in
-    let many : ℕ = c.read_lines-raw.result.leaves in
-    let left : RawOf said c.read_lines-raw.result (take (many * 8) raws) = writing.came c.args.capacity c.args.text.now (replicate 4096 0) raws
-    (length-replicate {A = ℕ} 4096 0) c.read_lines-raw.ensures.answers c.read_lines-raw.ensures.writes in
-    let few : many ≤ 512 = writing.few said left in
-    let room : many * 8 ≤ length raws = writing.row_room said (replicate 4096 0) raws (length-replicate {A = ℕ} 4096 0) c.read_lines-raw.ensures.answers few c.read_lines-raw.ensures.writes in room
+    let k = writing.came c.args.capacity c.args.text.now (replicate 4096 0) c.read_lines.new.row (length-replicate {A = ℕ} 4096 0) c.in_ok-raw.ensures.answers c.read_lines.ensures.writes in
+    k.room
 
 pub slice_bounds-judge-end : goal.slice_bounds-judge-end
 slice_bounds-judge-end c =
-    let raws : List ℕ = c.read_lines-raw.new.row in
-    let many : ℕ = c.read_lines-raw.result.leaves in
-    let said : Outcome = outcome c.args.capacity c.args.text.now in
-    let left : RawOf said c.read_lines-raw.result (take (many * 8) raws) = writing.came c.args.capacity c.args.text.now (replicate 4096 0) raws
-    (length-replicate {A = ℕ} 4096 0) c.read_lines-raw.ensures.answers c.read_lines-raw.ensures.writes in
-    let few : many ≤ 512 = writing.few said left in
-    let room : many * 8 ≤ length raws = writing.row_room said (replicate 4096 0) raws (length-replicate {A = ℕ} 4096 0) c.read_lines-raw.ensures.answers few c.read_lines-raw.ensures.writes in
-    let used : many * 8 ≡ length (take (many * 8) raws) = sym (length-take-le (many * 8) raws room) in used
+    let k = writing.came c.args.capacity c.args.text.now (replicate 4096 0) c.read_lines.new.row (length-replicate {A = ℕ} 4096 0) c.in_ok-raw.ensures.answers c.read_lines.ensures.writes in
+    sym (length-take-le (c.in_ok-raw.raw.leaves * 8) c.read_lines.new.row k.room)
 
-pub judge-said-requires : goal.judge-said-requires
-judge-said-requires c =
-    let said : Outcome = outcome c.args.capacity c.args.text.now in
-    let raws : List ℕ = c.read_lines-raw.new.row in
-    let many : ℕ = c.read_lines-raw.result.leaves in
-    let left : RawOf said c.read_lines-raw.result (take (many * 8) raws) = writing.came c.args.capacity c.args.text.now (replicate 4096 0) raws
-    (length-replicate {A = ℕ} 4096 0) c.read_lines-raw.ensures.answers c.read_lines-raw.ensures.writes in (
-      (said, left),
+pub judge-requires : goal.judge-requires
+judge-requires c =
+    let k = writing.came c.args.capacity c.args.text.now (replicate 4096 0) c.read_lines.new.row (length-replicate {A = ℕ} 4096 0) c.in_ok-raw.ensures.answers c.read_lines.ensures.writes in (
+      (k.of, k.left),
       record { turns_wide = length-replicate {A = ℕ} 512 0; tails_wide = length-replicate {A = ℕ} 512 0; stretches_wide = length-replicate {A = ℕ} 512 0 },
     )
 
-pub slice_bounds-w-end-in-Accepted : goal.slice_bounds-w-end-in-Accepted
-slice_bounds-w-end-in-Accepted c =
-    let said : Outcome = outcome c.args.capacity c.args.text.now in
-    let raws : List ℕ = c.read_lines-raw.new.row in
-    let many : ℕ = c.read_lines-raw.result.leaves in
-    let left : RawOf said c.read_lines-raw.result (take (many * 8) raws) = writing.came c.args.capacity c.args.text.now (replicate 4096 0) raws
-    (length-replicate {A = ℕ} 4096 0) c.read_lines-raw.ensures.answers c.read_lines-raw.ensures.writes in
-    let few : many ≤ 512 = writing.few said left in
-    let room : many * 8 ≤ length raws = writing.row_room said (replicate 4096 0) raws (length-replicate {A = ℕ} 4096 0) c.read_lines-raw.ensures.answers few c.read_lines-raw.ensures.writes in room
-
-pub slice_bounds-store-end : goal.slice_bounds-store-end
-slice_bounds-store-end c =
-    let raws : List ℕ = c.read_lines-raw.new.row in
-    let many : ℕ = c.read_lines-raw.result.leaves in
-    let said : Outcome = outcome c.args.capacity c.args.text.now in
-    let left : RawOf said c.read_lines-raw.result (take (many * 8) raws) = writing.came c.args.capacity c.args.text.now (replicate 4096 0) raws
-    (length-replicate {A = ℕ} 4096 0) c.read_lines-raw.ensures.answers c.read_lines-raw.ensures.writes in
-    let few : many ≤ 512 = writing.few said left in
-    let room : many * 8 ≤ length raws = writing.row_room said (replicate 4096 0) raws (length-replicate {A = ℕ} 4096 0) c.read_lines-raw.ensures.answers few c.read_lines-raw.ensures.writes in
-    let used : many * 8 ≡ length (take (many * 8) raws) = sym (length-take-le (many * 8) raws room) in used
-
-pub slice_bounds-t-end : goal.slice_bounds-t-end
-slice_bounds-t-end c =
-    let said : Outcome = outcome c.args.capacity c.args.text.now in
-    let raws : List ℕ = c.read_lines-raw.new.row in
-    let many : ℕ = c.read_lines-raw.result.leaves in
-    let left : RawOf said c.read_lines-raw.result (take (many * 8) raws) = writing.came c.args.capacity c.args.text.now (replicate 4096 0) raws
-    (length-replicate {A = ℕ} 4096 0) c.read_lines-raw.ensures.answers c.read_lines-raw.ensures.writes in
-    let few : many ≤ 512 = writing.few said left in omega (arith, few, c.judge-said.ensures.wide.turns_wide)
-
-pub slice_bounds-store-end-in-Accepted-2 : goal.slice_bounds-store-end-in-Accepted-2
-slice_bounds-store-end-in-Accepted-2 c =
-    let many : ℕ = c.read_lines-raw.result.leaves in
-    let said : Outcome = outcome c.args.capacity c.args.text.now in
-    let raws : List ℕ = c.read_lines-raw.new.row in
-    let left : RawOf said c.read_lines-raw.result (take (many * 8) raws) = writing.came c.args.capacity c.args.text.now (replicate 4096 0) raws
-    (length-replicate {A = ℕ} 4096 0) c.read_lines-raw.ensures.answers c.read_lines-raw.ensures.writes in
-    let few : many ≤ 512 = writing.few said left in
-    omega (arith, few, c.judge-said.ensures.wide.turns_wide, length-take many c.judge-said.new.turns)
-
-pub slice_bounds-u-end : goal.slice_bounds-u-end
-slice_bounds-u-end c =
-    let said : Outcome = outcome c.args.capacity c.args.text.now in
-    let raws : List ℕ = c.read_lines-raw.new.row in
-    let many : ℕ = c.read_lines-raw.result.leaves in
-    let left : RawOf said c.read_lines-raw.result (take (many * 8) raws) = writing.came c.args.capacity c.args.text.now (replicate 4096 0) raws
-    (length-replicate {A = ℕ} 4096 0) c.read_lines-raw.ensures.answers c.read_lines-raw.ensures.writes in
-    let few : many ≤ 512 = writing.few said left in omega (arith, few, c.judge-said.ensures.wide.tails_wide)
-
-pub slice_bounds-store-end-in-Accepted-4 : goal.slice_bounds-store-end-in-Accepted-4
-slice_bounds-store-end-in-Accepted-4 c =
-    let many : ℕ = c.read_lines-raw.result.leaves in
-    let said : Outcome = outcome c.args.capacity c.args.text.now in
-    let raws : List ℕ = c.read_lines-raw.new.row in
-    let left : RawOf said c.read_lines-raw.result (take (many * 8) raws) = writing.came c.args.capacity c.args.text.now (replicate 4096 0) raws
-    (length-replicate {A = ℕ} 4096 0) c.read_lines-raw.ensures.answers c.read_lines-raw.ensures.writes in
-    let few : many ≤ 512 = writing.few said left in
-    omega (arith, few, c.judge-said.ensures.wide.tails_wide, length-take many c.judge-said.new.tails)
-
-pub slice_bounds-v-end : goal.slice_bounds-v-end
-slice_bounds-v-end c =
-    let said : Outcome = outcome c.args.capacity c.args.text.now in
-    let raws : List ℕ = c.read_lines-raw.new.row in
-    let many : ℕ = c.read_lines-raw.result.leaves in
-    let left : RawOf said c.read_lines-raw.result (take (many * 8) raws) = writing.came c.args.capacity c.args.text.now (replicate 4096 0) raws
-    (length-replicate {A = ℕ} 4096 0) c.read_lines-raw.ensures.answers c.read_lines-raw.ensures.writes in
-    let few : many ≤ 512 = writing.few said left in omega (arith, few, c.judge-said.ensures.wide.stretches_wide)
-
-pub slice_bounds-store-end-in-Accepted-6 : goal.slice_bounds-store-end-in-Accepted-6
-slice_bounds-store-end-in-Accepted-6 c =
-    let many : ℕ = c.read_lines-raw.result.leaves in
-    let said : Outcome = outcome c.args.capacity c.args.text.now in
-    let raws : List ℕ = c.read_lines-raw.new.row in
-    let left : RawOf said c.read_lines-raw.result (take (many * 8) raws) = writing.came c.args.capacity c.args.text.now (replicate 4096 0) raws
-    (length-replicate {A = ℕ} 4096 0) c.read_lines-raw.ensures.answers c.read_lines-raw.ensures.writes in
-    let few : many ≤ 512 = writing.few said left in
-    omega (arith, few, c.judge-said.ensures.wide.stretches_wide, length-take many c.judge-said.new.stretches)
-
-pub returns-in-Accepted : goal.returns-in-Accepted
-returns-in-Accepted c =
-    let said : Outcome = outcome c.args.capacity c.args.text.now in
-    let raws : List ℕ = c.read_lines-raw.new.row in
-    let many : ℕ = c.read_lines-raw.result.leaves in
-    let left : RawOf said c.read_lines-raw.result (take (many * 8) raws) = writing.came c.args.capacity c.args.text.now (replicate 4096 0) raws
-    (length-replicate {A = ℕ} 4096 0) c.read_lines-raw.ensures.answers c.read_lines-raw.ensures.writes in
-    let j = c.judge-said in
-    let a = c.args in
-    let answers = j.ensures.value said left in
-    let filled = j.ensures.columns_written said left in
-    let (p, e) = writing.said_plan (after_lines said) a.head answers c.in-Accepted.is in record {
-      answers = answers;
-      row = writing.row_stored said raws left p e a.row.now c.store.ensures;
-      turns = writing.column_stored said raws left p e (λ t. t.turns) a.turns.now j.new.turns (filled.turns_are p e) c.store-in-Accepted.ensures;
-      tails = writing.column_stored said raws left p e (λ t. t.tails) a.tails.now j.new.tails (filled.tails_are p e) c.store-in-Accepted-2.ensures;
-      stretches = writing.column_stored said raws left p e (λ t. t.stretches) a.stretches.now j.new.stretches (filled.stretches_are p e) c.store-in-Accepted-3.ensures;
+pub returns-in_err-head : goal.returns-in_err-head
+returns-in_err-head c =
+    let k = writing.came c.args.capacity c.args.text.now (replicate 4096 0) c.read_lines.new.row (length-replicate {A = ℕ} 4096 0) c.in_ok-raw.ensures.answers c.read_lines.ensures.writes in
+    let said : Err c.in_err-head.field-0.0 ≡ result_of (verdict c.args.capacity c.args.text.now) = c.in_err-head.ensures.value k.of k.left ∙ ap result_of (sym (ap after_lines k.is)) in
+    let e = err_from_is_err_and c.from_residual-in_err-head.result c.from_residual-in_err-head.ensures.1 in
+    record {
+      answers = rw (e.1, e.2) said;
+      row = writing.kept (verdict c.args.capacity c.args.text.now) said (λ t. t.row) _;
+      turns = writing.kept (verdict c.args.capacity c.args.text.now) said (λ t. t.turns) _;
+      tails = writing.kept (verdict c.args.capacity c.args.text.now) said (λ t. t.tails) _;
+      stretches = writing.kept (verdict c.args.capacity c.args.text.now) said (λ t. t.stretches) _;
     }
 
-pub returns-in_default : goal.returns-in_default
-returns-in_default c =
-    let said : Outcome = outcome c.args.capacity c.args.text.now in
-    let raws : List ℕ = c.read_lines-raw.new.row in
-    let many : ℕ = c.read_lines-raw.result.leaves in
-    let left : RawOf said c.read_lines-raw.result (take (many * 8) raws) = writing.came c.args.capacity c.args.text.now (replicate 4096 0) raws
-    (length-replicate {A = ℕ} 4096 0) c.read_lines-raw.ensures.answers c.read_lines-raw.ensures.writes in
-    let answers = c.judge-said.ensures.value said left in
-    let kept = writing.said_refused (after_lines said) c.args.head answers c.in_default.is in record {
-      answers = answers;
-      row = kept (λ t. t.row) _;
-      turns = kept (λ t. t.turns) _;
-      tails = kept (λ t. t.tails) _;
-      stretches = kept (λ t. t.stretches) _;
+pub returns : goal.returns
+returns c =
+    let k = writing.came c.args.capacity c.args.text.now (replicate 4096 0) c.read_lines.new.row (length-replicate {A = ℕ} 4096 0) c.in_ok-raw.ensures.answers c.read_lines.ensures.writes in
+    let said = c.in_ok-head.ensures.value k.of k.left in
+    let filled = c.in_ok-head.ensures.columns_written k.of k.left in
+    let given = writing.accepted_plan (judged k.of) said in
+    let n = c.in_ok-raw.raw.leaves in
+    record {
+      answers = said ∙ ap result_of (sym (ap after_lines k.is));
+      row = writing.row_stored c.read_lines.new.row k given.0 given.1 c.args.row.now (writing.copied c.args.row.now c.read_lines.new.row (n * 8) c.copy_from_slice.ensures.after k.room (omega (arith, k.few, c.told-row)));
+      turns = writing.column_stored c.read_lines.new.row k given.0 given.1 (λ t. t.turns) c.args.turns.now c.judge.new.turns (filled.turns_are given.0 given.1)
+          (writing.copied c.args.turns.now c.judge.new.turns n c.copy_from_slice-2.ensures.after (omega (arith, k.few, c.judge.ensures.wide.turns_wide)) (omega (arith, k.few, c.told-turns)));
+      tails = writing.column_stored c.read_lines.new.row k given.0 given.1 (λ t. t.tails) c.args.tails.now c.judge.new.tails (filled.tails_are given.0 given.1)
+          (writing.copied c.args.tails.now c.judge.new.tails n c.copy_from_slice-3.ensures.after (omega (arith, k.few, c.judge.ensures.wide.tails_wide)) (omega (arith, k.few, c.told-tails)));
+      stretches = writing.column_stored c.read_lines.new.row k given.0 given.1 (λ t. t.stretches) c.args.stretches.now c.judge.new.stretches (filled.stretches_are given.0 given.1)
+          (writing.copied c.args.stretches.now c.judge.new.stretches n c.copy_from_slice-4.ensures.after (omega (arith, k.few, c.judge.ensures.wide.stretches_wide)) (omega (arith, k.few, c.told-stretches)));
     }
+
+pub slice_bounds-copy_from_slice-end : goal.slice_bounds-copy_from_slice-end
+slice_bounds-copy_from_slice-end c =
+    let k = writing.came c.args.capacity c.args.text.now (replicate 4096 0) c.read_lines.new.row (length-replicate {A = ℕ} 4096 0) c.in_ok-raw.ensures.answers c.read_lines.ensures.writes in
+    let within : c.in_ok-raw.raw.leaves * 8 ≤ 4096 = omega (arith, k.few) in
+    within

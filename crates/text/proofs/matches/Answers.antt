@@ -1,74 +1,37 @@
--- `text::matches` meets its contract. The loop's invariant: the signs passed have taken the line up to here, and the lent row has the numbers found.
--- The measure is what is left of the pattern. Assumes nothing.
-use native.Mathlib.Omega.{arith}
-use borrow.Author.Rules.{rules}
-use lib.ListN.{length}
-use mathlib.Core.Path.{sym, ap, ◌∙◌, subst}
-use Rattle.text.specs.Private.{StandsAt, CapitalAt}
+-- `text::matches` meets its contract: each sign is a step of `Laws` in the line. Assumes nothing.
+use Rattle.std.proofs.Common.{arith, sym, ◌∙◌}
 use Rattle.text.proofs.Classes.{class_feed, class_no_feed}
-use Rattle.text.proofs.Laws.{match_begins, sign_step, capital_step, match_miss, match_short, match_long, match_whole, row_long}
+use Rattle.text.proofs.Laws.{match_begins, sign_step, capital_step, match_miss, match_short, match_long, match_whole}
 use Rattle.text.proofs.matches.Goals as goal
-use Rattle.text.proofs.matches.Goals.{then-is_upper+in-Fit, else-is_upper+then-stands}
+use Rattle.text.proofs.matches.Goals.{then-is_ascii_uppercase+in_ok-f, else-is_ascii_uppercase+then-stands}
 
-pub loop-j-init : goal.loop-j-init
-loop-j-init c = match_begins _ _ _ _ _
+pub loop-t-init : goal.loop-t-init
+loop-t-init c = match_begins _ _ _ _ _
 
-pub capital-requires : goal.capital-requires
-capital-requires c = (
-  omega (arith, c.loop-j.invariant.few),
-  sym c.is_upper.ensures ∙ c.if-is_upper.true,
-)
-
-pub shape_of-row-in-Misfit : goal.shape_of-row-in-Misfit
-shape_of-row-in-Misfit c =
-    ap length (subst (CapitalAt _ _ _ _ _ _ _) c.in-Misfit.is c.capital.ensures).1
-    ∙ row_long c.loop-j.invariant
-
-pub returns-in-Misfit : goal.returns-in-Misfit
-returns-in-Misfit c =
-    match_miss c.loop-j.invariant (omega arith)
-    (subst (CapitalAt _ _ _ _ _ _ _) c.in-Misfit.is c.capital.ensures).0
-
-pub stands-requires : goal.stands-requires
-stands-requires c = sym c.is_upper.ensures ∙ c.if-is_upper.false
-
-pub overflow_add-i : goal.overflow_add-i
-overflow_add-i c = search (rules, (subst (StandsAt _ _ _) c.if-stands.true c.stands.ensures).1.within)
-
-pub shape_of-row-else-stands : goal.shape_of-row-else-stands
-shape_of-row-else-stands c = row_long c.loop-j.invariant
+pub returns-in_err-f : goal.returns-in_err-f
+returns-in_err-f c = rw c.from_residual.ensures (match_miss c.loop-t.invariant (omega arith) c.in_err-f.ensures.0)
 
 pub returns-else-stands : goal.returns-else-stands
-returns-else-stands c =
-    match_miss c.loop-j.invariant (omega arith)
-    (subst (StandsAt _ _ _) c.if-stands.false c.stands.ensures)
+returns-else-stands c = match_miss c.loop-t.invariant (omega arith) c.if-stands.ensures
 
-pub loop-j-preserved : goal.loop-j-preserved
-loop-j-preserved c =
-    let m = c.loop-j.invariant in
-    elim c.if-is_upper.branch [
-      | then-is_upper+in-Fit w ↦ rw (w.row-is, w.f-is, w.i-is) (capital_step m (omega arith) (subst (CapitalAt _ _ _ _ _ _ _) w.in-Fit.is w.capital.ensures))
-      | else-is_upper+then-stands w ↦ rw (w.row-is, w.f-is, w.i-is) (sign_step m (omega arith) (subst (StandsAt _ _ _) w.if-stands.true w.stands.ensures))
+pub loop-t-preserved : goal.loop-t-preserved
+loop-t-preserved c =
+    let m = c.loop-t.invariant in
+    elim c.if-is_ascii_uppercase.branch [
+      | then-is_ascii_uppercase+in_ok-f w ↦ rw (w.row-is, w.f-is, w.i-is) (capital_step m (omega arith) w.in_ok-f.ensures)
+      | else-is_ascii_uppercase+then-stands w ↦ rw (w.row-is, w.f-is, w.i-is) (sign_step m (omega arith) w.if-stands.ensures)
     ]
 
-pub shape_of-row-then-text-i : goal.shape_of-row-then-text-i
-shape_of-row-then-text-i c = row_long c.loop-j.invariant
+pub returns-in_err-get : goal.returns-in_err-get
+returns-in_err-get c = rw c.from_residual-in_err-get.ensures (match_short c.loop-t.invariant (omega arith) c.in_err-get.ensures.lookup.3)
 
-pub returns-then-text-i : goal.returns-then-text-i
-returns-then-text-i c = match_short c.loop-j.invariant (omega arith) (omega arith)
+pub returns-in-LineFeed : goal.returns-in-LineFeed
+returns-in-LineFeed c =
+    let end = c.in_ok-get.ensures.lookup.3 in
+    match_whole c.loop-t.invariant (omega arith) end.0 (sym (end.1 0) ∙ class_feed _ (sym c.in-LineFeed.ensures))
 
-pub shape_of-row-then-class-eq-LINE_FEED : goal.shape_of-row-then-class-eq-LINE_FEED
-shape_of-row-then-class-eq-LINE_FEED c = row_long c.loop-j.invariant
-
-pub returns-then-class-eq-LINE_FEED : goal.returns-then-class-eq-LINE_FEED
-returns-then-class-eq-LINE_FEED c =
-    match_whole c.loop-j.invariant (omega arith) (omega arith)
-    (class_feed _ (sym c.class.ensures ∙ c.if-class-eq-LINE_FEED.true))
-
-pub shape_of-row : goal.shape_of-row
-shape_of-row c = row_long c.loop-j.invariant
-
-pub returns : goal.returns
-returns c =
-    match_long c.loop-j.invariant (omega arith) (omega arith)
-    (class_no_feed _ (λ e. c.if-class-eq-LINE_FEED.false (c.class.ensures ∙ e)))
+pub returns-in_default : goal.returns-in_default
+returns-in_default c =
+    let end = c.in_ok-get.ensures.lookup.3 in
+    match_long c.loop-t.invariant (omega arith) end.0
+    (λ e. class_no_feed c.in_ok-get.field-0.now (λ f. c.in_default.not-LineFeed (c.class_of.ensures ∙ f)) (end.1 0 ∙ e))

@@ -1,86 +1,67 @@
--- `text::number` meets its contract. The loop's invariant: the value is that of the digits passed, up to the limit.
--- The measure is what is left of the text. Assumes nothing.
-use native.Mathlib.Omega.{arith}
-use Prim.Native.Nat.{ℕ, ◌+◌, ◌*◌, ◌≤◌}
-use lib.ListN.{get_or}
-use mathlib.Core.Path.{sym, ◌∙◌}
+-- `text::number` meets its contract: each way out of it is a law of `Laws` on the digits that were read. Assumes nothing.
+use Rattle.std.proofs.Common.{arith, ◌≡◌, ◌+◌, ◌-◌, ◌*◌, ◌<◌, ◌≤◌, ℕ, List, sym, ◌∙◌, length, get_or}
 use borrow.Author.Tests.{ltb-true, ltb-false}
-use Rattle.text.proofs.Classes.{class_digit}
-use Rattle.text.proofs.Laws.{one_on, on_on, stop_at, over_at, number_end, number_no, number_zero, number_starts}
-use Rattle.text.proofs.Laws.{digits_step, digits_stop, digits_end, one_digit}
+use Rattle.text.specs.Text.{line_at}
+use Rattle.text.specs.Patterns.{number, digits}
+use Rattle.text.proofs.Laws.{Reading, one_on, on_on, stop_at, over_at, number_end, number_no, number_zero, number_starts}
+use Rattle.text.proofs.Laws.{digits_step, digits_stop, digits_end}
 use Rattle.text.proofs.number.Goals as goal
 
-pub returns-then-text-at : goal.returns-then-text-at
-returns-then-text-at c = number_end _ _ (omega arith)
+-- The first digit, which is not 0, starts a number.
+starts : (s : List ℕ) (at b v : ℕ) → at < length s → b ≡ get_or s at 0 → (48 ≤ b) × (b ≤ 57) × (v ≡ b - 48) → (v ≡ 0 → ⊥)
+    → number (line_at s at) ≡ digits v (line_at s (at + 1))
+starts s at b v h e d n = number_starts s at h (omega arith) (omega arith) (λ z. n (omega arith)) ∙ rw (d.2, e)
 
-pub returns-then-class-ne-DIGIT : goal.returns-then-class-ne-DIGIT
-returns-then-class-ne-DIGIT c = number_no _ _ (omega arith) (λ e. c.if-class-ne-DIGIT.true (c.class.ensures ∙ e))
+-- A further digit moves the value on.
+goes_on : {limit : ℕ} {s : List ℕ} {at v i : ℕ} (r : Reading limit s at v i) (d : ℕ) → i < length s
+    → (48 ≤ get_or s i 0) × (get_or s i 0 ≤ 57) × (d ≡ get_or s i 0 - 48) → number (line_at s at) ≡ digits (v * 10 + d) (line_at s (i + 1))
+goes_on {s = s} {v = v} {i} r d h k = r.reads ∙ (digits_step s i h v k.0 k.1 ∙ rw k.2)
 
-pub returns-then-b-eq48 : goal.returns-then-b-eq48
-returns-then-b-eq48 c = (number_zero _ _ (omega arith) c.if-b-eq48.true, omega arith, one_on _ _ (omega arith) (λ z. omega arith))
+pub returns-in_err-get : goal.returns-in_err-get
+returns-in_err-get c = rw c.from_residual.ensures (number_end _ _ c.in_err-get.ensures.lookup.3)
 
-pub overflow_sub-b : goal.overflow_sub-b
-overflow_sub-b c =
-    let first_byte : ℕ = get_or c.args.text.now c.args.at 0 in
-    let first-digit : (48 ≤ first_byte) × (first_byte ≤ 57) = class_digit _ (sym c.class.ensures ∙ c.if-class-ne-DIGIT.false) in omega (arith, first-digit.0)
+pub returns-in_err-value : goal.returns-in_err-value
+returns-in_err-value c =
+    let first = c.in_ok-get.ensures.lookup.3 in
+    rw c.from_residual-in_err-value.ensures (number_no c.args.text.now c.args.at first.0 (rw (← first.1 0) c.in_err-value.ensures))
 
-pub returns-then-limit-v : goal.returns-then-limit-v
-returns-then-limit-v c =
-    let first_byte : ℕ = get_or c.args.text.now c.args.at 0 in
-    let first-digit : (48 ≤ first_byte) × (first_byte ≤ 57) = class_digit _ (sym c.class.ensures ∙ c.if-class-ne-DIGIT.false) in
-    let r = first-digit in
-    over_at (one_on _ _ (omega arith) (λ z. omega arith))
-    (number_starts _ _ (omega arith) r.0 r.1 c.if-b-eq48.false ∙ rw c.wide-v.ensures)
-    c.if-limit-v.true c.digits_end.ensures
+pub returns-then-value-eq0 : goal.returns-then-value-eq0
+returns-then-value-eq0 c =
+    let first = c.in_ok-get.ensures.lookup.3 in
+    let b = first.1 0 in
+    let v = c.in_ok-value.ensures in
+    (number_zero _ _ first.0 (omega arith), omega arith, one_on _ _ first.0 (λ z. omega arith))
+
+pub returns-then-limit-value : goal.returns-then-limit-value
+returns-then-limit-value c =
+    let first = c.in_ok-get.ensures.lookup.3 in
+    let b = first.1 0 in
+    let v = c.in_ok-value.ensures in
+    over_at (one_on _ _ first.0 (λ z. omega arith)) (starts _ _ _ _ first.0 b v c.if-value-eq0.false) c.if-limit-value.true c.digits_end.ensures
 
 pub loop-i-init : goal.loop-i-init
 loop-i-init c =
-    let first_byte : ℕ = get_or c.args.text.now c.args.at 0 in
-    let first-digit : (48 ≤ first_byte) × (first_byte ≤ 57) = class_digit _ (sym c.class.ensures ∙ c.if-class-ne-DIGIT.false) in
-    let r = first-digit in
-    record {
-      on = one_on _ _ (omega arith) (λ z. omega arith);
-      small = omega arith;
-      reads = number_starts _ _ (omega arith) r.0 r.1 c.if-b-eq48.false ∙ rw c.wide-v.ensures;
-    }
+    let first = c.in_ok-get.ensures.lookup.3 in
+    let b = first.1 0 in
+    let v = c.in_ok-value.ensures in
+    record { on = one_on _ _ first.0 (λ z. omega arith); small = omega arith; reads = starts _ _ _ _ first.0 b v c.if-value-eq0.false }
 
-pub returns-then-class-ne-DIGIT-2 : goal.returns-then-class-ne-DIGIT-2
-returns-then-class-ne-DIGIT-2 c = stop_at c.loop-i.invariant (digits_stop _ _ (omega arith) _ (λ e. c.if-class-ne-DIGIT-2.true (c.class-in-loop-i.ensures ∙ e)))
-
-pub overflow_sub-c : goal.overflow_sub-c
-overflow_sub-c c =
-    let next-byte : ℕ = get_or c.args.text.now c.loop-i.i 0 in
-    let next-digit : (48 ≤ next-byte) × (next-byte ≤ 57) = class_digit _ (sym c.class-in-loop-i.ensures ∙ c.if-class-ne-DIGIT-2.false) in omega (arith, next-digit.0)
+pub returns-in_default : goal.returns-in_default
+returns-in_default c = stop_at c.loop-i.invariant (digits_stop c.args.text.now c.loop-i.i (omega arith) _ c.in_default.ensures)
 
 pub returns-then-exceeds : goal.returns-then-exceeds
 returns-then-exceeds c =
-    let next-byte : ℕ = get_or c.args.text.now c.loop-i.i 0 in
-    let next-digit : (48 ≤ next-byte) × (next-byte ≤ 57) = class_digit _ (sym c.class-in-loop-i.ensures ∙ c.if-class-ne-DIGIT-2.false) in
-    let r = next-digit in
-    let reading = c.loop-i.invariant in
-    let high = ltb-true _ _ (sym c.exceeds.ensures ∙ c.if-exceeds.true) in
-    over_at (on_on reading.on (one_on _ _ (omega arith) (λ z. omega arith)))
-    (reading.reads ∙ digits_step _ _ (omega arith) _ r.0 r.1) (rw (← c.wide-d.ensures) high) c.digits_end-then-exceeds.ensures
-
-pub overflow_mul-v : goal.overflow_mul-v
-overflow_mul-v c =
-    let low : c.loop-i.v * 10 + c.wide-d.result
-    ≤ c.args.limit = ltb-false _ _ (sym c.exceeds.ensures ∙ c.if-exceeds.false) in omega (arith, low)
-
-pub overflow_add-v : goal.overflow_add-v
-overflow_add-v c =
-    let low : c.loop-i.v * 10 + c.wide-d.result
-    ≤ c.args.limit = ltb-false _ _ (sym c.exceeds.ensures ∙ c.if-exceeds.false) in omega (arith, low)
+    let r = c.loop-i.invariant in
+    let d = c.in-Some.ensures in
+    over_at (on_on r.on (one_on _ _ (omega arith) (λ z. omega arith))) (goes_on r _ (omega arith) d) (ltb-true _ _ (sym c.if-exceeds.ensures)) c.digits_end-then-exceeds.ensures
 
 pub loop-i-preserved : goal.loop-i-preserved
 loop-i-preserved c =
-    let next-byte : ℕ = get_or c.args.text.now c.loop-i.i 0 in
-    let next-digit : (48 ≤ next-byte) × (next-byte ≤ 57) = class_digit _ (sym c.class-in-loop-i.ensures ∙ c.if-class-ne-DIGIT-2.false) in
-    let low : c.loop-i.v * 10 + c.wide-d.result
-    ≤ c.args.limit = ltb-false _ _ (sym c.exceeds.ensures ∙ c.if-exceeds.false) in
-    let r = next-digit in
-    rw c.wide-d.ensures
-    (one_digit c.loop-i.invariant (omega arith) r.0 r.1 (omega (arith, low, c.wide-d.ensures)))
+    let r = c.loop-i.invariant in
+    let d = c.in-Some.ensures in
+    record { on = on_on r.on (one_on _ _ (omega arith) (λ z. omega arith)); small = ltb-false _ _ (sym c.if-exceeds.ensures); reads = goes_on r _ (omega arith) d }
 
 pub returns : goal.returns
-returns c = stop_at c.loop-i.invariant (digits_end _ _ _ (omega arith))
+returns c =
+    let ended : c.loop-i.i ≡ length c.args.text.now = omega arith in
+    rw (← ended) (stop_at c.loop-i.invariant (digits_end _ _ _ (omega arith)))

@@ -1,0 +1,13 @@
+-- The kind of a form by the number that stands for it in a record.
+-- Assumes nothing: these are definitions.
+use Rattle.std.specs.Prelude.{ℕ, ◌<◌, ◌≡◌, Option, Some, None}
+use Rattle.rows.specs.declared.Kind.{Kind}
+use Rattle.rows.specs.declared.Kind.TheVariants.{Leaf, Call, Loop, If}
+
+-- The number stands for this kind: 0 leaf, 1 call, 2 loop, 3 if; a number over 3 stands for none.
+abbrev pub IsKind : Option Kind → ℕ → Type 0
+IsKind (Some Leaf) n = n ≡ 0
+IsKind (Some Call) n = n ≡ 1
+IsKind (Some Loop) n = n ≡ 2
+IsKind (Some If) n = n ≡ 3
+IsKind None n = 3 < n
