@@ -27,11 +27,11 @@ extern "C" {
 #endif
 
 /* The version of this header, to be compared by #if: 10000 * major + 100 * minor + patch. The library carries none: take both from one dist/. */
-#define ROLSIPAY_VERSION 10301            /* 1.3.1 */
+#define ROLSIPAY_VERSION 10302            /* 1.3.2 */
 
 /* The most stack that a call takes, in bytes, whatever it is given; docs/MEMORY.md tells how it was measured. */
-#define ROLSIPAY_STACK_READ 124928        /* rolsipay_read */
-#define ROLSIPAY_STACK_CALL 77824         /* rolsipay_release, rolsipay_report and rolsipay_end, each */
+#define ROLSIPAY_STACK_READ 88064         /* rolsipay_read */
+#define ROLSIPAY_STACK_CALL 28672         /* rolsipay_release, rolsipay_report and rolsipay_end, each */
 
 /* The limits. Of a longer row only the first ROLSIPAY_LEAVES records are used. */
 #define ROLSIPAY_TEXT 65536               /* bytes of a plan's text */

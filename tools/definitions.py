@@ -6,7 +6,7 @@ import sys
 from dataclasses import dataclass, field
 
 LIBRARY, LANGUAGE = ("mathlib.", "lib.", "Prim.", "native."), {"Type", "Unit", "tt", "⊤", "⊥", "¬", "×"}
-KEYWORDS = set("abbrev unfoldable pub data record module where → : = ; _ bool u8 u16 u32 u64 usize i64".split())
+KEYWORDS = set("abbrev unfoldable pub data record module where → : = ; _ bool u8 u16 u32 u64 usize i64 as".split())
 RUST_KINDS = {"struct": "record", "enum": "data", "type": "function", "const": "function"}
 HEAD = re.compile(r"((?:abbrev |unfoldable |pub )*)(data |record |module )?(\S+)")
 USE = re.compile(r"(?:ghost |pub )*use (\S+?)(?:\.\{(.*)\}| as ([^\s;]+));?")

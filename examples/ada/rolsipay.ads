@@ -7,11 +7,11 @@ with System;
 package Rolsipay is
 
    --  The version of this binding. The library carries none: take both from one dist/.
-   Version : constant := 10_301;
+   Version : constant := 10_302;
 
    --  The most stack that a call takes, in bytes: Read; Release, Report and Finish, each.
-   Stack_Read : constant := 124_928;
-   Stack_Call : constant := 77_824;
+   Stack_Read : constant := 88_064;
+   Stack_Call : constant := 28_672;
 
    Max_Text      : constant := 65_536;
    Max_Leaves    : constant := 512;

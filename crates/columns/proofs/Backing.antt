@@ -6,11 +6,11 @@ use native.Mathlib.Omega.{arith}
 use lib.ListN.{get_or}
 use lib.Seq.{sets}
 use Rattle.model.specs.Plan.{Lines, close}
-use Rattle.rows.specs.Rows.{after_at, Piece}
+use Rattle.rows.specs.Rows.{after_at, Part}
 use Rattle.rows.specs.First.{rest}
 use Rattle.columns.specs.Columns.{Rule, column_of}
 use Rattle.columns.specs.Private.{front, sibling, later, Kept, Listed}
-use Rattle.columns.proofs.Sizes.{no_part}
+use Rattle.rows.proofs.Shape.{no_lines}
 use Rattle.columns.proofs.Stores.{sets_before}
 use Rattle.columns.proofs.Fronts.{column_split, front_fill}
 use Rattle.columns.proofs.Listing.{later_part}
@@ -27,20 +27,20 @@ pub record Back (u : Rule) (w : List ℕ) (i : ℕ) (l : Lines) (s n t : ℕ) (o
   pub stands : t ≡ u.next (later n l) s
   pub done : o ≡ sets o₀ (sibling w i n) (column_of u (later n l) s)
 
-pub no_later : {w : List ℕ} {left i e n : ℕ} {o : List ℕ} → Listed w i e n o → (p : Piece w left i e) → later n p.part.lines ≡ close
-no_later {w} {left} {i} {e} {n} q p = no_part (let h = q.ends in omega arith) (later_part n {x = sibling w i n} q.inside refl p)
+pub no_later : {w hs : List ℕ} {left v i e n : ℕ} {o : List ℕ} → Listed w i e n o → (p : Part w hs left v i e) → later n p.lines ≡ close
+no_later {w} {i = i} {n = n} q p = no_lines (let h = q.ends in omega arith) (later_part n {x = sibling w i n} q.inside refl p)
 
-pub back_start : (u : Rule) {w : List ℕ} {left i e s n : ℕ} {o : List ℕ} (o₀ : List ℕ) → u.next close s ≡ s → Listed w i e n o → (p : Piece w left i e)
-    → Back u w i p.part.lines s n s o₀ o₀
+pub back_start : (u : Rule) {w hs : List ℕ} {left v i e s n : ℕ} {o : List ℕ} (o₀ : List ℕ) → u.next close s ≡ s → Listed w i e n o → (p : Part w hs left v i e)
+    → Back u w i p.lines s n s o₀ o₀
 unfolding column_of
-back_start u {w} {left} {i} {e} {s} {n} o₀ h q p = let c = no_later q p in record { stands = rw c (sym h); done = rw c }
+back_start u o₀ h q p = let c = no_later q p in record { stands = rw c (sym h); done = rw c }
 
-pub back_on : {u : Rule} {w : List ℕ} {left i e s m n t t' x : ℕ} {o o' o₀ : List ℕ} → n ≡ suc m → (p : Piece w left i e) → ((j : ℕ) → j < n → sibling w i j < e)
-    → x ≡ sibling w i m → Back u w i p.part.lines s n t o o₀ → t' ≡ u.next (later m p.part.lines) s
-    → o' ≡ sets o x (front u (later m p.part.lines) t) → Back u w i p.part.lines s m t' o' o₀
+pub back_on : {u : Rule} {w hs : List ℕ} {left v i e s m n t t' x : ℕ} {o o' o₀ : List ℕ} → n ≡ suc m → (p : Part w hs left v i e) → ((j : ℕ) → j < n → sibling w i j < e)
+    → x ≡ sibling w i m → Back u w i p.lines s n t o o₀ → t' ≡ u.next (later m p.lines) s
+    → o' ≡ sets o x (front u (later m p.lines) t) → Back u w i p.lines s m t' o' o₀
 unfolding sibling later
-back_on {u} {w} {left} {i} {e} {s} {m} {n} {t} {t'} {x} {o} {o'} {o₀} hn p lt hx q ht ho =
-    let k = later m p.part.lines in
+back_on {u} {w} {i = i} {e = e} {s} {m} {n} {t} {t'} {x} {o} {o'} {o₀} hn p lt hx q ht ho =
+    let k = later m p.lines in
     let below : (j : ℕ) → j < m → sibling w i j < e = λ j h. lt j (omega arith) in
     let d : o ≡ sets o₀ (after_at w (sibling w i m)) (column_of u (rest k) s) = rw hn at q.done in
     let a : t ≡ u.next (rest k) s = rw hn at q.stands in

@@ -1,14 +1,14 @@
 -- Sums held at the ceiling: a part that is held already changes nothing. Assumes nothing.
 use mathlib.Core.Path.{◌≡◌, sym, ap, ◌∙◌}
 use Prim.Native.Nat.{ℕ, zero, suc, ◌+◌, ◌*◌, ◌≤◌, max}
-use native.Mathlib.Nat.{mul-le-mul, suc-mul, zero-mul}
+use native.Mathlib.Nat.{suc-mul, zero-mul}
 use native.Mathlib.Decide.{dec_le}
 use native.Mathlib.Omega.{arith}
 use Rattle.model.specs.Plan.{Block}
 use Rattle.model.specs.Acceptance.{Costs}
 use Rattle.columns.specs.declared.Cost.{Cost}
 use Rattle.columns.specs.declared.Cost.TheVariants.{Isolated, MaxLoad}
-use Rattle.columns.specs.Sums.{limit, ceiling, cap, cost_in}
+use Rattle.columns.specs.Sums.{limit, cap, cost_in}
 
 pub cap_loop : (c n x : ℕ) → cap (c + n * (cap x + c)) ≡ cap (c + n * (x + c))
 cap_loop c zero x = omega (arith, zero-mul (cap x + c), zero-mul (x + c))
@@ -24,10 +24,6 @@ cap_max c a b = omega arith
 -- A number is over the limit exactly when it is over it as held.
 pub cap_low : (n : ℕ) → cap n ≤ limit → cap n ≡ n
 cap_low n h = omega arith
-
--- A loop's product fits with room.
-pub product : (c b y : ℕ) → c ≤ 1048576 → b ≤ 65535 → y ≤ ceiling → b * (y + c) ≤ 65535 * 2199024304128
-product c b y hc hb hy = let h : y + c ≤ 2199024304128 = omega arith in mul-le-mul hb h
 
 -- A leaf's cost is within its range.
 pub cost_le : (c : Cost) (b : Block) → Costs b → cost_in c b ≤ 1048576

@@ -1,36 +1,37 @@
 -- All functions: tails from the first to the last, silences, and stretches from the last to the first, within the limit. Assumes nothing.
 use mathlib.Core.Path.{◌≡◌, refl, ap, ◌∙◌}
 use mathlib.Core.List.{List, [], ◌∷◌}
-use Rattle.std.specs.Prelude.{Some, None}
+use Rattle.std.specs.Prelude.{None}
 use mathlib.Core.Logic.{◌⊎◌, inl, inr}
 use Prim.Native.Nat.{ℕ, zero, suc, ◌+◌, ◌-◌, ◌≤◌, ◌<◌, max}
 use native.Mathlib.Omega.{arith}
 use native.Mathlib.Decide.{dec_lt}
 use native.Mathlib.Numerals.{add-one}
-use lib.ListN.{length, get_or, set, replicate, length-set, length-replicate}
+use lib.ListN.{length, get_or, set, replicate, length-set}
 use lib.Seq.{sets, get_or-set_same, get_or-set_other}
 use Rattle.model.specs.Plan.{Block, C, Lines, close, leaf_line, call_line, loop_line, if_line}
 use Rattle.model.specs.Total.{tally}
 use Rattle.model.specs.Static.{line_silence}
+use Rattle.rows.specs.declared.Leaf.{Leaf}
+use Rattle.rows.specs.Leaves.{numbers}
 use Rattle.rows.specs.Rows.{Rules}
 use Rattle.rows.specs.Plans.{lines_of}
-use Rattle.rows.proofs.Plans.{plan_inside, plan_rules, heights_before}
+use Rattle.rows.proofs.Plans.{plan_rules, heights_before}
 use Rattle.columns.specs.declared.SilentSum.{SilentSum}
 use Rattle.columns.specs.Sums.{limit}
-use Rattle.columns.specs.Private.{Sized, silence_of, head_at, IsSilence, WithinLimit, WithinLimits}
+use Rattle.columns.specs.Private.{Sized, silence_of, head_at, IsSilence, WithinLimits}
 use Rattle.columns.proofs.Silences.{within}
 use Rattle.columns.specs.Columns.{column_of, tail_rule}
 use Rattle.columns.specs.Stretches.{stretch_rule, follow_call, follow_calls}
 use Rattle.columns.specs.Whole.{Summed, follows_after, stretches_written, tails_written}
 use Rattle.columns.proofs.Sizes.{round_le}
 use Rattle.columns.proofs.Widening.{silence_le}
-use Rattle.columns.proofs.Functions.{fun_part, zeros_at}
+use Rattle.columns.proofs.Functions.{fun_forms, zeros_at}
 
 -- A function with s behind it.
-abbrev pub fun_sized : {k : Block → ℕ} {w starts : List ℕ} {n : ℕ} {ts o : List ℕ} (v : Summed k w starts n ts o) (f s : ℕ) → f < n → s + get_or ts f 0 ≤ limit
-    → Sized k w ts o 62 (get_or starts f 0) (get_or starts (f + 1) 0) s
-fun_sized v f s lt h =
-    record { forms = fun_part v.plan f lt; held = (plan_inside v.plan f lt).0; few = (plan_inside v.plan f lt).1; small = omega (arith, v.exact.total f lt); noted = v.exact.rounds f lt }
+abbrev pub fun_sized : {k : Block → ℕ} {row : List Leaf} {starts : List ℕ} {n : ℕ} {ts o : List ℕ} (v : Summed k (numbers row) starts n ts o) (f s : ℕ) → f < n
+    → s + get_or ts f 0 ≤ limit → Sized k row ts o (get_or starts f 0) (get_or starts (f + 1) 0) s
+fun_sized v f s lt h = record { forms = fun_forms v.plan f lt; small = omega (arith, v.exact.total f lt); noted = v.exact.rounds f lt }
 
 -- Tails, function by function.
 pub tails_start : (ts : List ℕ) (F : ℕ → Lines) (starts o : List ℕ) → o ≡ tails_written ts F starts 0 o
@@ -43,9 +44,6 @@ pub tails_next : {w starts ts q : List ℕ} {n f : ℕ} {o o' : List ℕ} (o₀ 
 unfolding tails_written
 tails_next {w} {starts} {ts} {q} {n} {f} o₀ v lt h e =
     rw add-one (h ∙ ap (λ (u : List ℕ). sets u (get_or starts f 0) (column_of (tail_rule ts) (lines_of v.plan f) 0)) e)
-
-pub tails_end : (ts starts : List ℕ) (F : ℕ → Lines) (o₀ : List ℕ) {n f : ℕ} {o : List ℕ} → n ≤ f → f ≤ n → o ≡ tails_written ts F starts f o₀ → o ≡ tails_written ts F starts n o₀
-tails_end ts starts F o₀ {n} {f} a b h = let e : f ≡ n = omega arith in rw e at h
 
 -- What follows a function and its own total are within the limit.
 set_at : {A : Type 0} (d : A) (a : List A) (f : ℕ) (v : A) (g : ℕ) → (get_or (set a f v) g d ≡ get_or a g d) ⊎ ((g ≡ f) × (get_or (set a f v) g d ≡ v))
@@ -123,28 +121,15 @@ pub driven : {k : Block → ℕ} {w starts ms p : List ℕ} {n f : ℕ} {q : ℕ
 driven {n = n} {f = f} h d = let e : n - f ≡ n = omega arith in rw e at d.written
 
 -- Silences of functions: the first f of them are there.
-pub record Keeping (k : Block → ℕ) (w starts ms p : List ℕ) (n f : ℕ) (h : List SilentSum) : Type 0 where
+pub record Keeping (k : Block → ℕ) (row : List Leaf) (starts ms p : List ℕ) (n f : ℕ) (h : List SilentSum) : Type 0 where
   pub wide : length h ≡ 16
   pub under : WithinLimits h
-  pub right : (v : Summed k w starts n ms p) (g s : ℕ) → g < f → silence_of (head_at h g) s ≡ line_silence k ms (lines_of v.plan g) s
+  pub right : (v : Summed k (numbers row) starts n ms p) (g s : ℕ) → g < f → silence_of (head_at h g) s ≡ line_silence k ms (lines_of v.plan g) s
 
-silent_at : (k g : ℕ) → WithinLimit (head_at (replicate k (record { hit = 0; pass = Some 0 })) g)
-silent_at zero g = record { hit = omega arith; pass = λ x e. absurd (cc e) }
-silent_at (suc k) zero = record { hit = omega arith; pass = λ x e. let d : 0 ≡ x = cc e in omega arith }
-silent_at (suc k) (suc g) = silent_at k g
-
-pub keep_start : {k : Block → ℕ} {w starts ms p : List ℕ} {n : ℕ} → Keeping k w starts ms p n 0 (replicate 16 (record { hit = 0; pass = Some 0 }))
-keep_start =
-    record {
-      wide = length-replicate {A = SilentSum} 16 (record { hit = 0; pass = Some 0 });
-      under = λ f. silent_at 16 f;
-      right = λ v g s lt. absurd (omega arith);
-    }
-
-pub keep_on : {k : Block → ℕ} {w starts ms p : List ℕ} {n f : ℕ} {h : List SilentSum} {q : SilentSum} → f < n → n ≤ 16 → Summed k w starts n ms p
-    → ((z : Sized k w ms p 62 (get_or starts f 0) (get_or starts (f + 1) 0) 0) → IsSilence q (λ s. line_silence k ms z.forms.part.lines s) (tally k ms z.forms.part.lines))
-    → Keeping k w starts ms p n f h → Keeping k w starts ms p n (f + 1) (set h f q)
-keep_on {k} {w} {starts} {ms} {p} {n} {f} {h} {q} lt few v₀ hq r =
+pub keep_on : {k : Block → ℕ} {row : List Leaf} {starts ms p : List ℕ} {n f : ℕ} {h : List SilentSum} {q : SilentSum} → f < n → n ≤ 16 → Summed k (numbers row) starts n ms p
+    → ((z : Sized k row ms p (get_or starts f 0) (get_or starts (f + 1) 0) 0) → IsSilence q (λ s. line_silence k ms z.forms.part.lines s) (tally k ms z.forms.part.lines))
+    → Keeping k row starts ms p n f h → Keeping k row starts ms p n (f + 1) (set h f q)
+keep_on {k} {row} {starts} {ms} {p} {n} {f} {h} {q} lt few v₀ hq r =
     let low = within (hq (fun_sized v₀ f 0 lt (omega (arith, v₀.exact.small f lt)))) (omega (arith, v₀.exact.total f lt, v₀.exact.small f lt)) in
     let d : SilentSum = record { hit = 0; pass = None } in
     record {

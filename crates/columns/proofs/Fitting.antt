@@ -9,29 +9,32 @@ use lib.Dec.{eqb, leb}
 use mathlib.Core.Bool.{Bool, true, false}
 use Rattle.std.specs.Bool.{MatchBool}
 use Rattle.std.specs.List.{AllWithin, HoldsAt}
-use Rattle.std.proofs.lemmas.List.{get_or-take, get_or-drop, length-take, length-drop}
+use Rattle.std.proofs.lemmas.List.{get_or-take, get_or-drop, length-take, length-drop, length-map}
 use lib.ListN.{length, get_or, take, drop}
 use Rattle.std.proofs.lemmas.Bool.{false≢true, leb-true, eqb-true, eq-eqb}
 use Rattle.rows.specs.Answers.{Says}
 use Rattle.rows.proofs.Answers.{says}
 use Rattle.model.specs.Plan.{C, Lines, close, leaf_line, call_line, loop_line, if_line}
 use Rattle.model.specs.Total.{tally}
-use Rattle.rows.specs.Rows.{field, after_at, Rep, Piece}
+use Rattle.rows.specs.declared.Leaf.{Leaf}
+use Rattle.rows.specs.Leaves.{numbers, lent_turns, lent_tails}
+use Rattle.rows.specs.Rows.{field, after_at, Rep, Part}
 use Rattle.rows.specs.First.{rest}
-use Rattle.rows.proofs.Shape.{LoopAt, IfAt}
+use Rattle.rows.proofs.Shape.{LoopAt, IfAt, after, no_lines, body_in, then_in, else_in}
 use Rattle.columns.specs.Sums.{limit, lead}
 use Rattle.columns.specs.Columns.{column_of, held_turn, turn_rule, turns, rounds, tail_rule, Contains}
-use Rattle.columns.specs.Private.{front, AsDerived, AsDerivedFirst, Begins, LoopFits, IfFits, FunctionFits}
+use Rattle.columns.specs.Private.{front, Forms, AsDerived, AsDerivedFirst, Begins, LoopFits, IfFits, FunctionFits}
 use Rattle.columns.specs.Local.{AllDerived}
-use Rattle.columns.proofs.Sizes.{tally_split, body_part, then_part, else_part, after_part, no_part, loop_lead, round_le, round_back}
+use Rattle.columns.proofs.Sizes.{tally_split, loop_lead, round_le, round_back}
+use Rattle.columns.proofs.Inner.{after_forms}
 use Rattle.columns.proofs.Stores.{contains_both}
 use Rattle.columns.proofs.Fronts.{column_split, front_fill, contains_rest, contains_loop, contains_if, loop_holds, if_holds}
 use Rattle.columns.proofs.Summing.{loop_turn, if_turn}
 use Rattle.columns.proofs.Tailing.{loop_rounds, if_tail}
 
 -- The lines from i on are all that is left to walk of the lines l, which begin at `from`.
-pub record Walking (ts o u w : List ℕ) (left from i e s : ℕ) (l : Lines) : Type 0 where
-  pub more : Piece w left i e
+pub record Walking (ts o u : List ℕ) (row : List Leaf) (from i e s : ℕ) (l : Lines) : Type 0 where
+  pub more : Forms row i e
   pub back : AsDerived ts o u more.part.lines i s → AsDerived ts o u l from s
   pub on : AsDerived ts o u l from s → AsDerived ts o u more.part.lines i s
 
@@ -66,30 +69,30 @@ module _ (ts o u : List ℕ) where
   first_tail w v i e (loop_line b n body m) s r lt h = omega (arith, h.0)
   first_tail w v i e (if_line b t f m) s r lt h = omega (arith, h.0)
 
-  pub begins : {w : List ℕ} {left i e s x : ℕ} → Begins u i e s x → (p : Piece w left i e) → AsDerived ts o u p.part.lines i s
-      → x ≡ tally C ts p.part.lines + s
+  pub begins : {w hs : List ℕ} {left v i e s x : ℕ} → Begins u i e s x → (p : Part w hs left v i e) → AsDerived ts o u p.lines i s
+      → x ≡ tally C ts p.lines + s
   unfolding tally
-  begins {w} {left} {i} {e} {s} {x} b p f =
+  begins {w} {v = v} {i = i} {e = e} {s} b p f =
       elim (dec_lt i e) [
-        | yes lt ↦ b.there lt ∙ first_tail w p.level i e p.part.lines s p.part.rep lt f.tails_are
-        | no ge ↦ let le : e ≤ i = omega arith in omega (arith, b.none le, ap (tally C ts) (no_part le p))
+        | yes lt ↦ b.there lt ∙ first_tail w v i e p.lines s p.rep lt f.tails_are
+        | no ge ↦ let le : e ≤ i = omega arith in omega (arith, b.none le, ap (tally C ts) (no_lines le p))
       ]
 
   -- Lines fit exactly when the first form does, with what the others come to behind it, and the others do.
-  fits_split : {w : List ℕ} {left i e en s : ℕ} (lt : i < e) (p : Piece w left i e) → en ≡ after_at w i → AsDerived ts o u p.part.lines i s
-      → AsDerivedFirst ts o u p.part.lines i (tally C ts (rest p.part.lines) + s) × AsDerived ts o u (rest p.part.lines) en s
-  fits_split {w} {left} {i} {e} {en} {s} lt p he f =
+  fits_split : {w hs : List ℕ} {left v i e en s : ℕ} (lt : i < e) (p : Part w hs left v i e) → en ≡ after_at w i → AsDerived ts o u p.lines i s
+      → AsDerivedFirst ts o u p.lines i (tally C ts (rest p.lines) + s) × AsDerived ts o u (rest p.lines) en s
+  fits_split {s = s} lt p he f =
       let a = contains_rest (turn_rule C ts) o 0 lt p he f.turns_are in
       let b = contains_rest (tail_rule ts) u s lt p he f.tails_are in
-      let z = tally_split C ts p.part.lines in (
+      let z = tally_split C ts p.lines in (
         record { turns_are = a.0; tails_are = b.0; small = omega (arith, z, f.small) },
         record { turns_are = a.1; tails_are = b.1; small = omega (arith, z, f.small) },
       )
 
-  fits_join : {w : List ℕ} {left i e en s x : ℕ} (lt : i < e) (p : Piece w left i e) → en ≡ after_at w i → x ≡ tally C ts (rest p.part.lines) + s
-      → AsDerivedFirst ts o u p.part.lines i x → AsDerived ts o u (rest p.part.lines) en s → AsDerived ts o u p.part.lines i s
-  fits_join {w} {left} {i} {e} {en} {s} {x} lt p he hx f g =
-      let l = p.part.lines in
+  fits_join : {w hs : List ℕ} {left v i e en s x : ℕ} (lt : i < e) (p : Part w hs left v i e) → en ≡ after_at w i → x ≡ tally C ts (rest p.lines) + s
+      → AsDerivedFirst ts o u p.lines i x → AsDerived ts o u (rest p.lines) en s → AsDerived ts o u p.lines i s
+  fits_join {i = i} {en = en} {s} lt p he hx f g =
+      let l = p.lines in
       let y = tally C ts (rest l) + s in
       let a : Contains u i (front (tail_rule ts) l y) = rw hx at f.tails_are in
       record {
@@ -101,33 +104,33 @@ module _ (ts o u : List ℕ) where
       }
 
   -- No lines fit everywhere.
-  fits_none : {w : List ℕ} {left i e s : ℕ} → e ≤ i → s ≤ limit → (p : Piece w left i e) → AsDerived ts o u p.part.lines i s
+  fits_none : {w hs : List ℕ} {left v i e s : ℕ} → e ≤ i → s ≤ limit → (p : Part w hs left v i e) → AsDerived ts o u p.lines i s
   unfolding column_of Contains tally
-  fits_none {w} {left} {i} {e} {s} le low p =
-      subst (λ (l : Lines). AsDerived ts o u l i s) (sym (no_part le p)) (record { turns_are = tt; tails_are = tt; small = omega arith })
+  fits_none {i = i} {s = s} le low p =
+      subst (λ (l : Lines). AsDerived ts o u l i s) (sym (no_lines le p)) (record { turns_are = tt; tails_are = tt; small = omega arith })
 
   -- The walk over the forms.
-  pub walk_start : {w : List ℕ} {left i e s : ℕ} (p : Piece w left i e) → Walking ts o u w left i i e s p.part.lines
+  pub walk_start : {row : List Leaf} {i e s : ℕ} (p : Forms row i e) → Walking ts o u row i i e s p.part.lines
   walk_start p = record { more = p; back = λ f. f; on = λ f. f }
 
-  module _ {w : List ℕ} {left from i e en s x : ℕ} {l : Lines} (lt : i < e) (he : en ≡ after_at w i) (b : Begins u en e s x)
-      (q : Walking ts o u w left from i e s l) where
+  module _ {row : List Leaf} {from i e en s x : ℕ} {l : Lines} (lt : i < e) (he : en ≡ after_at (numbers row) i) (b : Begins u en e s x)
+      (q : Walking ts o u row from i e s l) where
     pub walk_refuse : (AsDerivedFirst ts o u q.more.part.lines i x → ⊥) → AsDerived ts o u l from s → ⊥
     walk_refuse h f =
-        let g = fits_split lt q.more he (q.on f) in
-        let z = begins b (after_part lt q.more he) g.1 in
+        let g = fits_split lt q.more.part he (q.on f) in
+        let z = begins b (after lt q.more.part he) g.1 in
         h (rw z g.0)
 
-    pub walk_next : AsDerivedFirst ts o u q.more.part.lines i x → Walking ts o u w left from en e s l
+    pub walk_next : AsDerivedFirst ts o u q.more.part.lines i x → Walking ts o u row from en e s l
     walk_next f =
         record {
-          more = after_part lt q.more he;
-          back = λ g. q.back (fits_join lt q.more he (begins b (after_part lt q.more he) g) f g);
-          on = λ g. (fits_split lt q.more he (q.on g)).1;
+          more = after_forms lt q.more he;
+          back = λ g. q.back (fits_join lt q.more.part he (begins b (after lt q.more.part he) g) f g);
+          on = λ g. (fits_split lt q.more.part he (q.on g)).1;
         }
 
-  pub walk_end : {w : List ℕ} {left from i e s : ℕ} {l : Lines} → e ≤ i → s ≤ limit → Walking ts o u w left from i e s l → AsDerived ts o u l from s
-  walk_end le low q = q.back (fits_none le low q.more)
+  pub walk_end : {row : List Leaf} {from i e s : ℕ} {l : Lines} → e ≤ i → s ≤ limit → Walking ts o u row from i e s l → AsDerived ts o u l from s
+  walk_end le low q = q.back (fits_none le low q.more.part)
 
   -- THE FIRST FORM, BY KIND
 
@@ -157,25 +160,25 @@ module _ (ts o u : List ℕ) where
   flat w v i e (loop_line b n body m) x r lt k2 k3 ho hu le = absurd (k2 r.0.0)
   flat w v i e (if_line b t g m) x r lt k2 k3 ho hu le = absurd (k3 r.0.0)
 
-  module _ {w : List ℕ} {left i e x : ℕ} (lt : i < e) (p : Piece w left i e) where
-    first_head : AsDerivedFirst ts o u p.part.lines i x → (get_or o i 0 ≡ held_turn C ts p.part.lines) × (get_or u i 0 ≡ lead C ts p.part.lines + x)
-    first_head f = heads w p.level i e p.part.lines x p.part.rep lt f
+  module _ {w hs : List ℕ} {left v i e x : ℕ} (lt : i < e) (p : Part w hs left v i e) where
+    first_head : AsDerivedFirst ts o u p.lines i x → (get_or o i 0 ≡ held_turn C ts p.lines) × (get_or u i 0 ≡ lead C ts p.lines + x)
+    first_head f = heads w v i e p.lines x p.rep lt f
 
     -- The tail is not below what follows the form, and within the limit.
-    pub first_within : AsDerivedFirst ts o u p.part.lines i x → (x ≤ get_or u i 0) × (get_or u i 0 ≤ limit)
+    pub first_within : AsDerivedFirst ts o u p.lines i x → (x ≤ get_or u i 0) × (get_or u i 0 ≤ limit)
     first_within f = (omega (arith, (first_head f).1), omega (arith, (first_head f).1, f.small))
 
     -- A form that is no loop has no round.
-    pub first_round : (field w i 0 ≡ 2 → ⊥) → AsDerivedFirst ts o u p.part.lines i x → get_or o i 0 ≡ 0
-    first_round k f = (first_head f).0 ∙ no_round w p.level i e p.part.lines p.part.rep lt k
+    pub first_round : (field w i 0 ≡ 2 → ⊥) → AsDerivedFirst ts o u p.lines i x → get_or o i 0 ≡ 0
+    first_round k f = (first_head f).0 ∙ no_round w v i e p.lines p.rep lt k
 
     -- A leaf or a call.
     pub flat_first : (field w i 0 ≡ 2 → ⊥) → (field w i 0 ≡ 3 → ⊥) → get_or o i 0 ≡ 0 → (x ≤ get_or u i 0) × (get_or u i 0 ≤ limit)
-        → get_or u i 0 - x ≡ lead C ts p.part.lines → AsDerivedFirst ts o u p.part.lines i x
+        → get_or u i 0 - x ≡ lead C ts p.lines → AsDerivedFirst ts o u p.lines i x
     flat_first k2 k3 ho b d =
-        flat w p.level i e p.part.lines x p.part.rep lt k2 k3 ho (omega (arith, b.0, d)) (omega (arith, b.0, b.1, d))
+        flat w v i e p.lines x p.rep lt k2 k3 ho (omega (arith, b.0, d)) (omega (arith, b.0, b.1, d))
 
-    pub first_flat : AsDerivedFirst ts o u p.part.lines i x → get_or u i 0 - x ≡ lead C ts p.part.lines
+    pub first_flat : AsDerivedFirst ts o u p.lines i x → get_or u i 0 - x ≡ lead C ts p.lines
     first_flat f = omega (arith, (first_head f).1)
 
   -- A loop: its tail, the sum of one round, and the body with what follows it in a first visit.
@@ -185,7 +188,7 @@ module _ (ts o u : List ℕ) where
     loop_first a d f =
         let c = field w i 2 in
         let b = begins_some u (i + 1) en (get_or u i 0 - get_or o i 0) in
-        let hy = begins b.1 (body_part he h) f in
+        let hy = begins b.1 (body_in he h) f in
         let ht = d.2 b.0 b.1 in
         let body = tally C ts h.body.lines in
         let n = field w i 4 in
@@ -233,7 +236,7 @@ module _ (ts o u : List ℕ) where
 
       pub first_loop : LoopFits w u i en (get_or u i 0) (get_or o i 0) x
       first_loop =
-          (first_rounds.0, first_rounds.1, λ y b. let hy = begins b (body_part he h) first_body in omega (arith, hy, turn_is, first_rounds.0))
+          (first_rounds.0, first_rounds.1, λ y b. let hy = begins b (body_in he h) first_body in omega (arith, hy, turn_is, first_rounds.0))
 
   -- An if: its tail, and both parts with what follows it.
   module _ {w hs : List ℕ} {left v i mid en x : ℕ} {l : Lines} (h : IfAt w hs left v i l) (hm : mid ≡ field w i 5) (he : en ≡ after_at w i) where
@@ -242,7 +245,7 @@ module _ (ts o u : List ℕ) where
     if_first ho low d f g =
         let a = begins_some u (i + 1) mid x in
         let b = begins_some u mid en x in
-        let et = d a.0 b.0 a.1 b.1 ∙ if_tail ts x h refl (begins a.1 (then_part hm h) f) (begins b.1 (else_part hm he h) g) refl in
+        let et = d a.0 b.0 a.1 b.1 ∙ if_tail ts x h refl (begins a.1 (then_in hm h) f) (begins b.1 (else_in hm he h) g) refl in
         record {
           turns_are = if_holds (turn_rule C ts) o 0 h hm (ho ∙ if_turn C ts h) f.turns_are g.turns_are;
           tails_are = if_holds (tail_rule ts) u x h hm et f.tails_are g.tails_are;
@@ -276,11 +279,11 @@ module _ (ts o u : List ℕ) where
           }
 
   -- The tail of an if that fits.
-  pub first_if : {w hs : List ℕ} {left left' v i e mid en x : ℕ} (lt : i < e) (p : Piece w left i e)
-      (h : IfAt w hs left' v i p.part.lines) (hm : mid ≡ field w i 5) (he : en ≡ after_at w i) → AsDerivedFirst ts o u p.part.lines i x → IfFits w u i mid en (get_or u i 0) x
+  pub first_if : {w hs : List ℕ} {left v i e mid en x : ℕ} (lt : i < e) (p : Part w hs left v i e)
+      (h : IfAt w hs left v i p.lines) (hm : mid ≡ field w i 5) (he : en ≡ after_at w i) → AsDerivedFirst ts o u p.lines i x → IfFits w u i mid en (get_or u i 0) x
   first_if {x = x} lt p h hm he f a b ha hb =
       (first_head lt p f).1 ∙
-      sym (if_tail ts x h refl (begins ha (then_part hm h) (first_then h hm he f)) (begins hb (else_part hm he h) (first_else h hm he f)) refl)
+      sym (if_tail ts x h refl (begins ha (then_in hm h) (first_then h hm he f)) (begins hb (else_in hm he h) (first_else h hm he f)) refl)
 
 -- THE FUNCTIONS
 
@@ -301,11 +304,11 @@ settled_says ts n false e le h = λ a.
     let g = get_or-take (16 - n) (drop n ts) h.0 0 (omega arith) in
     h.2 0 (omega (arith, g, get_or-drop n ts h.0 0, a (n + h.0) (omega arith) (omega arith)))
 
-module _ (ts o u starts : List ℕ) (F : ℕ → Lines) where
+module _ (ts starts : List ℕ) (F : ℕ → Lines) (row : List Leaf) where
   -- Where all functions fit, the lent numbers are theirs.
-  pub fits_derived : {n : ℕ} → ((f : ℕ) → f < n → FunctionFits ts o u starts F f) → ((f : ℕ) → n ≤ f → f < 16 → get_or ts f 0 ≡ 0)
-      → get_or starts n 0 ≤ length o → get_or starts n 0 ≤ length u → AllDerived F starts n ts o u
-  fits_derived a b lo lu =
+  pub fits_derived : {n : ℕ} → get_or starts n 0 ≤ length row → ((f : ℕ) → f < n → FunctionFits ts (lent_turns row) (lent_tails row) starts F f)
+      → ((f : ℕ) → n ≤ f → f < 16 → get_or ts f 0 ≡ 0) → AllDerived F starts n ts (lent_turns row) (lent_tails row)
+  fits_derived held a b =
       record {
         exact =
             record {
@@ -315,6 +318,10 @@ module _ (ts o u starts : List ℕ) (F : ℕ → Lines) where
             };
         tails = λ f lt. (a f lt).0.tails_are;
         behind = b;
-        turns_long = lo;
-        tails_long = lu;
+        turns_long = omega (arith, held, length-map row (λ (l : Leaf). l.turn));
+        tails_long = omega (arith, held, length-map row (λ (l : Leaf). l.tail));
       }
+
+  pub derived_fits : {n : ℕ} → AllDerived F starts n ts (lent_turns row) (lent_tails row) → (f : ℕ) → f < n → FunctionFits ts (lent_turns row) (lent_tails row) starts F f
+  derived_fits d f lt =
+      let e = d.exact.total f lt in (record { turns_are = d.exact.rounds f lt; tails_are = d.tails f lt; small = omega (arith, e, d.exact.small f lt) }, e)

@@ -7,12 +7,11 @@ use lib.ListN.{length, get_or, set, length-append}
 use Rattle.std.proofs.lemmas.List.{set-set}
 use lib.Seq.{sets}
 use Rattle.model.specs.Plan.{Block, Lines, close, leaf_line, call_line, loop_line, if_line}
-use Rattle.rows.specs.Rows.{field, after_at, block_at, Rep, Piece}
+use Rattle.rows.specs.Rows.{field, after_at, block_at, Rep, Part}
 use Rattle.rows.specs.First.{rest}
-use Rattle.rows.proofs.Shape.{LeafAt, CallAt, LoopAt, IfAt}
+use Rattle.rows.proofs.Shape.{LeafAt, CallAt, LoopAt, IfAt, then_in}
 use Rattle.columns.specs.Columns.{Rule, column_of, Contains}
 use Rattle.columns.specs.Private.{front}
-use Rattle.columns.proofs.Sizes.{then_part}
 use Rattle.columns.proofs.Stores.{sets_then, set_before, contains_append, contains_both}
 
 module _ (u : Rule) where
@@ -63,11 +62,11 @@ module _ (u : Rule) where
         length-append (column_of u t x) (column_of u f x),
       )
 
-  pub part_fill : {w : List ℕ} {left i e : ℕ} (p : Piece w left i e) (s : ℕ) → e ≡ i + length (column_of u p.part.lines s)
-  part_fill {w} {left} {i} {e} p s = sym (column_fill w p.level i e p.part.lines s p.part.rep)
+  pub part_fill : {w hs : List ℕ} {left v i e : ℕ} (p : Part w hs left v i e) (s : ℕ) → e ≡ i + length (column_of u p.lines s)
+  part_fill {w} {v = v} {i = i} {e = e} p s = sym (column_fill w v i e p.lines s p.rep)
 
-  pub front_fill : {w : List ℕ} {left i e en : ℕ} (lt : i < e) (p : Piece w left i e) (x : ℕ) → en ≡ after_at w i → en ≡ i + length (front u p.part.lines x)
-  front_fill {w} {left} {i} {e} lt p x he = he ∙ sym (rep_fill w p.level i e p.part.lines x p.part.rep lt)
+  pub front_fill : {w hs : List ℕ} {left v i e en : ℕ} (lt : i < e) (p : Part w hs left v i e) (x : ℕ) → en ≡ after_at w i → en ≡ i + length (front u p.lines x)
+  front_fill {w} {v = v} {i = i} {e = e} lt p x he = he ∙ sym (rep_fill w v i e p.lines x p.rep lt)
 
   -- What is written for the first form, by kind.
   as_leaf : (l r : Lines) (b : Block) (x : ℕ) → l ≡ leaf_line b r → u.value l x ∷ [] ≡ front u l x
@@ -103,9 +102,9 @@ module _ (u : Rule) where
   rep_plain o x y w v i e (if_line b t s r) h lt k2 k3 hy = absurd (k3 h.0.0)
 
   -- A leaf or a call.
-  pub plain_front : (o : List ℕ) (x : ℕ) {w : List ℕ} {left i e y : ℕ} → i < e → (p : Piece w left i e) → (field w i 0 ≡ 2 → ⊥) → (field w i 0 ≡ 3 → ⊥)
-      → y ≡ u.value p.part.lines x → set o i y ≡ sets o i (front u p.part.lines x)
-  plain_front o x {w} {left} {i} {e} {y} lt p k2 k3 hy = rep_plain o x y w p.level i e p.part.lines p.part.rep lt k2 k3 hy
+  pub plain_front : (o : List ℕ) (x : ℕ) {w hs : List ℕ} {left v i e y : ℕ} → i < e → (p : Part w hs left v i e) → (field w i 0 ≡ 2 → ⊥) → (field w i 0 ≡ 3 → ⊥)
+      → y ≡ u.value p.lines x → set o i y ≡ sets o i (front u p.lines x)
+  plain_front o x {w} {v = v} {i = i} {e = e} {y = y} lt p k2 k3 hy = rep_plain o x y w v i e p.lines p.rep lt k2 k3 hy
 
   whole_loop : (o : List ℕ) (x : ℕ) {w hs : List ℕ} {left v i : ℕ} {l : Lines} {y z : ℕ} → (h : LoopAt w hs left v i l) → y ≡ u.value l x → z ≡ u.inner l x
       → sets o i (y ∷ column_of u h.body.lines z) ≡ sets o i (front u l x)
@@ -148,7 +147,7 @@ module _ (u : Rule) where
   if_front o x {i = i} {mid = mid} {y = y} h hm hy h₁ h₂ =
       let ts = column_of u h.then.lines x in
       let es = column_of u h.else.lines x in
-      set_before y (ts ++ es) o i (i + 1) (sets_then ts es o (i + 1) mid h₁ h₂ (part_fill (then_part hm h) x)) refl ∙ whole_if o x h hy
+      set_before y (ts ++ es) o i (i + 1) (sets_then ts es o (i + 1) mid h₁ h₂ (part_fill (then_in hm h) x)) refl ∙ whole_if o x h hy
 
   -- The same, the if's own number first.
   pub front_if : (o : List ℕ) (x : ℕ) {w hs : List ℕ} {left v i mid : ℕ} {l : Lines} {o₁ o₂ : List ℕ} {y : ℕ} → (h : IfAt w hs left v i l) → mid ≡ field w i 5
@@ -158,15 +157,15 @@ module _ (u : Rule) where
       let ts = column_of u h.then.lines x in
       let es = column_of u h.else.lines x in
       let j : i + 1 ≡ suc i = omega arith in
-      let a : o₂ ≡ sets o i (y ∷ (ts ++ es)) = rw j at (sets_then ts es (set o i y) (i + 1) mid h₁ h₂ (part_fill (then_part hm h) x)) in
+      let a : o₂ ≡ sets o i (y ∷ (ts ++ es)) = rw j at (sets_then ts es (set o i y) (i + 1) mid h₁ h₂ (part_fill (then_in hm h) x)) in
       a ∙ whole_if o x h hy
 
   -- What stands there already, by kind.
-  pub contains_rest : (o : List ℕ) (s : ℕ) {w : List ℕ} {left i e en : ℕ} (lt : i < e) (p : Piece w left i e) → en ≡ after_at w i
-      → Contains o i (column_of u p.part.lines s)
-      → Contains o i (front u p.part.lines (u.next (rest p.part.lines) s)) × Contains o en (column_of u (rest p.part.lines) s)
-  contains_rest o s {w} {left} {i} {e} {en} lt p he h =
-      let l = p.part.lines in
+  pub contains_rest : (o : List ℕ) (s : ℕ) {w hs : List ℕ} {left v i e en : ℕ} (lt : i < e) (p : Part w hs left v i e) → en ≡ after_at w i
+      → Contains o i (column_of u p.lines s)
+      → Contains o i (front u p.lines (u.next (rest p.lines) s)) × Contains o en (column_of u (rest p.lines) s)
+  contains_rest o s {i = i} {en = en} lt p he h =
+      let l = p.lines in
       let x = u.next (rest l) s in
       contains_append (front u l x) (column_of u (rest l) s) o i en (rw (column_split l s) at h) (front_fill lt p x he)
 
@@ -186,7 +185,7 @@ module _ (u : Rule) where
       let e = as_if l h.then.lines h.else.lines (rest l) (block_at w i) x h.shape in
       let k = rw (sym e) at g in
       let j : suc i ≡ i + 1 = omega arith in
-      contains_append (column_of u h.then.lines x) (column_of u h.else.lines x) o (i + 1) mid (rw j at k.1) (part_fill (then_part hm h) x)
+      contains_append (column_of u h.then.lines x) (column_of u h.else.lines x) o (i + 1) mid (rw j at k.1) (part_fill (then_in hm h) x)
 
   -- The same the other way: a form's numbers, from the first one and those of the parts.
   pub loop_holds : (o : List ℕ) (x : ℕ) {w hs : List ℕ} {left v i : ℕ} {l : Lines} (h : LoopAt w hs left v i l) → get_or o i 0 ≡ u.value l x
@@ -203,5 +202,5 @@ module _ (u : Rule) where
   if_holds o x {w} {hs} {left} {v} {i} {mid} {l} h hm a f g =
       let e = as_if l h.then.lines h.else.lines (rest l) (block_at w i) x h.shape in
       let j : i + 1 ≡ suc i = omega arith in
-      let b = contains_both (column_of u h.then.lines x) (column_of u h.else.lines x) o (i + 1) mid (part_fill (then_part hm h) x) f g in
+      let b = contains_both (column_of u h.then.lines x) (column_of u h.else.lines x) o (i + 1) mid (part_fill (then_in hm h) x) f g in
       subst (λ (xs : List ℕ). Contains o i xs) e (a, rw j at b)

@@ -5,17 +5,20 @@ use Prim.Native.Nat.{ℕ, zero, suc, ◌+◌, ◌-◌, ◌≤◌, ◌<◌}
 use native.Mathlib.Nat.{not-suc-le-zero}
 use native.Mathlib.Decide.{dec_lt}
 use native.Mathlib.Omega.{arith}
-use lib.ListN.{length, get_or, set, replicate, length-set, length-append, length-replicate, get_or-append}
+use lib.ListN.{length, get_or, set, replicate, length-set, length-append, get_or-append}
 use lib.Seq.{sets, length-sets, get_or-set_same, get_or-set_other, get_or-append_seam}
 use Rattle.model.specs.Plan.{Block, Lines, close, leaf_line, call_line, loop_line, if_line}
 use Rattle.model.specs.Total.{tally}
 use Rattle.model.proofs.Targets.{Below}
-use Rattle.rows.specs.Rows.{Rules, Piece}
+use Rattle.rows.specs.declared.Leaf.{Leaf}
+use Rattle.rows.specs.Leaves.{numbers}
+use Rattle.rows.proofs.Leaves.{numbers_length}
+use Rattle.rows.specs.Rows.{Rules, Part}
 use Rattle.rows.proofs.Shape.{rep_le}
 use Rattle.rows.specs.Plans.{PlanOf, lines_of}
 use Rattle.rows.proofs.Plans.{plan_rep, plan_rules, heights_before, heights_count, plan_inside}
 use Rattle.columns.specs.Sums.{limit, ceiling, cap}
-use Rattle.columns.specs.Private.{Under}
+use Rattle.columns.specs.Private.{Under, Forms}
 use Rattle.columns.specs.Columns.{column_of, held_turn, turn_rule, turns, Contains}
 use Rattle.columns.specs.Whole.{known, Measured, Exact}
 use Rattle.columns.proofs.Capped.{cap_low, cap_both, cap_more, cap_rounds}
@@ -81,8 +84,8 @@ module _ {w starts : List ℕ} {n : ℕ} (v : PlanOf w starts n) where
   abbrev start : ℕ → ℕ
   start f = get_or starts f 0
 
-  abbrev pub fun_part : (f : ℕ) → f < n → Piece w 62 (get_or starts f 0) (get_or starts (f + 1) 0)
-  fun_part f lt = record { heights = heights_before v f; level = 1; part = record { lines = lines_of v f; rep = plan_rep {k = f} v lt; rules = plan_rules v f lt } }
+  abbrev pub fun_part : (f : ℕ) → f < n → Part w (heights_before v f) 62 1 (get_or starts f 0) (get_or starts (f + 1) 0)
+  fun_part f lt = record { lines = lines_of v f; rep = plan_rep {k = f} v lt; rules = plan_rules v f lt }
 
   pub fun_below : (f : ℕ) → f < n → Below f (lines_of v f)
   fun_below f lt = rw (heights_count v f lt) at (rules_below (heights_before v f) 62 1 (lines_of v f) (plan_rules v f lt))
@@ -101,33 +104,31 @@ module _ {w starts : List ℕ} {n : ℕ} (v : PlanOf w starts n) where
   pub fun_order : (f g : ℕ) → f < g → g ≤ n → start (f + 1) ≤ start g
   fun_order f g h l = in_order (g - f) f g (omega arith) h l
 
+-- The forms of a function.
+abbrev pub fun_forms : {row : List Leaf} {starts : List ℕ} {n : ℕ} → PlanOf (numbers row) starts n → (f : ℕ) → f < n → Forms row (get_or starts f 0) (get_or starts (f + 1) 0)
+fun_forms {row} v f lt =
+    record {
+      left = 62;
+      heights = heights_before v f;
+      level = 1;
+      part = fun_part v f lt;
+      held = omega (arith, (plan_inside v f lt).0, numbers_length row);
+      few = (plan_inside v f lt).1;
+    }
+
 -- The first f functions are measured, and the totals behind them are 0.
-pub record Measuring (k : Block → ℕ) (w starts : List ℕ) (n f : ℕ) (ts o : List ℕ) : Type 0 where
+pub record Measuring (k : Block → ℕ) (row : List Leaf) (starts : List ℕ) (n f : ℕ) (ts o : List ℕ) : Type 0 where
   pub under : Under ceiling ts
   pub long : length ts ≡ 16
   pub wide : length o ≡ 512
   pub behind : (g : ℕ) → f ≤ g → get_or ts g 0 ≡ 0
-  pub right : (v : PlanOf w starts n) (g : ℕ) → g < f → get_or ts g 0 ≡ cap (tally k (known k (lines_of v) g) (lines_of v g))
-  pub rounds : (v : PlanOf w starts n) (g : ℕ) → g < f → Contains o (get_or starts g 0) (turns k ts (lines_of v g))
+  pub right : (v : PlanOf (numbers row) starts n) (g : ℕ) → g < f → get_or ts g 0 ≡ cap (tally k (known k (lines_of v) g) (lines_of v g))
+  pub rounds : (v : PlanOf (numbers row) starts n) (g : ℕ) → g < f → Contains o (get_or starts g 0) (turns k ts (lines_of v g))
 
 pub zeros_at : (k g : ℕ) → ◌≡◌ {A = ℕ} (get_or (replicate k 0) g 0) 0
 zeros_at zero g = refl
 zeros_at (suc k) zero = refl
 zeros_at (suc k) (suc g) = zeros_at k g
-
-pub zeros_under : (m k : ℕ) → Under m (replicate k 0)
-zeros_under m k j = omega (arith, zeros_at k j)
-
-pub measure_start : {k : Block → ℕ} {w starts : List ℕ} {n : ℕ} (o : List ℕ) → length o ≡ 512 → Measuring k w starts n 0 (replicate 16 0) o
-measure_start o h =
-    record {
-      under = zeros_under ceiling 16;
-      long = length-replicate {A = ℕ} 16 0;
-      wide = h;
-      behind = λ g i. zeros_at 16 g;
-      right = λ v g i. absurd (omega arith);
-      rounds = λ v g i. absurd (omega arith);
-    }
 
 pub under_set : (m : ℕ) (a : List ℕ) (f v : ℕ) → v ≤ m → Under m a → Under m (set a f v)
 under_set m [] f v h k j = k j
@@ -136,24 +137,24 @@ under_set m (x ∷ a) zero v h k (suc j) = k (suc j)
 under_set m (x ∷ a) (suc f) v h k zero = k 0
 under_set m (x ∷ a) (suc f) v h k (suc j) = under_set m a f v h (λ i. k (suc i)) j
 
-pub measure_next : {k : Block → ℕ} {w starts : List ℕ} {n f t : ℕ} {ts o o' : List ℕ} → f < n → n ≤ 16 → PlanOf w starts n → t ≤ ceiling
-    → ((p : Piece w 62 (get_or starts f 0) (get_or starts (f + 1) 0)) → t ≡ cap (tally k ts p.part.lines))
-    → ((p : Piece w 62 (get_or starts f 0) (get_or starts (f + 1) 0)) → o' ≡ sets o (get_or starts f 0) (turns k ts p.part.lines))
-    → Measuring k w starts n f ts o → Measuring k w starts n (f + 1) (set ts f t) o'
-measure_next {k} {w} {starts} {n} {f} {t} {ts} {o} {o'} lt few v₀ le ht ho q =
+pub measure_next : {k : Block → ℕ} {row : List Leaf} {starts : List ℕ} {n f t : ℕ} {ts o o' : List ℕ} → f < n → n ≤ 16 → PlanOf (numbers row) starts n → t ≤ ceiling
+    → ((p : Forms row (get_or starts f 0) (get_or starts (f + 1) 0)) → t ≡ cap (tally k ts p.part.lines))
+    → ((p : Forms row (get_or starts f 0) (get_or starts (f + 1) 0)) → o' ≡ sets o (get_or starts f 0) (turns k ts p.part.lines))
+    → Measuring k row starts n f ts o → Measuring k row starts n (f + 1) (set ts f t) o'
+measure_next {k} {row} {starts} {n} {f} {t} {ts} {o} {o'} lt few v₀ le ht ho q =
     let s = get_or starts f 0 in
     let same : (g j : ℕ) → g ≤ f → j < g → get_or ts j 0 ≡ get_or (set ts f t) j 0 = λ g j a b. sym (get_or-set_other ts f j t 0 (omega arith)) in
     record {
       under = under_set ceiling ts f t le q.under;
       long = length-set ts f t ∙ q.long;
-      wide = ap length (ho (fun_part v₀ f lt)) ∙ length-sets o s (turns k ts (lines_of v₀ f)) ∙ q.wide;
+      wide = ap length (ho (fun_forms v₀ f lt)) ∙ length-sets o s (turns k ts (lines_of v₀ f)) ∙ q.wide;
       behind = λ g i. get_or-set_other ts f g t 0 (omega arith) ∙ q.behind g (omega arith);
       right = λ v g i. elim (dec_lt g f) [
         | yes h ↦ get_or-set_other ts f g t 0 (omega arith) ∙ q.right v g h
         | no h ↦
             let e : g ≡ f = omega arith in
             let F = lines_of v in
-            rw e (get_or-set_same ts f t 0 (omega (arith, q.long)) ∙ ht (fun_part v f lt) ∙
+            rw e (get_or-set_same ts f t 0 (omega (arith, q.long)) ∙ ht (fun_forms v f lt) ∙
             tally_held k ts (known k F f) f (λ j m. ap (λ (y : ℕ). cap y) (q.right v j m) ∙ held (tally k (known k F j) (F j)) ∙ ap (λ (y : ℕ). cap y) (sym (known_at k F f j m)))
             (F f) (fun_below v f lt))
       ];
@@ -161,14 +162,14 @@ measure_next {k} {w} {starts} {n} {f} {t} {ts} {o} {o'} lt few v₀ le ht ho q =
         | yes h ↦
             let x = turns_same k ts (set ts f t) g (λ j m. same g j (omega arith) m) (lines_of v g) (fun_below v g (omega arith)) in
             rw x at (contains_same (turns k ts (lines_of v g)) o o' (get_or starts g 0)
-            (λ j m. ap (λ (y : List ℕ). get_or y j 0) (ho (fun_part v f lt)) ∙
+            (λ j m. ap (λ (y : List ℕ). get_or y j 0) (ho (fun_forms v f lt)) ∙
             sets_below (turns k ts (lines_of v f)) o s j (omega (arith, part_fill (turn_rule k ts) (fun_part v g (omega arith)) 0, fun_order v g f h (omega arith))))
             (q.rounds v g h))
         | no h ↦
             let e : g ≡ f = omega arith in
             let x = turns_same k ts (set ts f t) f (λ j m. same f j (omega arith) m) (lines_of v f) (fun_below v f lt) in
             let y = contains_sets (turns k ts (lines_of v f)) o s (omega (arith, part_fill (turn_rule k ts) (fun_part v f lt) 0, (plan_inside v f lt).1, q.wide)) in
-            let z : Contains o' s (turns k ts (lines_of v f)) = rw (ho (fun_part v f lt)) y in
+            let z : Contains o' s (turns k ts (lines_of v f)) = rw (ho (fun_forms v f lt)) y in
             rw e (rw x at z)
       ];
     }
@@ -176,8 +177,8 @@ measure_next {k} {w} {starts} {n} {f} {t} {ts} {o} {o'} lt few v₀ le ht ho q =
     held : (x : ℕ) → cap (cap x) ≡ cap x
     held x = omega arith
 
-pub measured : {k : Block → ℕ} {w starts : List ℕ} {n f : ℕ} {ts o : List ℕ} → n ≤ f → Measuring k w starts n f ts o → (v : PlanOf w starts n) → Measured k (lines_of v) starts n ts o
-measured {k} {w} {starts} {n} {f} le q v =
+pub measured : {k : Block → ℕ} {row : List Leaf} {starts : List ℕ} {n f : ℕ} {ts o : List ℕ} → n ≤ f → Measuring k row starts n f ts o → (v : PlanOf (numbers row) starts n) → Measured k (lines_of v) starts n ts o
+measured {k} {n = n} le q v =
     record {
       totals = λ g h. q.right v g (omega arith) ∙ ap (λ (y : ℕ). cap y) (sym (known_at k (lines_of v) n g h));
       rounds = λ g h. q.rounds v g (omega arith);

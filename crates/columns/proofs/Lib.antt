@@ -2,12 +2,14 @@ pub mod Capped
 pub mod Stores
 pub mod Sizes
 pub mod Fronts
+pub mod Inner
 pub mod Summing
 pub mod Listing
 pub mod Readiness
 pub mod Backing
 pub mod Tailing
 pub mod Fitting
+pub mod Ranges
 pub mod Silences
 pub mod Widening
 pub mod Functions

@@ -1,5 +1,5 @@
 -- The forms of a sequence, one after the other. Assumes nothing.
-use mathlib.Core.Path.{◌≡◌, refl, sym, ap, ◌∙◌}
+use mathlib.Core.Path.{◌≡◌, refl, ap, ◌∙◌}
 use mathlib.Core.List.{List}
 use Prim.Native.Nat.{ℕ, zero, suc, ◌+◌, ◌≤◌, ◌<◌}
 use native.Mathlib.Decide.{dec_lt}
@@ -8,9 +8,9 @@ use native.Mathlib.Omega.{arith}
 use lib.ListN.{length, get_or, set, length-set}
 use lib.Seq.{get_or-set_same, get_or-set_other}
 use Rattle.model.specs.Plan.{Lines}
-use Rattle.rows.specs.Rows.{after_at, Rep, Rules, Piece}
+use Rattle.rows.specs.Rows.{after_at, Rep, Rules, Part}
 use Rattle.rows.proofs.Shape.{rep_rest, rules_rest, ends}
-use Rattle.columns.specs.Private.{sibling, later, Kept, Listed}
+use Rattle.columns.specs.Private.{sibling, later, Kept}
 
 -- The lines after the first k forms lie where form number k begins.
 pub rep_later : (w : List ℕ) (v i e k : ℕ) (l : Lines) → Rep w v i e l → ((j : ℕ) → j < k → sibling w i j < e) → Rep w v (sibling w i k) e (later k l)
@@ -23,18 +23,10 @@ unfolding later
 rules_later hs left v zero l h = h
 rules_later hs left v (suc k) l h = rules_rest hs left v (later k l) (rules_later hs left v k l h)
 
-abbrev pub later_part : {w : List ℕ} {left i e : ℕ} (k : ℕ) {x : ℕ} → ((j : ℕ) → j < k → sibling w i j < e) → x ≡ sibling w i k → Piece w left i e → Piece w left x e
-later_part {w} {left} {i} {e} k lt hx p =
-    record {
-      heights = p.heights;
-      level = p.level;
-      part =
-          record {
-            lines = later k p.part.lines;
-            rep = rw hx (rep_later w p.level i e k p.part.lines p.part.rep lt);
-            rules = rules_later p.heights left p.level k p.part.lines p.part.rules;
-          };
-    }
+abbrev pub later_part : {w hs : List ℕ} {left v i e : ℕ} (k : ℕ) {x : ℕ} → ((j : ℕ) → j < k → sibling w i j < e) → x ≡ sibling w i k → Part w hs left v i e
+    → Part w hs left v x e
+later_part {w} {hs} {left} {v} {i} {e} k lt hx p =
+    record { lines = later k p.lines; rep = rw hx (rep_later w v i e k p.lines p.rep lt); rules = rules_later hs left v k p.lines p.rules }
 
 -- What a list of the first n forms has: the next one begins at x.
 pub record Listing (w : List ℕ) (i e n x : ℕ) (o o₀ : List ℕ) : Type 0 where
@@ -59,11 +51,11 @@ list_start o le =
       kept = record { long = refl; same = λ j h. refl };
     }
 
-pub list_next : {w : List ℕ} {left i e n x en : ℕ} {o o₀ : List ℕ} → x < e → e ≤ 512 → length o₀ ≡ 512 → en ≡ after_at w x → Piece w left i e → Listing w i e n x o o₀
+pub list_next : {w hs : List ℕ} {left v i e n x en : ℕ} {o o₀ : List ℕ} → x < e → e ≤ 512 → length o₀ ≡ 512 → en ≡ after_at w x → Part w hs left v i e → Listing w i e n x o o₀
     → (x < en) × Listing w i e (n + 1) en (set o (i + n) x) o₀
 unfolding sibling
-list_next {w} {left} {i} {e} {n} {x} {en} {o} {o₀} lt few long he p q =
-    let g = ends lt (later_part n q.inside q.at p).part in
+list_next {w} {i = i} {e = e} {n} {x} {en} {o} lt few long he p q =
+    let g = ends lt (later_part n q.inside q.at p) in
     let room : i + n < length o = omega (arith, q.past, q.kept.long) in (
       omega (arith, g),
       record {
@@ -83,7 +75,3 @@ list_next {w} {left} {i} {e} {n} {x} {en} {o} {o₀} lt few long he p q =
             };
       },
     )
-
-pub listed : {w : List ℕ} {i e n x : ℕ} {o o₀ : List ℕ} → e ≤ x → Listing w i e n x o o₀ → Listed w i e n o
-listed le q =
-    record { ends = sym q.at ∙ (let e = q.low in omega arith); inside = q.inside; room = q.room; there = q.there }

@@ -10,13 +10,15 @@ use Rattle.model.specs.Plan.{Block, Lines, close, leaf_line, call_line, loop_lin
 use Rattle.model.specs.Total.{tally}
 use Rattle.model.specs.Places.{pick}
 use Rattle.model.specs.Static.{line_silence}
-use Rattle.rows.specs.Rows.{field, after_at, block_at, Rep, Piece}
+use Rattle.rows.specs.declared.Leaf.{Leaf}
+use Rattle.rows.specs.Leaves.{numbers}
+use Rattle.rows.specs.Rows.{field, after_at, block_at, Rep, Part}
 use Rattle.rows.specs.First.{rest}
-use Rattle.rows.proofs.Shape.{IfAt}
+use Rattle.rows.proofs.Shape.{IfAt, no_lines}
 use Rattle.columns.specs.declared.SilentSum.{SilentSum}
 use Rattle.columns.specs.Sums.{limit, lead}
 use Rattle.columns.specs.Private.{Sized, IsSilence, WithinLimit, first_silence}
-use Rattle.columns.proofs.Sizes.{tally_split, no_part, if_lead}
+use Rattle.columns.proofs.Sizes.{tally_split, if_lead}
 use Rattle.columns.proofs.Readiness.{after_sized}
 
 pub pick_yes : (p : Bool) (x y : ℕ) → p ≡ true → pick p x y ≡ x
@@ -70,50 +72,50 @@ as_if : (k : Block → ℕ) (ms : List ℕ) (l t f r : Lines) (b : Block) (s : �
 unfolding first_silence
 as_if k ms l t f r b s h q = rw h (sym (pick_no b.point 0 (k b + max (line_silence k ms t s) (line_silence k ms f s)) q))
 
-module _ (k : Block → ℕ) (ms : List ℕ) {w : List ℕ} {left i e : ℕ} (lt : i < e) (p : Piece w left i e) where
-  pub through_point : {v : ℕ} → v ≡ field w i 1 → v ≡ 1
-      → IsSilence (record { hit = 0; pass = None }) (λ s. first_silence k ms p.part.lines s) (lead k ms p.part.lines)
+module _ (k : Block → ℕ) (ms : List ℕ) {w hs : List ℕ} {left v i e : ℕ} (lt : i < e) (p : Part w hs left v i e) where
+  pub through_point : {b : ℕ} → b ≡ field w i 1 → b ≡ 1
+      → IsSilence (record { hit = 0; pass = None }) (λ s. first_silence k ms p.lines s) (lead k ms p.lines)
   through_point hv v1 =
-      stopping (λ s. sym (first_silence_point k ms w p.level i e p.part.lines s p.part.rep lt (sym hv ∙ v1))) (omega arith)
+      stopping (λ s. sym (first_silence_point k ms w v i e p.lines s p.rep lt (sym hv ∙ v1))) (omega arith)
 
-  pub through_plain : {v x : ℕ} → v ≡ field w i 1 → (v ≡ 1 → ⊥) → (field w i 0 ≡ 3 → ⊥) → x ≡ lead k ms p.part.lines
-      → IsSilence (record { hit = 0; pass = Some x }) (λ s. first_silence k ms p.part.lines s) (lead k ms p.part.lines)
+  pub through_plain : {b x : ℕ} → b ≡ field w i 1 → (b ≡ 1 → ⊥) → (field w i 0 ≡ 3 → ⊥) → x ≡ lead k ms p.lines
+      → IsSilence (record { hit = 0; pass = Some x }) (λ s. first_silence k ms p.lines s) (lead k ms p.lines)
   through_plain hv v1 d3 hx =
-      passing (λ s. omega (arith, hx, first_silence_plain k ms w p.level i e p.part.lines s p.part.rep lt (λ y. v1 (hv ∙ y)) d3)) (omega arith) (omega (arith, hx))
+      passing (λ s. omega (arith, hx, first_silence_plain k ms w v i e p.lines s p.rep lt (λ y. v1 (hv ∙ y)) d3)) (omega arith) (omega (arith, hx))
 
-  pub through_if : {v m : ℕ} {x y r : SilentSum} → v ≡ field w i 1 → (v ≡ 1 → ⊥) → m ≡ k (block_at w i) → (h : IfAt w p.heights left p.level i p.part.lines)
+  pub through_if : {b m : ℕ} {x y r : SilentSum} → b ≡ field w i 1 → (b ≡ 1 → ⊥) → m ≡ k (block_at w i) → (h : IfAt w hs left v i p.lines)
       → IsSilence x (λ s. line_silence k ms h.then.lines s) (tally k ms h.then.lines)
       → IsSilence y (λ s. line_silence k ms h.else.lines s) (tally k ms h.else.lines)
-      → ((f g : ℕ → ℕ) (a b : ℕ) → IsSilence x f a → IsSilence y g b → IsSilence r (λ s. m + max (f s) (g s)) (m + max a b))
-      → IsSilence r (λ s. first_silence k ms p.part.lines s) (lead k ms p.part.lines)
-  through_if {v} {m} hv v1 hm h hx hy hr =
-      let l = p.part.lines in
+      → ((f g : ℕ → ℕ) (a c : ℕ) → IsSilence x f a → IsSilence y g c → IsSilence r (λ s. m + max (f s) (g s)) (m + max a c))
+      → IsSilence r (λ s. first_silence k ms p.lines s) (lead k ms p.lines)
+  through_if {b} {m} hv v1 hm h hx hy hr =
+      let l = p.lines in
       silence_as (λ s. first_silence k ms l s) (hr _ _ _ _ hx hy)
       (λ s. ap (λ u. u + max (line_silence k ms h.then.lines s) (line_silence k ms h.else.lines s)) hm ∙
       as_if k ms l h.then.lines h.else.lines (rest l) (block_at w i) s h.shape (ne_eqb (field w i 1) 1 (λ y. v1 (hv ∙ y))))
       (omega (arith, if_lead k ms h))
 
 -- What a walk over the siblings has done.
-pub record SilenceSoFar (k : Block → ℕ) (w ms o : List ℕ) (left i e : ℕ) (acc : SilentSum) (f : ℕ → ℕ) (m : ℕ) : Type 0 where
-  pub more : Sized k w ms o left i e 0
+pub record SilenceSoFar (k : Block → ℕ) (row : List Leaf) (ms o : List ℕ) (i e : ℕ) (acc : SilentSum) (f : ℕ → ℕ) (m : ℕ) : Type 0 where
+  pub more : Sized k row ms o i e 0
   pub before : ℕ → ℕ
   pub sum : ℕ
   pub through : IsSilence acc before sum
   pub says : (s : ℕ) → before (line_silence k ms more.forms.part.lines s) ≡ f s
   pub total : sum + tally k ms more.forms.part.lines ≡ m
 
-pub walk_start : {k : Block → ℕ} {w ms o : List ℕ} {left i e : ℕ} (p : Sized k w ms o left i e 0) →
-    SilenceSoFar k w ms o left i e (record { hit = 0; pass = Some 0 }) (λ s. line_silence k ms p.forms.part.lines s) (tally k ms p.forms.part.lines)
+pub walk_start : {k : Block → ℕ} {row : List Leaf} {ms o : List ℕ} {i e : ℕ} (p : Sized k row ms o i e 0) →
+    SilenceSoFar k row ms o i e (record { hit = 0; pass = Some 0 }) (λ s. line_silence k ms p.forms.part.lines s) (tally k ms p.forms.part.lines)
 walk_start p =
     record { more = p; before = λ s. s; sum = 0; through = passing (λ s. omega arith) (omega arith) (omega arith); says = λ s. refl; total = omega arith }
 
-module _ {k : Block → ℕ} {w ms o : List ℕ} {left i e : ℕ} {acc : SilentSum} {f : ℕ → ℕ} {m : ℕ} (h : SilenceSoFar k w ms o left i e acc f m) where
+module _ {k : Block → ℕ} {row : List Leaf} {ms o : List ℕ} {i e : ℕ} {acc : SilentSum} {f : ℕ → ℕ} {m : ℕ} (h : SilenceSoFar k row ms o i e acc f m) where
   pub walk_low : m ≤ limit → WithinLimit acc
   walk_low l = record { hit = omega (arith, h.through.hit, h.total); pass = λ x e. omega (arith, h.through.pass x e, h.total) }
 
-  pub walk_next : {x r : SilentSum} {en : ℕ} (lt : i < e) → en ≡ after_at w i
+  pub walk_next : {x r : SilentSum} {en : ℕ} (lt : i < e) → en ≡ after_at (numbers row) i
       → IsSilence x (λ s. first_silence k ms h.more.forms.part.lines s) (lead k ms h.more.forms.part.lines)
-      → ((f g : ℕ → ℕ) (a b : ℕ) → IsSilence acc f a → IsSilence x g b → IsSilence r (λ s. f (g s)) (a + b)) → SilenceSoFar k w ms o left en e r f m
+      → ((f g : ℕ → ℕ) (a b : ℕ) → IsSilence acc f a → IsSilence x g b → IsSilence r (λ s. f (g s)) (a + b)) → SilenceSoFar k row ms o en e r f m
   walk_next lt he hx hr =
       let l = h.more.forms.part.lines in
       record {
@@ -129,7 +131,7 @@ module _ {k : Block → ℕ} {w ms o : List ℕ} {left i e : ℕ} {acc : SilentS
   unfolding line_silence
   walk_end le =
       record {
-        says = λ s. h.through.says s ∙ ap (λ (l : Lines). h.before (line_silence k ms l s)) (sym (no_part le h.more.forms)) ∙ h.says s;
+        says = λ s. h.through.says s ∙ ap (λ (l : Lines). h.before (line_silence k ms l s)) (sym (no_lines le h.more.forms.part)) ∙ h.says s;
         hit = omega (arith, h.through.hit, h.total);
         pass = λ x e'. omega (arith, h.through.pass x e', h.total);
       }

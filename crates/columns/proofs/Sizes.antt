@@ -11,9 +11,9 @@ use Rattle.std.specs.Prelude.{Some}
 use Rattle.rows.specs.declared.Kind.{Kind}
 use Rattle.rows.specs.declared.Kind.TheVariants.{Leaf, Call, Loop, If}
 use Rattle.rows.specs.Kinds.{IsKind}
-use Rattle.rows.specs.Rows.{field, kind_at, after_at, block_at, Rep, Piece}
+use Rattle.rows.specs.Rows.{field, block_at, Rep}
 use Rattle.rows.specs.First.{rest}
-use Rattle.rows.proofs.Shape.{LeafAt, CallAt, LoopAt, IfAt, call_at, loop_at, if_at, ends, parts, after, no_lines, body_in, then_in, else_in}
+use Rattle.rows.proofs.Shape.{LeafAt, CallAt, LoopAt, IfAt}
 use Rattle.columns.specs.Sums.{lead}
 
 pub tally_split : (k : Block → ℕ) (ts : List ℕ) (l : Lines) → tally k ts l ≡ lead k ts l + tally k ts (rest l)
@@ -23,22 +23,6 @@ tally_split k ts (leaf_line b r) = refl
 tally_split k ts (call_line b f r) = refl
 tally_split k ts (loop_line b n body r) = refl
 tally_split k ts (if_line b t e r) = refl
-
--- The lines inside, and after the first form.
-abbrev pub body_part : {w hs : List ℕ} {left l i en : ℕ} {ls : Lines} → en ≡ after_at w i → LoopAt w hs left l i ls → Piece w (left - 1) (i + 1) en
-body_part {w} {hs} {left} {l} he h = record { heights = hs; level = suc l; part = body_in he h }
-
-abbrev pub then_part : {w hs : List ℕ} {left l i mid : ℕ} {ls : Lines} → mid ≡ field w i 5 → IfAt w hs left l i ls → Piece w (left - 2) (i + 1) mid
-then_part {w} {hs} {left} {l} hm h = record { heights = hs; level = l; part = then_in hm h }
-
-abbrev pub else_part : {w hs : List ℕ} {left l i mid en : ℕ} {ls : Lines} → mid ≡ field w i 5 → en ≡ after_at w i → IfAt w hs left l i ls → Piece w (left - 2) mid en
-else_part {w} {hs} {left} {l} hm he h = record { heights = hs; level = l; part = else_in hm he h }
-
-abbrev pub after_part : {w : List ℕ} {left i e en : ℕ} → i < e → (p : Piece w left i e) → en ≡ after_at w i → Piece w left en e
-after_part lt p he = record { heights = p.heights; level = p.level; part = after lt p.part he }
-
-pub no_part : {w : List ℕ} {left i e : ℕ} → e ≤ i → (p : Piece w left i e) → p.part.lines ≡ close
-no_part le p = no_lines le p.part
 
 -- The first form's total, by kind.
 module _ (k : Block → ℕ) (ts : List ℕ) where
@@ -70,34 +54,13 @@ round_back zero t h = absurd (omega arith)
 round_back (suc n) t h = let e : suc n - 1 ≡ n = omega arith in rw (e, suc-mul n t) (omega arith)
 
 -- The kinds are 0 to 3.
-rep_kind : (w : List ℕ) (v i e : ℕ) (l : Lines) → Rep w v i e l → i < e → field w i 0 ≤ 3
+pub rep_kind : (w : List ℕ) (v i e : ℕ) (l : Lines) → Rep w v i e l → i < e → field w i 0 ≤ 3
 unfolding Rep
 rep_kind w v i e close h lt = absurd (omega arith)
 rep_kind w v i e (leaf_line b r) h lt = omega arith
 rep_kind w v i e (call_line b f r) h lt = omega arith
 rep_kind w v i e (loop_line b n body r) h lt = omega arith
 rep_kind w v i e (if_line b t s r) h lt = omega arith
-
-module _ {w : List ℕ} {left i e : ℕ} (lt : i < e) (p : Piece w left i e) where
-  pub kind_three : kind_at w i ≤ 3
-  kind_three = rep_kind w p.level i e p.part.lines p.part.rep lt
-
-  -- A call names a function.
-  pub call_target : kind_at w i ≡ 1 → field w i 4 < 16
-  call_target k = omega (arith, (call_at lt p.part refl k).target)
-
-  pub if_three : kind_at w i ≡ 3 → IfAt w p.heights left p.level i p.part.lines
-  if_three k = if_at lt p.part refl (λ x. omega arith) (λ x. omega arith) (λ x. omega arith)
-
-  -- The parts of a form lie within it, and their brackets may open.
-  pub loop_in : {en : ℕ} → kind_at w i ≡ 2 → en ≡ after_at w i → (1 ≤ left) × (en ≤ e)
-  loop_in k he = ((loop_at lt p.part refl k).opens, omega (arith, ends lt p.part, he))
-
-  pub if_in : {mid en : ℕ} → kind_at w i ≡ 3 → mid ≡ field w i 5 → en ≡ after_at w i → (2 ≤ left) × (i < mid) × (mid ≤ en) × (en ≤ e)
-  if_in k hm he =
-      let h = if_three k in
-      let d = parts hm he h in
-      (h.opens, d.0, d.1, omega (arith, ends lt p.part, he))
 
 -- What a kind is not.
 pub not_call : (k : Kind) {n : ℕ} → IsKind (Some k) n → (k ≡ Call → ⊥) → n ≡ 1 → ⊥

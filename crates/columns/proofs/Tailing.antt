@@ -1,19 +1,23 @@
 -- Tails, form by form. Plain mathematics: no code is named here. Assumes nothing.
 use mathlib.Core.Path.{◌≡◌, ap}
 use mathlib.Core.List.{List}
-use Prim.Native.Nat.{ℕ, suc, ◌+◌, ◌-◌, ◌*◌, ◌≤◌, ◌<◌, max}
+use Prim.Native.Nat.{ℕ, suc, ◌+◌, ◌-◌, ◌*◌, ◌≤◌, max}
 use native.Mathlib.Omega.{arith}
 use lib.ListN.{get_or}
 use Rattle.model.specs.Plan.{C, Lines, close}
 use Rattle.model.specs.Total.{tally}
+use Rattle.rows.specs.declared.Leaf.{Leaf}
+use Rattle.rows.specs.Leaves.{numbers}
 use Rattle.rows.specs.Rows.{field, block_at}
 use Rattle.rows.specs.First.{rest}
 use Rattle.rows.proofs.Shape.{LoopAt, IfAt}
-use Rattle.columns.specs.Sums.{limit, lead}
+use Rattle.columns.specs.declared.Cost.{Cost}
+use Rattle.columns.specs.declared.Cost.TheVariants.{Isolated}
+use Rattle.columns.specs.Sums.{limit, cost_in, lead}
 use Rattle.columns.specs.Columns.{rounds}
 use Rattle.columns.specs.Private.{Ready, later}
 use Rattle.columns.proofs.Sizes.{tally_split, loop_lead, if_lead, round_back}
-use Rattle.columns.proofs.Readiness.{ready_turn}
+use Rattle.columns.proofs.Readiness.{ready_turn, ready_zero}
 
 -- What follows the body of a loop, where x follows it.
 pub loop_rounds : (ts : List ℕ) (x : ℕ) {w hs : List ℕ} {left v i : ℕ} {l : Lines} (h : LoopAt w hs left v i l) →
@@ -22,17 +26,25 @@ unfolding rounds
 loop_rounds ts x h = ap (λ u. rounds ts u x) h.shape
 
 -- The same, where t is the tail of the loop.
-module _ {w ts o : List ℕ} {left i e x : ℕ} (lt : i < e) (z : Ready C w ts o left i e x) where
-  pub loop_behind : {hs : List ℕ} {v t : ℕ} (h : LoopAt w hs left v i z.forms.part.lines) → t ≡ lead C ts z.forms.part.lines + x
-      → (t - get_or o i 0 ≡ rounds ts z.forms.part.lines x) × (tally C ts h.body.lines + (t - get_or o i 0) ≤ limit) × (get_or o i 0 ≤ t)
-  loop_behind {hs} {v} {t} h ht =
-      let c = C (block_at w i) in
+module _ {row : List Leaf} {ts o : List ℕ} {i x : ℕ} (z : Ready C row ts o i x) where
+  pub loop_behind : {hs : List ℕ} {left v t : ℕ} (h : LoopAt (numbers row) hs left v i z.form.part.lines) → t ≡ lead C ts z.form.part.lines + x
+      → (t - get_or o i 0 ≡ rounds ts z.form.part.lines x) × (tally C ts h.body.lines + (t - get_or o i 0) ≤ limit) × (get_or o i 0 ≤ t)
+  loop_behind {t = t} h ht =
+      let c = C (block_at (numbers row) i) in
       let y = tally C ts h.body.lines in
-      let a = round_back (field w i 4) (y + c) h.least in
+      let a = round_back (field (numbers row) i 4) (y + c) h.least in
       let b = loop_lead C ts h in
-      let d = ready_turn lt z h in
+      let d = ready_turn z h in
       let r = loop_rounds ts x h in
       (omega (arith, a, b, d, r, ht), omega (arith, a, b, d, ht, z.small), omega (arith, a, b, d, ht))
+
+-- What is asked for the total of a form, and what it is, where the cost q is the isolated one.
+module _ {q : Cost} {row : List Leaf} {ts o : List ℕ} {i x : ℕ} (h : q ≡ Isolated) (z : Ready C row ts o i x) where
+  pub to_weigh : Ready (cost_in q) row ts o i 0
+  to_weigh = rw h (ready_zero z)
+
+  pub weighed : {y : ℕ} → ((p : Ready (cost_in q) row ts o i 0) → y ≡ lead (cost_in q) ts p.form.part.lines) → y + x ≡ lead C ts z.form.part.lines + x
+  weighed f = ap (λ (n : ℕ). n + x) ((rw h at f) (ready_zero z))
 
 -- The tail of an if.
 pub if_tail : (ts : List ℕ) (x : ℕ) {w hs : List ℕ} {left v i : ℕ} {l : Lines} {c a b m : ℕ} (h : IfAt w hs left v i l) → c ≡ C (block_at w i)

@@ -10,7 +10,7 @@ use Rattle.model.specs.Plan.{Block, Lines, close, leaf_line, call_line, loop_lin
 use Rattle.model.specs.Total.{tally}
 use Rattle.model.specs.Places.{pick}
 use Rattle.model.specs.Static.{line_silence}
-use Rattle.rows.specs.Rows.{field, block_at, Rep, Piece}
+use Rattle.rows.specs.Rows.{field, block_at, Rep, Part}
 use Rattle.rows.specs.First.{rest}
 use Rattle.rows.proofs.Shape.{LeafAt, CallAt, LoopAt, IfAt}
 use Rattle.columns.specs.declared.SilentSum.{SilentSum}
@@ -60,10 +60,10 @@ rep_plain k ms w v i e (call_line b f r) s h lt d = ap (λ (y : Block). pick y.p
 rep_plain k ms w v i e (loop_line b n body r) s h lt d = ap (λ (y : Block). pick y.point 0 (k b + n * (tally k ms body + k b) + s)) (sym h.0.1)
 rep_plain k ms w v i e (if_line b t f r) s h lt d = absurd (d h.0.0)
 
-pub plain_silence : (k : Block → ℕ) (ms : List ℕ) (s : ℕ) {w : List ℕ} {left i e y r : ℕ} → i < e → (p : Piece w left i e) → (field w i 0 ≡ 3 → ⊥)
-    → y ≡ lead k ms p.part.lines → r ≡ pick (block_at w i).point 0 (y + s) → r ≡ first_silence k ms p.part.lines s
-plain_silence k ms s {w} {left} {i} {e} {y} {r} lt p k3 hy hr =
-    hr ∙ ap (λ (z : ℕ). pick (block_at w i).point 0 (z + s)) hy ∙ rep_plain k ms w p.level i e p.part.lines s p.part.rep lt k3
+pub plain_silence : (k : Block → ℕ) (ms : List ℕ) (s : ℕ) {w hs : List ℕ} {left v i e y r : ℕ} → i < e → (p : Part w hs left v i e) → (field w i 0 ≡ 3 → ⊥)
+    → y ≡ lead k ms p.lines → r ≡ pick (block_at w i).point 0 (y + s) → r ≡ first_silence k ms p.lines s
+plain_silence k ms s {w} {v = v} {i = i} {e = e} lt p k3 hy hr =
+    hr ∙ ap (λ (z : ℕ). pick (block_at w i).point 0 (z + s)) hy ∙ rep_plain k ms w v i e p.lines s p.rep lt k3
 
 pub if_silence : (k : Block → ℕ) (ms : List ℕ) (s : ℕ) {w hs : List ℕ} {left v i : ℕ} {l : Lines} {c a b m r : ℕ} (h : IfAt w hs left v i l) → c ≡ k (block_at w i)
     → a ≡ line_silence k ms h.then.lines s → b ≡ line_silence k ms h.else.lines s → m ≡ max a b → r ≡ pick (block_at w i).point 0 (c + m) → r ≡ first_silence k ms l s

@@ -1,18 +1,23 @@
 -- What only the private functions promise. Nothing of this stands in the contract of a public one.
 -- Assumes nothing: these are definitions.
-use Rattle.std.specs.Prelude.{List, [], ◌∷◌, ◌++◌, ℕ, ◌+◌, ◌-◌, ◌*◌, ◌≤◌, max, suc, zero, ◌<◌, get_or, length, ◌≡◌, Option, Some, None}
+use Rattle.std.specs.Prelude.{List, [], ◌∷◌, ◌++◌, ℕ, ◌+◌, ◌-◌, ◌*◌, ◌≤◌, max, suc, zero, ◌<◌, get_or, length, ◌≡◌, Option, Some, None, Bool}
 use Rattle.model.specs.Plan.{Block, C, Lines, close, leaf_line, call_line, loop_line, if_line}
 use Rattle.model.specs.Total.{tally}
 use Rattle.model.specs.Places.{pick}
 use Rattle.columns.specs.Sums.{limit, lead}
-use Rattle.rows.specs.Rows.{Piece, field, after_at}
+use Rattle.rows.specs.declared.Leaf.{Leaf}
+use Rattle.rows.specs.Rows.{Part, field, after_at}
 use Rattle.columns.specs.Columns.{Rule, column_of, turn_rule, turns, tail_rule, Contains}
+use Rattle.rows.specs.Leaves.{numbers, lent_turns, lent_tails}
 use Rattle.rows.specs.First.{rest}
+use Rattle.rows.specs.Plans.{CodePlan, lines_of}
+use Rattle.rows.specs.Answers.{Says}
 use Rattle.model.specs.Static.{line_silence}
 use Rattle.columns.specs.declared.SilentSum.{SilentSum}
 use Rattle.columns.specs.declared.Walk.{Walk}
 use Rattle.columns.specs.declared.Lent.{Lent}
 use Rattle.columns.specs.Stretches.{follow_call, follow_calls}
+use Rattle.columns.specs.Whole.{CodeSummed}
 
 -- None of the numbers is over m.
 abbrev pub Under : ℕ → List ℕ → Type 0
@@ -26,28 +31,47 @@ front u (call_line b f r) x = u.value (call_line b f r) x ∷ []
 front u (loop_line b n body r) x = u.value (loop_line b n body r) x ∷ column_of u body (u.inner (loop_line b n body r) x)
 front u (if_line b t e r) x = u.value (if_line b t e r) x ∷ (column_of u t x ++ column_of u e x)
 
--- Lines that the row holds, whose total, with the s that follows them, is within the limit, and the sums of whose rounds stand in o.
-pub record Sized (k : Block → ℕ) (w ts o : List ℕ) (left i e s : ℕ) : Type 0 where
-  pub forms : Piece w left i e
-  pub held : e * 8 ≤ length w
+-- The leaves hold forms from i up to e, in which `left` brackets may open.
+pub record Forms (row : List Leaf) (i e : ℕ) : Type 0 where
+  pub left : ℕ
+  pub heights : List ℕ
+  pub level : ℕ
+  pub part : Part (numbers row) heights left level i e
+  pub held : e ≤ length row
   pub few : e ≤ 512
+
+-- They hold a form at i: the first of those up to `end`.
+pub record Form (row : List Leaf) (i : ℕ) : Type 0 where
+  pub left : ℕ
+  pub heights : List ℕ
+  pub level : ℕ
+  pub end : ℕ
+  pub part : Part (numbers row) heights left level i end
+  pub some : i < end
+  pub held : end ≤ length row
+  pub few : end ≤ 512
+
+-- The total of forms, with the s that follows them, is within the limit, and the sums of their rounds stand in o.
+pub record Sized (k : Block → ℕ) (row : List Leaf) (ts o : List ℕ) (i e s : ℕ) : Type 0 where
+  pub forms : Forms row i e
   pub small : tally k ts forms.part.lines + s ≤ limit
   pub noted : Contains o i (turns k ts forms.part.lines)
 
--- The same of the first form, which x follows.
-pub record Ready (k : Block → ℕ) (w ts o : List ℕ) (left i e x : ℕ) : Type 0 where
-  pub forms : Piece w left i e
-  pub held : e * 8 ≤ length w
-  pub few : e ≤ 512
-  pub small : lead k ts forms.part.lines + x ≤ limit
-  pub noted : Contains o i (turns k ts forms.part.lines)
+-- The same of the form at i, which x follows.
+pub record Ready (k : Block → ℕ) (row : List Leaf) (ts o : List ℕ) (i x : ℕ) : Type 0 where
+  pub form : Form row i
+  pub small : lead k ts form.part.lines + x ≤ limit
+  pub noted : Contains o i (turns k ts form.part.lines)
 
 -- The same of what a walk goes by.
-abbrev pub SizedIn : (Block → ℕ) → Walk → ℕ → ℕ → ℕ → ℕ → Type 0
-SizedIn k a left i e s = Sized k a.row.now a.sums.now a.turn.now left i e s
+abbrev pub SizedIn : (Block → ℕ) → Walk → ℕ → ℕ → ℕ → Type 0
+SizedIn k a i e s = Sized k a.code.row.now a.sums.now a.turn.now i e s
 
-abbrev pub ReadyIn : (Block → ℕ) → Walk → ℕ → ℕ → ℕ → ℕ → Type 0
-ReadyIn k a left i e x = Ready k a.row.now a.sums.now a.turn.now left i e x
+abbrev pub ReadyIn : (Block → ℕ) → Walk → ℕ → ℕ → Type 0
+ReadyIn k a i x = Ready k a.code.row.now a.sums.now a.turn.now i x
+
+abbrev pub SummedIn : (Block → ℕ) → Walk → Type 0
+SummedIn k a = CodeSummed k a.code a.sums.now a.turn.now
 
 -- The first leaf of form number k of the sequence that begins at i.
 unfoldable pub sibling : List ℕ → ℕ → ℕ → ℕ
@@ -144,15 +168,16 @@ IfFits w u i m e t x = (a b : ℕ) → Begins u (i + 1) m x a → Begins u m e x
 abbrev pub FunctionFits : List ℕ → List ℕ → List ℕ → List ℕ → (ℕ → Lines) → ℕ → Type 0
 FunctionFits ts o u starts F f = AsDerived ts o u (F f) (get_or starts f 0) 0 × (get_or ts f 0 ≡ tally C ts (F f))
 
--- The same of what is lent, whose lists reach up to e.
-abbrev pub Holds : Lent → ℕ → Type 0
-Holds a e = (e * 8 ≤ length a.row.now) × (e ≤ length a.turn.now) × (e ≤ length a.tail.now)
-
+-- The same of what is lent.
 abbrev pub DerivedIn : Lent → Lines → ℕ → ℕ → Type 0
-DerivedIn a l i e = AsDerived a.sums.now a.turn.now a.tail.now l i e
+DerivedIn a l i e = AsDerived a.sums.now (lent_turns a.code.row.now) (lent_tails a.code.row.now) l i e
 
 abbrev pub FirstIn : Lent → Lines → ℕ → ℕ → Type 0
-FirstIn a l i x = AsDerivedFirst a.sums.now a.turn.now a.tail.now l i x
+FirstIn a l i x = AsDerivedFirst a.sums.now (lent_turns a.code.row.now) (lent_tails a.code.row.now) l i x
 
-abbrev pub FunctionIn : Lent → List ℕ → (ℕ → Lines) → ℕ → Type 0
-FunctionIn a starts F f = FunctionFits a.sums.now a.turn.now a.tail.now starts F f
+abbrev pub FunctionIn : Lent → (ℕ → Lines) → ℕ → Type 0
+FunctionIn a F f = FunctionFits a.sums.now (lent_turns a.code.row.now) (lent_tails a.code.row.now) a.code.bounds.now F f
+
+-- The answer b says whether that is so of the function f, by the plan whose code is lent.
+pub record FunctionAnswer (a : Lent) (f : ℕ) (b : Bool) : Type 0 where
+  pub says : (v : CodePlan a.code) → Says b (FunctionIn a (lines_of v) f)

@@ -3,6 +3,8 @@ use Rattle.std.specs.Prelude.{◌≡◌, List, [], ◌∷◌, ◌++◌, ℕ, zer
 use Rattle.std.proofs.lemmas.List.Edits.{sets}
 use Rattle.model.specs.Plan.{Block, C, M, Lines}
 use Rattle.model.specs.Total.{tally}
+use Rattle.rows.specs.declared.Code.{Code}
+use Rattle.rows.specs.Leaves.{numbers}
 use Rattle.rows.specs.Plans.{PlanOf, lines_of}
 use Rattle.columns.specs.Sums.{limit, cap}
 use Rattle.columns.specs.Columns.{column_of, turns, tail_rule, Contains}
@@ -50,3 +52,10 @@ stretches_written k ms q F starts n (suc j) o =
 unfoldable pub tails_written : List ℕ → (ℕ → Lines) → List ℕ → ℕ → List ℕ → List ℕ
 tails_written ts F starts zero o = o
 tails_written ts F starts (suc k) o = sets (tails_written ts F starts k o) (get_or starts k 0) (column_of (tail_rule ts) (F k) 0)
+
+-- The same of a code that is lent, at one cost or at both.
+abbrev pub CodeSummed : (Block → ℕ) → Code → List ℕ → List ℕ → Type 0
+CodeSummed k c ts o = Summed k (numbers c.row.now) c.bounds.now c.functions ts o
+
+abbrev pub CodeSummedBoth : Code → List ℕ → List ℕ → List ℕ → List ℕ → Type 0
+CodeSummedBoth c cs o ms p = SummedBoth (numbers c.row.now) c.bounds.now c.functions cs o ms p

@@ -25,7 +25,7 @@ get_d_at a v z zero q = refl
 get_d_at [] v z (suc l) q = absurd (omega arith)
 get_d_at (x ∷ a) v z (suc l) q = get_d_at a v z l (omega arith)
 
-pub put_below : (a : List ℕ) (l v k : ℕ) → length a ≡ 33 → l ≤ 32 → k < l → get_or (put a l v) k 0 ≡ get_or a k 0
+put_below : (a : List ℕ) (l v k : ℕ) → length a ≡ 33 → l ≤ 32 → k < l → get_or (put a l v) k 0 ≡ get_or a k 0
 put_below a l v k h q i = get_d_take a (v ∷ replicate (32 - l) 0) l k i (omega arith)
 
 pub put_at : (a : List ℕ) (l v : ℕ) → length a ≡ 33 → l ≤ 32 → get_or (put a l v) l 0 ≡ v

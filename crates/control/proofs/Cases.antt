@@ -25,16 +25,16 @@ use Rattle.control.specs.Cases.{Case, worst_of_A, cases, CaseHolds, CasesHold}
 -- The same calls on the plan itself.
 AnsweredOn : Plan → State → List Exchange → Type 0
 AnsweredOn p s [] = Unit
-AnsweredOn p s (x ∷ xs) = ((on_state p s x.call (read_state p s s.running)).answer ≡ x.answer) × AnsweredOn p (on_state p s x.call (read_state p s s.running)).state xs
+AnsweredOn p s (x ∷ xs) = ((on_state p s x.call (read_state p s)).answer ≡ x.answer) × AnsweredOn p (on_state p s x.call (read_state p s)).state xs
 
 on_plans : (p : Plan) → Accepted p → (s : State) (xs : List Exchange) → AnsweredOn p s xs → Answered (controller_of (table_of p)) s xs
 unfolding Answered AnsweredOn call_on
 on_plans p a s [] u = tt
 on_plans p a s (x ∷ xs) (e, u) =
-    let i : call_on (table_of p) s x.call ≡ on_state p s x.call (read_state p s s.running) =
+    let i : call_on (table_of p) s x.call ≡ on_state p s x.call (read_state p s) =
     ap (λ o. on_plan s x.call o) ((plan_of_exactly (table_of p) p).1 (a, refl)) in (
       ap (λ r. r.answer) i ∙ e,
-      subst (λ r. Answered (controller_of (table_of p)) r.state xs) (sym i) (on_plans p a (on_state p s x.call (read_state p s s.running)).state xs u),
+      subst (λ r. Answered (controller_of (table_of p)) r.state xs) (sym i) (on_plans p a (on_state p s x.call (read_state p s)).state xs u),
     )
 
 right : (c : Case) → Accepted c.plan → (table_of c.plan).head.total ≡ c.total → (table_of c.plan).head.max_load_total ≡ c.max_total → (table_of c.plan).stretches ≡ c.stretches →

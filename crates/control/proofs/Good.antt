@@ -1,4 +1,4 @@
--- Rule 11's second part: a state is good exactly when it stands at the release with the times of the release, or some run of the plan stands at its
+-- Rule 11's second part: an open release is good exactly when it stands at the release with the times of the release, or some run of the plan stands at its
 -- stack and its remaining times are that run's 33. The document's 33 times are single numbers, so they can be compared.
 use mathlib.Core.Bool.{Bool, true, false}
 use mathlib.Core.List.{List, [], ◌∷◌, ◌++◌}
@@ -26,7 +26,7 @@ use Rattle.model.proofs.Reachable.{stack_stands}
 use Rattle.table.specs.Table.{same_numbers}
 use Rattle.table.proofs.Plans.{same_list}
 use Rattle.place.specs.Stack.{frames}
-use Rattle.control.specs.declared.State.{State}
+use Rattle.control.specs.declared.OpenRelease.{OpenRelease}
 use Rattle.control.specs.Meaning.{StandsSomewhere, at_the_release, at_a_report}
 use Rattle.control.specs.State.{stack_of, levels_of, timed, standing}
 use Rattle.control.proofs.Arrays.{zeros}
@@ -62,7 +62,7 @@ latest_one w l x y =
 
 -- THE 33 TIMES ARE SINGLE NUMBERS
 
-pub times_one : {fs : Forms} (s : Standing fs) (ts us : List ℕ) → Times s ts → Times s us → ts ≡ us
+times_one : {fs : Forms} (s : Standing fs) (ts us : List ℕ) → Times s ts → Times s us → ts ≡ us
 times_one {fs} s ts us a b = same_entries ts us (a.count ∙ sym b.count) entry
   where
     entry : (j : ℕ) → get_or ts j 0 ≡ get_or us j 0
@@ -76,7 +76,7 @@ times_one {fs} s ts us a b = same_entries ts us (a.count ∙ sym b.count) entry
           | no h ↦ a.higher (suc j) (omega arith) ∙ sym (b.higher (suc j) (omega arith))
         ]
 
--- GOOD STATES
+-- GOOD RELEASES
 
 module _ (p : Plan) (a : Accepted p) where
   release_times : (ts : List ℕ) → Total (main p) (get_or ts 0 0) → length ts ≡ 33 → ((j : ℕ) → 1 ≤ j → get_or ts j 0 ≡ 0) → ts ≡ times (main p) []
@@ -88,33 +88,33 @@ module _ (p : Plan) (a : Accepted p) where
       entry (suc j) = h (suc j) (omega arith) ∙ sym (zeros 32 j)
 
   -- From the test to the run.
-  timed_times : (s : State) (ls : Levels) → timed p s (some ls) ≡ some ls → s.times ≡ times (main p) ls
-  timed_times s ls e = (same_list s.times (times (main p) ls)).0 (by (same_numbers s.times (times (main p) ls)) refl e)
+  timed_times : (o : OpenRelease) (ls : Levels) → timed p o (some ls) ≡ some ls → o.times ≡ times (main p) ls
+  timed_times o ls e = (same_list o.times (times (main p) ls)).0 (by (same_numbers o.times (times (main p) ls)) refl e)
     where
-      by : (q : Bool) → same_numbers s.times (times (main p) ls) ≡ q → pick q (some ls) none ≡ some ls → same_numbers s.times (times (main p) ls) ≡ true
+      by : (q : Bool) → same_numbers o.times (times (main p) ls) ≡ q → pick q (some ls) none ≡ some ls → same_numbers o.times (times (main p) ls) ≡ true
       by true h e = h
       by false h e = absurd (let z : ◌≡◌ {A = ℕ} 0 1 = cc in omega arith)
 
-  pub stands_times : (s : State) (ls : Levels) → standing p s ≡ some ls → s.times ≡ times (main p) ls
-  stands_times s ls e = timed_times s ls (ap (timed p s) (sym (timed_some p a s (levels_of p (stack_of s)) ls e)) ∙ e)
+  pub stands_times : (o : OpenRelease) (ls : Levels) → standing p o ≡ some ls → o.times ≡ times (main p) ls
+  stands_times o ls e = timed_times o ls (ap (timed p o) (sym (timed_some p a o (levels_of p (stack_of o)) ls e)) ∙ e)
 
   frames_none : (x y : List ℕ) (l k : ℕ) → frames x y l k ≡ [] → k ≡ 0
   unfolding frames
   frames_none x y l zero e = refl
   frames_none x y l (suc k) e = absurd (let z : ◌≡◌ {A = ℕ} 0 1 = cc in omega arith)
 
-  somewhere : (s : State) (ls : Levels) (ss : List Frame) → stack_of s ≡ ss → levels_of p ss ≡ some ls → s.times ≡ times (main p) ls → StandsSomewhere p s
+  somewhere : (o : OpenRelease) (ls : Levels) (ss : List Frame) → stack_of o ≡ ss → levels_of p ss ≡ some ls → o.times ≡ times (main p) ls → StandsSomewhere p o
   unfolding kept
-  somewhere s ls [] q e t =
+  somewhere o ls [] q e t =
       let z : [] ≡ ls = cc in
-      let u : s.times ≡ times (main p) [] = t ∙ ap (times (main p)) (sym z) in
-      at_the_release (frames_none s.leaves s.earlier 1 s.level q) (rw u (total_largest C (main p))) (rw u (omega (arith, length-replicate {A = ℕ} 32 0)))
+      let u : o.times ≡ times (main p) [] = t ∙ ap (times (main p)) (sym z) in
+      at_the_release (frames_none o.place.leaves o.place.earlier 1 o.place.level q) (rw u (total_largest C (main p))) (rw u (omega (arith, length-replicate {A = ℕ} 32 0)))
       (λ j h. by j h u)
     where
-      by : (j : ℕ) → 1 ≤ j → s.times ≡ times (main p) [] → get_or s.times j 0 ≡ 0
+      by : (j : ℕ) → 1 ≤ j → o.times ≡ times (main p) [] → get_or o.times j 0 ≡ 0
       by zero h u = absurd (omega arith)
       by (suc j) h u = ap (λ ts. get_or ts (suc j) 0) u ∙ zeros 32 j
-  somewhere s ls (f ∷ fs) q e t =
+  somewhere o ls (f ∷ fs) q e t =
       let (x, d) = levels_inner p a f fs ls e in
       let (r, i) = stack_stands p a (f ∷ fs) ls d (points_all p (f ∷ fs) x) in
       let k = standing_decodes p a r in
@@ -123,23 +123,23 @@ module _ (p : Plan) (a : Accepted p) where
       at_a_report r (i ∙ sym q) (rw (t ∙ ap (times (main p)) (sym y)) k.times_are)
 
   -- And back.
-  pub release_stands : (s : State) → s.level ≡ 0 → s.times ≡ times (main p) [] → standing p s ≡ some []
+  pub release_stands : (o : OpenRelease) → o.place.level ≡ 0 → o.times ≡ times (main p) [] → standing p o ≡ some []
   unfolding frames
-  release_stands s e t = rw e (timed_same p a s [] t)
+  release_stands o e t = rw e (timed_same p a o [] t)
 
-  report_stands : (s : State) (x : Standing (main p)) → stack [] (so_far x) ≡ stack_of s → Times x s.times → (ls : Levels) × (standing p s ≡ some ls)
-  report_stands s x e t =
+  report_stands : (o : OpenRelease) (x : Standing (main p)) → stack [] (so_far x) ≡ stack_of o → Times x o.times → (ls : Levels) × (standing p o ≡ some ls)
+  report_stands o x e t =
       let k = standing_decodes p a x in
-      let l : levels_of p (stack_of s) ≡ some k.ls = ap (levels_of p) (sym e) ∙ levels_some p a (stack [] (so_far x)) k.ls (all_points p (stack [] (so_far x)) (standing_points p x)) k.decoded in
-      (k.ls, ap (timed p s) l ∙ timed_same p a s k.ls (times_one x s.times (times (main p) k.ls) t k.times_are))
+      let l : levels_of p (stack_of o) ≡ some k.ls = ap (levels_of p) (sym e) ∙ levels_some p a (stack [] (so_far x)) k.ls (all_points p (stack [] (so_far x)) (standing_points p x)) k.decoded in
+      (k.ls, ap (timed p o) l ∙ timed_same p a o k.ls (times_one x o.times (times (main p) k.ls) t k.times_are))
 
-  -- A running state is good exactly when it stands somewhere.
-  pub good_exactly : (s : State) → ((ls : Levels) × (standing p s ≡ some ls)) ↔ StandsSomewhere p s
-  good_exactly s = (
-    (λ (ls, e). somewhere s ls (stack_of s) refl (timed_some p a s (levels_of p (stack_of s)) ls e) (stands_times s ls e)),
+  -- An open release is good exactly when it stands somewhere.
+  pub good_exactly : (o : OpenRelease) → ((ls : Levels) × (standing p o ≡ some ls)) ↔ StandsSomewhere p o
+  good_exactly o = (
+    (λ (ls, e). somewhere o ls (stack_of o) refl (timed_some p a o (levels_of p (stack_of o)) ls e) (stands_times o ls e)),
     λ w. back w,
   )
     where
-      back : StandsSomewhere p s → (ls : Levels) × (standing p s ≡ some ls)
-      back (at_the_release e t c h) = ([], release_stands s e (release_times s.times t c h))
-      back (at_a_report x e t) = report_stands s x e t
+      back : StandsSomewhere p o → (ls : Levels) × (standing p o ≡ some ls)
+      back (at_the_release e t c h) = ([], release_stands o e (release_times o.times t c h))
+      back (at_a_report x e t) = report_stands o x e t

@@ -22,7 +22,7 @@ state_keeps p s c (some x) = λ k e. subst (λ a. left p s (respond p x c).state
 
 plan_keeps : (s : State) (c : Call) (o : Option Plan) → Keeps s (on_plan s c o)
 plan_keeps s c none = λ k e. refl
-plan_keeps s c (some p) = state_keeps p s c (read_state p s s.running)
+plan_keeps s c (some p) = state_keeps p s c (read_state p s)
 
 pub refused_keeps : (t : Table) (s : State) (c : Call) (k : Refusal) → (call_on t s c).answer ≡ Refused k → (call_on t s c).state ≡ s
 unfolding call_on

@@ -1,6 +1,5 @@
 pub mod Columns
 pub mod Tabled
-pub mod Margins
 pub mod Deciding
 pub mod Arrays
 pub mod Moving

@@ -1,7 +1,8 @@
--- What only the private functions promise, on lent slices that hold the table of an accepted plan. Nothing of this stands in the contract of `call`.
+-- What only the private functions promise, on lent memory that holds the table of an accepted plan. Nothing of this stands in the contract of `call`.
 -- Assumes nothing: these are definitions.
-use Rattle.std.specs.Prelude.{◌≡◌, true, List, [], ◌∷◌, ℕ, replicate}
+use Rattle.std.specs.Prelude.{◌≡◌, [], ◌∷◌, ℕ, replicate, Result, Ok, Err}
 use Rattle.std.proofs.Math.Option.{some}
+use Rattle.model.specs.declared.Refusal.{Refusal}
 use Rattle.model.specs.Plan.{M, Plan}
 use Rattle.model.specs.Forms.{main}
 use Rattle.model.specs.Stretch.{stretch}
@@ -9,18 +10,24 @@ use Rattle.model.specs.Decisions.{at_report, decide}
 use Rattle.model.specs.Acceptance.{Accepted}
 use Rattle.model.specs.declared.Others.{Others}
 use Rattle.model.specs.declared.Outlook.{Outlook}
-use Rattle.model.specs.Calls.{Reply, others_after}
+use Rattle.model.specs.Calls.{Reply, refuse, others_after}
 use Rattle.model.specs.Controller.{next_levels, decided}
 use Rattle.model.specs.Stack.{Levels}
+use Rattle.rows.specs.declared.Code.{Code}
+use Rattle.rows.specs.Leaves.{numbers, lent_turns, lent_tails, lent_stretches}
 use Rattle.rows.specs.Records.{row_of}
 use Rattle.place.specs.Stack.{Stacked}
 use Rattle.place.specs.declared.Place.{Place}
 use Rattle.table.specs.declared.Head.{Head}
 use Rattle.table.specs.Table.{table_of, head_of}
+use Rattle.control.specs.declared.LentPlan.{LentPlan}
+use Rattle.control.specs.declared.OpenRelease.{OpenRelease}
 use Rattle.control.specs.declared.State.{State}
+use Rattle.control.specs.declared.State.TheVariants.{Open}
+use Rattle.control.specs.declared.Step.{Step}
 use Rattle.control.specs.declared.Weighing.{Weighing}
-use Rattle.control.specs.State.{standing}
-use Rattle.control.specs.Calls.{place_of, in_numbers}
+use Rattle.control.specs.State.{place_at_release, standing}
+use Rattle.control.specs.Calls.{place_of, in_numbers, as_step}
 
 -- A plan with this D and T: the decision asks no more of a plan.
 abbrev pub terms : ℕ → ℕ → Plan
@@ -30,17 +37,14 @@ terms deadline switch = record { deadline = deadline; switch = switch; functions
 abbrev pub weighing : Plan → Outlook → ℕ → Others → Weighing
 weighing p o t others = record { answer = decide p o t others; others = others_after (decide p o t others) others }
 
--- The state that an accepted release leaves, where `total` remains.
-abbrev pub opened : ℕ → Others → State
-opened total others = record {
-  running = true;
-  others = others;
-  reading = 0;
-  level = 0;
-  leaves = replicate 33 0;
-  earlier = replicate 33 0;
-  times = total ∷ replicate 32 0;
-}
+-- The release that is accepted, where `total` remains.
+abbrev pub opened : ℕ → Others → OpenRelease
+opened total others = record { others = others; reading = 0; place = place_at_release; times = total ∷ replicate 32 0 }
+
+-- The step that a private function tells of: the one that it gives, or the refusal of the call, which keeps the state.
+abbrev pub told : State → Result Step Refusal → Step
+told s (Ok r) = r
+told s (Err k) = as_step (refuse s k)
 
 -- The head is that of an accepted plan.
 pub record Headed (h : Head) : Type 0 where
@@ -48,49 +52,62 @@ pub record Headed (h : Head) : Type 0 where
   pub accepted : Accepted plan
   pub is : h ≡ head_of plan
 
--- The row is that of this plan.
-pub record Rowed (row : List ℕ) (h : Head) : Type 0 where
-  pub head : Headed h
-  pub row_is : row ≡ row_of head.plan
+-- The code is that of this plan: its row, its bounds, and how many functions it has.
+pub record CodeOf (p : Plan) (c : Code) : Type 0 where
+  pub row_is : numbers c.row.now ≡ row_of p
+  pub bounds_are : c.bounds.now ≡ (head_of p).bounds
+  pub functions_are : c.functions ≡ (head_of p).functions
 
--- So are the columns of turns and tails.
-pub record Lent (row turns tails : List ℕ) (h : Head) : Type 0 where
-  pub rowed : Rowed row h
-  pub turns_are : turns ≡ (table_of rowed.head.plan).turns
-  pub tails_are : tails ≡ (table_of rowed.head.plan).tails
+-- The code is that of an accepted plan.
+pub record Coded (c : Code) : Type 0 where
+  pub plan : Plan
+  pub accepted : Accepted plan
+  pub is : CodeOf plan c
 
--- And so is the column of stretches.
-pub record WholeTable (row turns tails stretches : List ℕ) (h : Head) : Type 0 where
-  pub lent : Lent row turns tails h
-  pub stretches_are : stretches ≡ (table_of lent.rowed.head.plan).stretches
+-- Head and code are those of an accepted plan.
+pub record Rowed (l : LentPlan) : Type 0 where
+  pub head : Headed l.head.now
+  pub code_is : CodeOf head.plan l.code
 
--- Where a running state stands, as crate `place` has it.
-abbrev pub spot : State → Place
-spot s = record { level = s.level; leaves = s.leaves; earlier = s.earlier }
+-- So are the turns and tails in the row.
+pub record Costed (l : LentPlan) : Type 0 where
+  pub rowed : Rowed l
+  pub turns_are : lent_turns l.code.row.now ≡ (table_of rowed.head.plan).turns
+  pub tails_are : lent_tails l.code.row.now ≡ (table_of rowed.head.plan).tails
 
--- The running state is good: it stands at some levels of the plan (01, refusal 11).
-abbrev pub GoodState : Plan → State → Type 0
-GoodState p s = (ls : Levels) × (standing p s ≡ some ls)
+-- And so are the stretches.
+pub record WholeTable (l : LentPlan) : Type 0 where
+  pub costed : Costed l
+  pub stretches_are : lent_stretches l.code.row.now ≡ (table_of costed.rowed.head.plan).stretches
 
--- A running state that is good, on a row.
-pub record GoodOnRow (row : List ℕ) (h : Head) (s : State) : Type 0 where
-  pub rowed : Rowed row h
-  pub stands : GoodState rowed.head.plan s
+-- The open release is good: it stands at some levels of the plan (01, refusal 11).
+abbrev pub GoodState : Plan → OpenRelease → Type 0
+GoodState p o = (ls : Levels) × (standing p o ≡ some ls)
+
+-- An open release that is good, on a code.
+pub record GoodOnCode (c : Code) (o : OpenRelease) : Type 0 where
+  pub coded : Coded c
+  pub stands : GoodState coded.plan o
+
+-- The same beside a head.
+pub record GoodOnRow (l : LentPlan) (o : OpenRelease) : Type 0 where
+  pub rowed : Rowed l
+  pub stands : GoodState rowed.head.plan o
 
 -- The same on a whole table.
-pub record GoodOnTable (row turns tails stretches : List ℕ) (h : Head) (s : State) : Type 0 where
-  pub whole : WholeTable row turns tails stretches h
-  pub stands : GoodState whole.lent.rowed.head.plan s
+pub record GoodOnTable (l : LentPlan) (o : OpenRelease) : Type 0 where
+  pub whole : WholeTable l
+  pub stands : GoodState whole.costed.rowed.head.plan o
 
--- A good state that comes to the point next: x is its place then, and str the point's stretch.
-pub record Arriving (row turns tails : List ℕ) (h : Head) (s : State) (x : Place) (str : ℕ) : Type 0 where
-  pub lent : Lent row turns tails h
+-- A good release that comes to the point next: x is its place then, and str the point's stretch.
+pub record Arriving (l : LentPlan) (o : OpenRelease) (x : Place) (str : ℕ) : Type 0 where
+  pub costed : Costed l
   pub levels : Levels
-  pub stands : standing lent.rowed.head.plan s ≡ some levels
+  pub stands : standing costed.rowed.head.plan o ≡ some levels
   pub point : ℕ
-  pub new : Stacked row (main lent.rowed.head.plan) (next_levels lent.rowed.head.plan (place_of s levels) point) s.leaves s.earlier point x.leaves x.earlier x.level
-  pub stretch_is : str ≡ stretch M point (main lent.rowed.head.plan) 0
+  pub new : Stacked (numbers l.code.row.now) (main costed.rowed.head.plan) (next_levels costed.rowed.head.plan (place_of o levels) point) o.place.leaves o.place.earlier point x.leaves x.earlier x.level
+  pub stretch_is : str ≡ stretch M point (main costed.rowed.head.plan) 0
 
 -- The reply to the report of n that comes to the levels ls: the decision there.
-abbrev pub arrived : Plan → State → ℕ → Levels → ℕ → Reply State
-arrived p s n ls reading = in_numbers p s (decided p (at_report n ls) reading s.others)
+abbrev pub arrived : Plan → OpenRelease → ℕ → Levels → ℕ → Reply State
+arrived p o n ls reading = in_numbers p (Open o) (decided p (at_report n ls) reading o.others)

@@ -1,7 +1,7 @@
 // The controller's state, and its calls on a table.
 #![tactic(auto)]
 
-ghost use Rattle.std.specs.Prelude.{◌≡◌, ◌+◌, ◌-◌, ◌*◌, ◌^◌, ◌≤◌, length};
+ghost use Rattle.std.specs.Prelude.{◌≡◌, ◌+◌, ◌-◌, ◌*◌, ◌^◌, ◌≤◌, ◌<◌, length};
 ghost use Rattle.std.proofs.Math.Option.{some};
 ghost use Rattle.std.specs.Int.Signed.{non_neg};
 ghost use Rattle.model.specs.Forms.{main};
@@ -11,34 +11,40 @@ ghost use Rattle.model.specs.Calls.{others_by_word, refuse};
 ghost use Rattle.model.specs.Decisions.{reserve, margin, word};
 ghost use Rattle.model.specs.Controller.{idle, next_levels, can_close};
 ghost use Rattle.rows.specs.Rows.{point_at};
+ghost use Rattle.rows.specs.Leaves.{numbers};
 ghost use Rattle.rows.specs.Answers.{Says};
-ghost use Rattle.place.specs.Stack.{NextStack};
-ghost use Rattle.table.specs.Table.{table_at, good};
-ghost use Rattle.control.specs.State.{fresh, standing};
-ghost use Rattle.control.specs.Calls.{place_of, running_at, reply, call_on, as_step};
-ghost use Rattle.control.specs.Private.{terms, weighing, opened, arrived, Headed, Rowed, Lent, WholeTable, spot, GoodState, GoodOnRow};
-ghost use Rattle.control.specs.Private.{GoodOnTable, Arriving};
+ghost use Rattle.place.specs.Lent.{NextPlace};
+ghost use Rattle.table.specs.Table.{good};
+ghost use Rattle.table.specs.Lent.{table_with};
+ghost use Rattle.control.specs.declared.State.TheVariants.{Idle, Open};
+ghost use Rattle.control.specs.State.{standing};
+ghost use Rattle.control.specs.Calls.{place_of, running_at, read_state, reply, on_state, call_on, as_step};
+ghost use Rattle.control.specs.Private.{terms, weighing, opened, arrived, told, Headed, Rowed, Coded, Costed, WholeTable, GoodState, GoodOnCode};
+ghost use Rattle.control.specs.Private.{GoodOnRow, GoodOnTable, Arriving};
 
 use model::{Answer, Call, Ending, Others, Outlook, Refusal, Word};
 use place::{
-    Place, can_end, first_end, first_place, last_point, next_place, next_times, no_point, place_ok,
-    times_ok, zero_above,
+    ByLevel, Place, can_end, first_end, first_place, last_point, next_place, next_times, no_point,
+    place_ok, times_ok, zero_above,
 };
-use rows::{POINT, STRIDE};
+use rows::{Code, Leaf};
 use table::{Head, check};
 
-// The running state: whether a release is open, what the others do, the last accepted reading, the level of the last point (0: none was
-// reported), for each level the leaf reported last there and its earlier visits, and the remaining time kept for each level. A fresh state is all
-// zeros.
+// An open release: what the others do, the last accepted reading, the place of the last point, and the remaining time kept for each level.
 #[derive(Clone, Copy)]
-pub struct State {
-    pub running: bool,
+pub struct OpenRelease {
     pub others: Others,
     pub reading: u64,
-    pub level: u64,
-    pub leaves: [u64; 33],
-    pub earlier: [u64; 33],
-    pub times: [u64; 33],
+    // At level 0 where no point was reported, and no `None`: any state may be lent, and the first report keeps entry 0 of both arrays, which are stored with it.
+    pub place: Place,
+    pub times: ByLevel,
+}
+
+// The running state: no release is open, or one is.
+#[derive(Clone, Copy)]
+pub enum State {
+    Idle,
+    Open(OpenRelease),
 }
 
 // The answer of a call, and the state afterwards.
@@ -46,6 +52,13 @@ pub struct State {
 pub struct Step {
     pub answer: Answer,
     pub state: State,
+}
+
+// The table of an accepted plan in lent memory: its code, and the head beside it.
+#[derive(Clone, Copy)]
+struct LentPlan<'a> {
+    code: Code<'a>,
+    head: &'a Head,
 }
 
 // A decision: its answer, and what the others do then.
@@ -56,22 +69,7 @@ struct Weighing {
 }
 
 // 2^62: a margin is held at its negative.
-const FLOOR: u64 = 4611686018427387904;
-
-// A fresh state: idle, every number in it 0.
-pub fn fresh() -> State
-    ensures { result ≡ fresh }
-{
-    State {
-        running: false,
-        others: Others::Running,
-        reading: 0,
-        level: 0,
-        leaves: [0; 33],
-        earlier: [0; 33],
-        times: [0; 33],
-    }
-}
+const FLOOR: u64 = 1 << 62;
 
 // What is left of `left` behind what is kept free: remaining and switch cost, or nothing where no further point can come.
 fn less_reserve(left: u64, switch: u64, outlook: Outlook) -> u64
@@ -127,9 +125,9 @@ fn others_by(word: Word, others: Others) -> Others
 }
 
 // A decision: its answer, and what the others do then.
-fn weigh(head: Head, outlook: Outlook, reading: u64, others: Others) -> Weighing
-    requires { Headed head }
-    ensures { (q : Headed head) → result ≡ weighing q.plan outlook reading others }
+fn weigh(head: &Head, outlook: Outlook, reading: u64, others: Others) -> Weighing
+    requires { Headed head.now }
+    ensures { (q : Headed head.now) → result ≡ weighing q.plan outlook reading others }
 {
     let margin = margin_of(head.deadline, head.switch, outlook, reading);
     let word = word_of(margin, others);
@@ -139,289 +137,226 @@ fn weigh(head: Head, outlook: Outlook, reading: u64, others: Others) -> Weighing
     }
 }
 
-// The state that an accepted release leaves.
-fn open_at(total: u64, others: Others) -> State
+// The release that is accepted, where `total` remains: no point was reported yet.
+fn opened(total: u64, others: Others) -> OpenRelease
     ensures { result ≡ opened total others }
 {
     let mut times = [0; 33];
     times[0] = total;
-    State {
-        running: true,
+    OpenRelease {
         others,
+        reading: 0,
+        place: Place {
+            level: 0,
+            leaves: [0; 33],
+            earlier: [0; 33],
+        },
         times,
-        ..fresh()
     }
 }
 
-// A release where none is open: 13, or the decision.
-fn start(row: &[u64], head: Head, state: State) -> Step
-    requires { Rowed row.now head }
-    ensures { (q : Rowed row.now head) → result ≡ as_step (reply q.head.plan state idle Release) }
+// A release where none is open: unfit, or the decision.
+fn start(plan: &LentPlan) -> Result<Step, Refusal>
+    requires { Rowed plan.now }
+    ensures { (q : Rowed plan.now) → told Idle result ≡ as_step (reply q.head.plan Idle idle Release) }
 {
+    let head = plan.head;
     if head.deadline < head.total + head.switch {
-        return refuse(state, Refusal::Unfit);
+        return Err(Refusal::Unfit);
     }
     let outlook = Outlook {
         remaining: head.total,
         stretch: head.stretch,
-        last: no_point(row, &head.bounds, head.functions),
+        last: no_point(&plan.code),
     };
     let weighing = weigh(head, outlook, 0, Others::Running);
-    Step {
+    Ok(Step {
         answer: weighing.answer,
-        state: open_at(head.total, weighing.others),
-    }
+        state: State::Open(opened(head.total, weighing.others)),
+    })
 }
 
-impl From<State> for Place {
-    ghost from_gives = { λ state place. place ≡ spot state };
-
-    // Gives where a running state stands.
-    fn from(state: State) -> Place {
-        let State {
-            level,
-            leaves,
-            earlier,
-            ..
-        } = state;
-        Place {
-            level: level as usize,
-            leaves,
-            earlier,
-        }
-    }
-}
-
-// Whether a running state is good: some run stands at its place, and its remaining times are those of that place.
-fn stands(row: &[u64], turns: &[u64], tails: &[u64], head: Head, state: State) -> bool
-    requires { Lent row.now turns.now tails.now head }
-    ensures { (q : Lent row.now turns.now tails.now head) → Says result (GoodState q.rowed.head.plan state) }
+// Whether an open release is good: some run stands at its place, and its remaining times are those of that place.
+fn stands(plan: &LentPlan, release: &OpenRelease) -> bool
+    requires { Costed plan.now }
+    ensures { (q : Costed plan.now) → Says result (GoodState q.rowed.head.plan release.now) }
 {
-    if state.level == 0 {
-        return state.times[0] == head.total && zero_above(state.times, 0);
+    if release.place.level == 0 {
+        return release.times[0] == plan.head.total && zero_above(&release.times, 0);
     }
-    let place = Place::from(state);
-    place_ok(row, &head.bounds, head.functions, place)
-        && zero_above(state.times, place.level)
+    place_ok(&plan.code, &release.place)
+        && zero_above(&release.times, release.place.level)
         && times_ok(
-            row,
-            head.functions,
-            tails,
-            turns,
-            &head.totals,
-            place,
-            state.times,
+            &plan.code,
+            &plan.head.totals,
+            &release.place,
+            &release.times,
         )
 }
 
 // Whether the record of this number is there and is a point's.
-fn is_point(row: &[u64], number: u64) -> bool
-    ensures { Says result ((number * 8 + 8 ≤ length row.now) × (point_at row.now number ≡ 1)) }
+fn is_point(row: &[Leaf], number: u64) -> bool
+    ensures { Says result ((number < length row.now) × (point_at (numbers row.now) number ≡ 1)) }
 {
     let x = number as usize;
-    x < row.len() / STRIDE && rows::get(row, x, POINT) == 1
+    x < row.len() && rows::point(row, x) == 1
 }
 
-// The place of a good state when the point x is reported next; none where x cannot come next.
-fn next(row: &[u64], head: Head, state: State, x: usize) -> Option<Place>
-    requires x_value { point_at row.now x ≡ 1 }
-    requires good_on_row { GoodOnRow row.now head state }
-    ensures { (q : Rowed row.now head) (ls : Levels) → standing q.head.plan state ≡ some ls
-        → NextStack row.now (main q.head.plan) (next_levels q.head.plan (place_of state ls) x)
-        state.leaves state.earlier x result }
+// The place of a good release when the point x is reported next; none where x cannot come next.
+#[tactic(auto, using(crate::proofs::Lending::table_here, crate::proofs::Reporting::first_found, crate::proofs::Reporting::later_found))]
+fn next(code: &Code, release: &OpenRelease, x: usize) -> Option<Place>
+    requires x_value { point_at (numbers code.now.row.now) x ≡ 1 }
+    requires good_on_code { GoodOnCode code.now release.now }
+    ensures { (q : Coded code.now) (ls : Levels) → standing q.plan release.now ≡ some ls
+        → NextPlace code.now (main q.plan) (next_levels q.plan (place_of release.now ls) x) release.now.place x result }
 {
-    let place = Place::from(state);
-    if state.level == 0 {
-        return first_place(
-            row,
-            &head.bounds,
-            head.functions,
-            state.leaves,
-            state.earlier,
-            x,
-        );
+    if release.place.level == 0 {
+        first_place(code, &release.place, x)
+    } else {
+        next_place(code, &release.place, x)
     }
-    next_place(row, &head.bounds, head.functions, place, x)
 }
 
-// The decision at the report of a point, and the state moved on to its place.
-fn arrive(
-    row: &[u64],
-    turns: &[u64],
-    tails: &[u64],
-    head: Head,
-    state: State,
-    place: Place,
-    stretch: u64,
-    reading: u64,
-) -> Step
-    requires { Arriving row.now turns.now tails.now head state place stretch }
-    ensures { (k : Arriving row.now turns.now tails.now head state place stretch)
-        → result ≡ as_step (arrived k.lent.rowed.head.plan state k.point k.new.levels reading) }
+// The decision at the report of a point, and the release moved on to its place. (The release by value; a reference was tried: of an array behind one that the
+// body does not read, the check knows no length.)
+fn arrive(plan: &LentPlan, release: OpenRelease, place: Place, stretch: u64, reading: u64) -> Step
+    requires { Arriving plan.now release place stretch }
+    ensures { (k : Arriving plan.now release place stretch)
+        → result ≡ as_step (arrived k.costed.rowed.head.plan release k.point k.new.levels reading) }
 {
-    let times = next_times(row, tails, turns, &head.totals, place, state.times);
+    let times = next_times(plan.code.row, &plan.head.totals, &place, &release.times);
     let outlook = Outlook {
         remaining: times[place.level],
         stretch,
-        last: last_point(row, &head.bounds, head.functions, place),
+        last: last_point(&plan.code, &place),
     };
-    let weighing = weigh(head, outlook, reading, state.others);
-    let Place {
-        level,
-        leaves,
-        earlier,
-    } = place;
+    let weighing = weigh(plan.head, outlook, reading, release.others);
     Step {
         answer: weighing.answer,
-        state: State {
-            running: true,
+        state: State::Open(OpenRelease {
             others: weighing.others,
             reading,
-            level: level as u64,
-            leaves,
-            earlier,
+            place,
             times,
-        },
+        }),
     }
 }
 
-// A report to a good state: 15, 16, 17, or the decision.
+// A report to a good release: stranger, backward, astray, or the decision.
 fn reported_at(
-    row: &[u64],
-    turns: &[u64],
-    tails: &[u64],
-    stretches: &[u64],
-    head: Head,
-    state: State,
+    plan: &LentPlan,
+    release: &OpenRelease,
     point: u64,
     reading: u64,
-) -> Step
-    requires { GoodOnTable row.now turns.now tails.now stretches.now head state }
-    ensures { (q : WholeTable row.now turns.now tails.now stretches.now head) (ls : Levels)
-        → standing q.lent.rowed.head.plan state ≡ some ls
-        → result ≡ as_step (reply q.lent.rowed.head.plan state (running_at state ls) (Report point reading)) }
+) -> Result<Step, Refusal>
+    requires { GoodOnTable plan.now release.now }
+    ensures { (q : WholeTable plan.now) (ls : Levels) → standing q.costed.rowed.head.plan release.now ≡ some ls
+        → told (Open release.now) result
+        ≡ as_step (reply q.costed.rowed.head.plan (Open release.now) (running_at release.now ls) (Report point reading)) }
 {
-    if !is_point(row, point) {
-        return refuse(state, Refusal::Stranger);
+    if !is_point(plan.code.row, point) {
+        return Err(Refusal::Stranger);
     }
-    if reading < state.reading {
-        return refuse(state, Refusal::Backward);
+    if reading < release.reading {
+        return Err(Refusal::Backward);
     }
     let x = point as usize;
-    let Some(place) = next(row, head, state, x) else {
-        return refuse(state, Refusal::Astray);
-    };
-    arrive(row, turns, tails, head, state, place, stretches[x], reading)
+    let place = next(&plan.code, release, x).ok_or(Refusal::Astray)?;
+    let stretch = rows::stretch(plan.code.row, x);
+    Ok(arrive(plan, *release, place, stretch, reading))
 }
 
-// Whether the run of a good state can end here.
-fn may_close(row: &[u64], head: Head, state: State) -> bool
-    requires { GoodOnRow row.now head state }
-    ensures { (q : Rowed row.now head) (ls : Levels) → standing q.head.plan state ≡ some ls
-        → result ≡ can_close q.head.plan (place_of state ls) }
+// Whether the run of a good release can end here.
+#[tactic(auto, using(crate::proofs::Lending::table_here))]
+fn may_close(code: &Code, release: &OpenRelease) -> bool
+    requires { GoodOnCode code.now release.now }
+    ensures { (q : Coded code.now) (ls : Levels) → standing q.plan release.now ≡ some ls
+        → result ≡ can_close q.plan (place_of release.now ls) }
 {
-    if state.level == 0 {
-        first_end(row, &head.bounds, head.functions)
+    if release.place.level == 0 {
+        first_end(code)
     } else {
-        can_end(row, &head.bounds, head.functions, Place::from(state))
+        can_end(code, &release.place)
     }
 }
 
-// The end of a good state: 16, 17, or resume or ended; the state is fresh again.
-fn closed_at(row: &[u64], head: Head, state: State, reading: u64) -> Step
-    requires { GoodOnRow row.now head state }
-    ensures { (q : Rowed row.now head) (ls : Levels) → standing q.head.plan state ≡ some ls
-        → result ≡ as_step (reply q.head.plan state (running_at state ls) (End reading)) }
+// The end of a good release: backward, astray, or resume or ended, and then no release is open.
+fn closed_at(plan: &LentPlan, release: &OpenRelease, reading: u64) -> Result<Step, Refusal>
+    requires { GoodOnRow plan.now release.now }
+    ensures { (q : Rowed plan.now) (ls : Levels) → standing q.head.plan release.now ≡ some ls
+        → told (Open release.now) result
+        ≡ as_step (reply q.head.plan (Open release.now) (running_at release.now ls) (End reading)) }
 {
-    if reading < state.reading {
-        return refuse(state, Refusal::Backward);
+    if reading < release.reading {
+        return Err(Refusal::Backward);
     }
-    if !may_close(row, head, state) {
-        return refuse(state, Refusal::Astray);
+    if !may_close(&plan.code, release) {
+        return Err(Refusal::Astray);
     }
-    Step {
-        answer: Answer::Closed(Ending::from(state.others), head.deadline < reading),
-        state: fresh(),
-    }
+    Ok(Step {
+        answer: Answer::Closed(Ending::from(release.others), plan.head.deadline < reading),
+        state: State::Idle,
+    })
 }
 
-// A call where no release is open: 13 or the decision; 14.
-fn idle_call(row: &[u64], head: Head, state: State, call: Call) -> Step
-    requires { Rowed row.now head }
-    ensures { (q : Rowed row.now head) → result ≡ as_step (reply q.head.plan state idle call) }
-{
-    match call {
-        Call::Release => start(row, head, state),
-        Call::Report(_, _) | Call::End(_) => refuse(state, Refusal::Idle),
-    }
-}
-
-// A call to a good state: 12; 15, 16, 17 or the decision; 16, 17 or the end.
-fn running_call(
-    row: &[u64],
-    turns: &[u64],
-    tails: &[u64],
-    stretches: &[u64],
-    head: Head,
-    state: State,
-    call: Call,
-) -> Step
-    requires { GoodOnTable row.now turns.now tails.now stretches.now head state }
-    ensures { (q : WholeTable row.now turns.now tails.now stretches.now head) (ls : Levels)
-        → standing q.lent.rowed.head.plan state ≡ some ls → result ≡ as_step (reply q.lent.rowed.head.plan state (running_at state ls) call) }
+// A call where no release is open: a release starts one; a report or an end is idle.
+#[tactic(auto, unfolding(model::specs::Controller::respond))]
+fn idle_call(plan: &LentPlan, call: Call) -> Result<Step, Refusal>
+    requires { Rowed plan.now }
+    ensures { (q : Rowed plan.now) → told Idle result ≡ as_step (reply q.head.plan Idle idle call) }
 {
     match call {
-        Call::Release => refuse(state, Refusal::Busy),
-        Call::Report(point, reading) => reported_at(
-            row, turns, tails, stretches, head, state, point, reading,
-        ),
-        Call::End(reading) => closed_at(row, head, state, reading),
+        Call::Release => start(plan),
+        Call::Report(_, _) | Call::End(_) => Err(Refusal::Idle),
     }
 }
 
-// A call on a table of which it is known whether it is that of an accepted plan. Release: 11, 12, 13, or the decision. Report: 11, 14, 15, 16, 17, or the
-// decision. End: 11, 14, 16, 17, or resume or ended.
-pub fn checked_call(
-    checked: bool,
-    row: &[u64],
-    turns: &[u64],
-    tails: &[u64],
-    stretches: &[u64],
-    head: Head,
-    state: State,
-    call: Call,
-) -> Step
-    requires { checked ≡ good (table_at row.now turns.now tails.now stretches.now head) }
-    ensures { result ≡ as_step (call_on (table_at row.now turns.now tails.now stretches.now head) state call) }
+// A call to a good release: a release is busy; a report or an end is weighed.
+#[tactic(auto, unfolding(model::specs::Controller::respond))]
+fn running_call(plan: &LentPlan, release: &OpenRelease, call: Call) -> Result<Step, Refusal>
+    requires { GoodOnTable plan.now release.now }
+    ensures { (q : WholeTable plan.now) (ls : Levels) → standing q.costed.rowed.head.plan release.now ≡ some ls
+        → told (Open release.now) result
+        ≡ as_step (reply q.costed.rowed.head.plan (Open release.now) (running_at release.now ls) call) }
+{
+    match call {
+        Call::Release => Err(Refusal::Busy),
+        Call::Report(point, reading) => reported_at(plan, release, point, reading),
+        Call::End(reading) => closed_at(plan, release, reading),
+    }
+}
+
+// A call on the table of an accepted plan, by the state: broken where an open release is not good.
+fn good_call(plan: &LentPlan, state: &State, call: Call) -> Result<Step, Refusal>
+    requires { WholeTable plan.now }
+    ensures { (q : WholeTable plan.now) → told state.now result
+        ≡ as_step (on_state q.costed.rowed.head.plan state.now call (read_state q.costed.rowed.head.plan state.now)) }
+{
+    match state {
+        State::Idle => idle_call(plan, call),
+        State::Open(release) if stands(plan, release) => running_call(plan, release, call),
+        State::Open(_) => Err(Refusal::Broken),
+    }
+}
+
+// A call on a table of which it is known whether it is that of an accepted plan: broken where it is not. Release: broken, busy, unfit, or the decision.
+// Report: broken, idle, stranger, backward, astray, or the decision. End: broken, idle, backward, astray, or resume or ended. A refused call keeps the state.
+// `checked` goes beside row and head: both lie in the caller's memory, where they may change before the next piece of a log, so no type can say it of them.
+pub fn checked_call(checked: bool, row: &[Leaf], head: &Head, state: State, call: Call) -> Step
+    requires { checked ≡ good (table_with row.now head.now) }
+    ensures { result ≡ as_step (call_on (table_with row.now head.now) state call) }
 {
     if !checked {
         return refuse(state, Refusal::Broken);
     }
-    let row = &row[..head.leaves * STRIDE];
-    if !state.running {
-        return idle_call(row, head, state, call);
-    }
-    let turns = &turns[..head.leaves];
-    let tails = &tails[..head.leaves];
-    if !stands(row, turns, tails, head, state) {
-        return refuse(state, Refusal::Broken);
-    }
-    let stretches = &stretches[..head.leaves];
-    running_call(row, turns, tails, stretches, head, state, call)
+    let code = head.code(row);
+    let step = good_call(&LentPlan { code, head }, &state, call);
+    step.unwrap_or_else(|refusal| refuse(state, refusal))
 }
 
 // A call on a table.
-pub fn call(
-    row: &[u64],
-    turns: &[u64],
-    tails: &[u64],
-    stretches: &[u64],
-    head: Head,
-    state: State,
-    call: Call,
-) -> Step
-    ensures { result ≡ as_step (call_on (table_at row.now turns.now tails.now stretches.now head) state call) }
+pub fn call(row: &[Leaf], head: &Head, state: State, call: Call) -> Step
+    ensures { result ≡ as_step (call_on (table_with row.now head.now) state call) }
 {
-    let checked = check(row, turns, tails, stretches, head);
-    checked_call(checked, row, turns, tails, stretches, head, state, call)
+    checked_call(check(row, head), row, head, state, call)
 }

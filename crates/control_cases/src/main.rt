@@ -2,10 +2,10 @@
 // hand beside each list of calls, and stands in the file stdout.
 #![tactic(auto)]
 
-use control::{call, fresh};
+use control::{State, call};
 use model::{Answer, Call};
 use print::{SIZE, answer_line};
-use rows::{MAX_LEAVES, ROW};
+use rows::{Leaf, MAX_LEAVES};
 use std::io;
 use table::{Head, read};
 
@@ -16,19 +16,11 @@ fn show(rt: &impl Print, answer: Answer) -> io::Result<()> {
     rt.write_all(&out[..size])
 }
 
-// Plays a list of calls on a table from a fresh state, and prints the answers.
-fn play_on(
-    rt: &impl Print,
-    row: &[u64; ROW],
-    turns: &[u64; MAX_LEAVES],
-    tails: &[u64; MAX_LEAVES],
-    stretches: &[u64; MAX_LEAVES],
-    head: Head,
-    calls: &[Call],
-) -> io::Result<()> {
-    let mut state = fresh();
+// Plays a list of calls on a table from the idle state, and prints the answers.
+fn play_on(rt: &impl Print, row: &[Leaf], head: &Head, calls: &[Call]) -> io::Result<()> {
+    let mut state = State::Idle;
     for &next in calls {
-        let step = call(row, turns, tails, stretches, head, state, next);
+        let step = call(row, head, state, next);
         show(rt, step.answer)?;
         state = step.state;
     }
@@ -37,19 +29,9 @@ fn play_on(
 
 // Reads a plan, and plays a list of calls on its table.
 fn play(rt: &impl Print, text: &[u8], calls: &[Call]) -> io::Result<()> {
-    let mut row = [0; ROW];
-    let mut turns = [0; MAX_LEAVES];
-    let mut tails = [0; MAX_LEAVES];
-    let mut stretches = [0; MAX_LEAVES];
-    if let Ok(head) = read(
-        text,
-        MAX_LEAVES,
-        &mut row,
-        &mut turns,
-        &mut tails,
-        &mut stretches,
-    ) {
-        play_on(rt, &row, &turns, &tails, &stretches, head, calls)?;
+    let mut row = [Leaf::default(); MAX_LEAVES];
+    if let Ok(head) = read(text, &mut row) {
+        play_on(rt, &row, &head, calls)?;
     }
     Ok(())
 }

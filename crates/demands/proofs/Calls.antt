@@ -29,7 +29,9 @@ use Rattle.model.proofs.Blocks.{is_point_of, point_of_is}
 use Rattle.model.proofs.Since.{fit_exactly}
 use Rattle.table.specs.Table.{plan_of}
 use Rattle.table.proofs.Theorems as table
+use Rattle.control.specs.declared.OpenRelease.{OpenRelease}
 use Rattle.control.specs.declared.State.{State}
+use Rattle.control.specs.declared.State.TheVariants as state
 use Rattle.control.specs.State.{stack_of, levels_of, standing}
 use Rattle.control.specs.Calls.{place_of, running_at, found_at, read_state, in_numbers, reply, on_state, on_plan, call_on}
 use Rattle.control.specs.Meaning.{StandsSomewhere}
@@ -57,13 +59,13 @@ same_refusal e = cc
 pub point_test : (p : Plan) (n : ℕ) → (is_point (all_leaves p.functions) n ≡ true) ↔ PointOf p n
 point_test p n = (is_point_of p n, point_of_is p n)
 
--- The levels of a state are found exactly where it stands somewhere.
-stands_test : (p : Plan) → Accepted p → (s : State) → ((ls : Levels) × (standing p s ≡ some ls)) ↔ StandsSomewhere p s
+-- The levels of a release are found exactly where it stands somewhere.
+stands_test : (p : Plan) → Accepted p → (o : OpenRelease) → ((ls : Levels) × (standing p o ≡ some ls)) ↔ StandsSomewhere p o
 stands_test = control.state_good_exactly
 
 -- They are those of its stack.
-levels_found : (p : Plan) → Accepted p → (s : State) (ls : Levels) → standing p s ≡ some ls → levels_of p (stack_of s) ≡ some ls
-levels_found p a s ls e = timed_some p a s (levels_of p (stack_of s)) ls e
+levels_found : (p : Plan) → Accepted p → (o : OpenRelease) (ls : Levels) → standing p o ≡ some ls → levels_of p (stack_of o) ≡ some ls
+levels_found p a o ls e = timed_some p a o (levels_of p (stack_of o)) ls e
 
 -- WHAT BECOMES OF A CALL
 
@@ -76,7 +78,7 @@ turned : {m : Memory} {s : State} {c : Call} (k : Refusal) → Refuses m s c k �
 turned k w = inr (k, w, refl)
 
 -- A call on an idle state.
-idle_fate : (m : Memory) (s : State) (p : Plan) → TableOf p m → s.running ≡ false → (c : Call) → Fate m s c (reply p s idle c)
+idle_fate : (m : Memory) (s : State) (p : Plan) → TableOf p m → s ≡ state.Idle → (c : Call) → Fate m s c (reply p s idle c)
 unfolding respond
 idle_fate m s p o e (Report n r) = turned Idle (idle_report o e)
 idle_fate m s p o e (End r) = turned Idle (idle_end o e)
@@ -86,52 +88,52 @@ idle_fate m s p o e Release = by (leb (total C (main p) + p.switch) p.deadline) 
     by true i = inl tt
     by false i = turned Unfit (unfit o e (failed _ (fit_exactly p) i))
 
--- A report, an end and any call on a state that stands at levels.
-module _ (m : Memory) (s : State) (p : Plan) (u : Underway p m s) (ls : Levels) (e : standing p s ≡ some ls) where
+-- A report, an end and any call where the open release stands at levels.
+module _ (m : Memory) (s : State) (p : Plan) (o : OpenRelease) (u : Underway p m s o) (ls : Levels) (e : standing p o ≡ some ls) where
   abbrev x : places.State
-  x = running_at s ls
+  x = running_at o ls
 
-  abbrev levels : levels_of p (stack_of s) ≡ some ls
-  levels = levels_found p u.table.accepted s ls e
+  abbrev levels : levels_of p (stack_of o) ≡ some ls
+  levels = levels_found p u.table.accepted o ls e
 
-  report_fate : (n r : ℕ) → Fate m s (Report n r) (reply p s (running_at s ls) (Report n r))
+  report_fate : (n r : ℕ) → Fate m s (Report n r) (reply p s (running_at o ls) (Report n r))
   unfolding respond
-  report_fate n r = by (is_point (all_leaves p.functions) n) refl (ltb r s.reading) refl (next_levels p (place_of s ls) n) refl
+  report_fate n r = by (is_point (all_leaves p.functions) n) refl (ltb r o.reading) refl (next_levels p (place_of o ls) n) refl
     where
-      by : (i : Bool) → is_point (all_leaves p.functions) n ≡ i → (j : Bool) → ltb r s.reading ≡ j → (o : Option Levels) → next_levels p (place_of s ls) n ≡ o →
-          Fate m s (Report n r) (in_numbers p s (pick i (pick j (refuse x Backward) (reached p x n r s.others o)) (refuse x Stranger)))
+      by : (i : Bool) → is_point (all_leaves p.functions) n ≡ i → (j : Bool) → ltb r o.reading ≡ j → (q : Option Levels) → next_levels p (place_of o ls) n ≡ q →
+          Fate m s (Report n r) (in_numbers p s (pick i (pick j (refuse x Backward) (reached p x n r o.others q)) (refuse x Stranger)))
       by true a false b (some ls') z = inl tt
       by true a false b none z =
-          turned Astray (astray_report u (is_point_of p n a) (ltb-false r s.reading b)
-          (λ w. let (ls', q) = (can_report p u.table.accepted s ls n levels).1 w in let i : ◌≡◌ {A = ℕ} 0 1 = cc in omega arith))
-      by true a true b o z = turned Backward (backward_report u (is_point_of p n a) (ltb-true r s.reading b))
-      by false a j b o z = turned Stranger (stranger u (failed _ (point_test p n) a))
+          turned Astray (astray_report u (is_point_of p n a) (ltb-false r o.reading b)
+          (λ w. let (ls', q) = (can_report p u.table.accepted o ls n levels).1 w in let i : ◌≡◌ {A = ℕ} 0 1 = cc in omega arith))
+      by true a true b q z = turned Backward (backward_report u (is_point_of p n a) (ltb-true r o.reading b))
+      by false a j b q z = turned Stranger (stranger u (failed _ (point_test p n) a))
 
-  end_fate : (r : ℕ) → Fate m s (End r) (reply p s (running_at s ls) (End r))
+  end_fate : (r : ℕ) → Fate m s (End r) (reply p s (running_at o ls) (End r))
   unfolding respond
-  end_fate r = by (ltb r s.reading) refl (can_close p (place_of s ls)) refl
+  end_fate r = by (ltb r o.reading) refl (can_close p (place_of o ls)) refl
     where
-      by : (j : Bool) → ltb r s.reading ≡ j → (i : Bool) → can_close p (place_of s ls) ≡ i →
-          Fate m s (End r) (in_numbers p s (pick j (refuse x Backward) (pick i (record { state = idle; answer = Closed (ending s.others) (late p r) }) (refuse x Astray))))
-      by true b i z = turned Backward (backward_end u (ltb-true r s.reading b))
+      by : (j : Bool) → ltb r o.reading ≡ j → (i : Bool) → can_close p (place_of o ls) ≡ i →
+          Fate m s (End r) (in_numbers p s (pick j (refuse x Backward) (pick i (record { state = idle; answer = Closed (ending o.others) (late p r) }) (refuse x Astray))))
+      by true b i z = turned Backward (backward_end u (ltb-true r o.reading b))
       by false b true z = inl tt
-      by false b false z = turned Astray (astray_end u (ltb-false r s.reading b) (failed _ (can_end p u.table.accepted s ls levels) z))
+      by false b false z = turned Astray (astray_end u (ltb-false r o.reading b) (failed _ (can_end p u.table.accepted o ls levels) z))
 
-  running_fate : (c : Call) → Fate m s c (reply p s (running_at s ls) c)
+  running_fate : (c : Call) → Fate m s c (reply p s (running_at o ls) c)
   unfolding respond
   running_fate Release = turned Busy (busy u)
   running_fate (Report n r) = report_fate n r
   running_fate (End r) = end_fate r
 
 -- A call on the table of a plan.
-phase_fate : (m : Memory) (s : State) (c : Call) (p : Plan) → TableOf p m → (b : Bool) → s.running ≡ b → Fate m s c (on_state p s c (read_state p s b))
-phase_fate m s c p o false e = idle_fate m s p o e c
-phase_fate m s c p o true e = by (standing p s) refl
+phase_fate : (m : Memory) (s : State) (c : Call) (p : Plan) → TableOf p m → (t : State) → s ≡ t → Fate m s c (on_state p s c (read_state p t))
+phase_fate m s c p o state.Idle e = idle_fate m s p o e c
+phase_fate m s c p o (state.Open release) e = by (standing p release) refl
   where
-    by : (q : Option Levels) → standing p s ≡ q → Fate m s c (on_state p s c (found_at s q))
+    by : (q : Option Levels) → standing p release ≡ q → Fate m s c (on_state p s c (found_at release q))
     by none i =
-        turned Broken (nowhere o e (λ w. let (ls, q) = (stands_test p o.accepted s).1 w in let z : ◌≡◌ {A = ℕ} 0 1 = cc in omega arith))
-    by (some ls) i = running_fate m s p (record { table = o; running = e; stands = (stands_test p o.accepted s).0 (ls, i) }) ls i c
+        turned Broken (nowhere o e (λ w. let (ls, q) = (stands_test p o.accepted release).1 w in let z : ◌≡◌ {A = ℕ} 0 1 = cc in omega arith))
+    by (some ls) i = running_fate m s p release (record { table = o; running = e; stands = (stands_test p o.accepted release).0 (ls, i) }) ls i c
 
 -- The plan of a table.
 found_plan : (m : Memory) (p : Plan) → plan_of (table_held m) ≡ some p → TableOf p m
@@ -147,7 +149,7 @@ fate m s c = by (plan_of (table_held m)) refl
   where
     by : (o : Option Plan) → plan_of (table_held m) ≡ o → Fate m s c (on_plan s c o)
     by none e = turned Broken (no_plan (λ p o. let q = plan_found m p o in let z : ◌≡◌ {A = ℕ} 0 1 = cc in omega arith))
-    by (some p) e = phase_fate m s c p (found_plan m p e) s.running refl
+    by (some p) e = phase_fate m s c p (found_plan m p e) s refl
 
 -- FROM THE RULES TO THE CALL
 
@@ -159,53 +161,53 @@ no_plan_found m f = by (plan_of (table_held m)) refl
     by none e = refl
     by (some p) e = absurd (f p (found_plan m p e))
 
--- A call on the table of a plan, and on an idle state there.
-on_table : (m : Memory) (s : State) (c : Call) (p : Plan) → TableOf p m → (b : Bool) → s.running ≡ b → call_on (table_held m) s c ≡ on_state p s c (read_state p s b)
+-- A call on the table of a plan.
+on_table : (m : Memory) (s : State) (c : Call) (p : Plan) → TableOf p m → (t : State) → s ≡ t → call_on (table_held m) s c ≡ on_state p s c (read_state p t)
 unfolding call_on
-on_table m s c p o b e = ap (on_plan s c) (plan_found m p o) ∙ ap (λ x. on_state p s c (read_state p s x)) e
+on_table m s c p o t e = ap (on_plan s c) (plan_found m p o) ∙ ap (λ x. on_state p s c (read_state p x)) e
 
--- A state that stands nowhere has no levels.
-levels_missing : (p : Plan) → Accepted p → (s : State) → ¬ StandsSomewhere p s → standing p s ≡ none
-levels_missing p a s f = by (standing p s) refl
+-- A release that stands nowhere has no levels.
+levels_missing : (p : Plan) → Accepted p → (o : OpenRelease) → ¬ StandsSomewhere p o → standing p o ≡ none
+levels_missing p a o f = by (standing p o) refl
   where
-    by : (o : Option Levels) → standing p s ≡ o → o ≡ none
+    by : (q : Option Levels) → standing p o ≡ q → q ≡ none
     by none e = refl
-    by (some ls) e = absurd (f ((stands_test p a s).0 (ls, e)))
+    by (some ls) e = absurd (f ((stands_test p a o).0 (ls, e)))
 
--- The levels of a state that is under way, and the call there.
-underway_call : (m : Memory) (s : State) (p : Plan) → Underway p m s → (c : Call) →
-    (ls : Levels) × (standing p s ≡ some ls) × (call_on (table_held m) s c ≡ reply p s (running_at s ls) c)
-underway_call m s p u c =
-    let (ls, e) = (stands_test p u.table.accepted s).1 u.stands in
-    (ls, e, on_table m s c p u.table true u.running ∙ ap (λ q. on_state p s c (found_at s q)) e)
+-- The levels of a release that is under way, and the call there.
+underway_call : (m : Memory) (s : State) (p : Plan) (o : OpenRelease) → Underway p m s o → (c : Call) →
+    (ls : Levels) × (standing p o ≡ some ls) × (call_on (table_held m) s c ≡ reply p s (running_at o ls) c)
+underway_call m s p o u c =
+    let (ls, e) = (stands_test p u.table.accepted o).1 u.stands in
+    (ls, e, on_table m s c p u.table (state.Open o) u.running ∙ ap (λ q. on_state p s c (found_at o q)) e)
 
 -- No levels are found for a point that no run standing there reports next.
-no_levels : (p : Plan) (a : Accepted p) (s : State) (ls : Levels) → standing p s ≡ some ls → (n : ℕ) → ¬ CanReport p s n → next_levels p (place_of s ls) n ≡ none
-no_levels p a s ls e n f = by (next_levels p (place_of s ls) n) refl
+no_levels : (p : Plan) (a : Accepted p) (o : OpenRelease) (ls : Levels) → standing p o ≡ some ls → (n : ℕ) → ¬ CanReport p o n → next_levels p (place_of o ls) n ≡ none
+no_levels p a o ls e n f = by (next_levels p (place_of o ls) n) refl
   where
-    by : (o : Option Levels) → next_levels p (place_of s ls) n ≡ o → o ≡ none
+    by : (q : Option Levels) → next_levels p (place_of o ls) n ≡ q → q ≡ none
     by none i = refl
-    by (some ls') i = absurd (f ((can_report p a s ls n (levels_found p a s ls e)).0 (ls', i)))
+    by (some ls') i = absurd (f ((can_report p a o ls n (levels_found p a o ls e)).0 (ls', i)))
 
 -- A call that the rules refuse by k is refused by k and keeps the state.
 rule_call : (m : Memory) (s : State) (c : Call) (k : Refusal) → Refuses m s c k → call_on (table_held m) s c ≡ refuse s k
 unfolding respond
 rule_call m s c k (no_plan f) = unfold call_on in ap (on_plan s c) (no_plan_found m f)
-rule_call m s c k (nowhere {p = p} o e f) = on_table m s c p o true e ∙ ap (λ q. on_state p s c (found_at s q)) (levels_missing p o.accepted s f)
-rule_call m s c k (busy {p = p} u) = (underway_call m s p u Release).2
-rule_call m s c k (unfit {p = p} o e f) = on_table m s Release p o false e ∙ rw (fails _ (fit_exactly p) f)
-rule_call m s c k (idle_report {p = p} {n = n} {r = r} o e) = on_table m s (Report n r) p o false e
-rule_call m s c k (idle_end {p = p} {r = r} o e) = on_table m s (End r) p o false e
-rule_call m s c k (stranger {p = p} {n = n} {r = r} u f) = (underway_call m s p u (Report n r)).2 ∙ rw (fails _ (point_test p n) f)
-rule_call m s c k (backward_report {p = p} {n = n} {r = r} u x h) =
-    (underway_call m s p u (Report n r)).2 ∙ rw ((point_test p n).1 x, lt-ltb r s.reading h)
-rule_call m s c k (backward_end {p = p} {r = r} u h) = (underway_call m s p u (End r)).2 ∙ rw (lt-ltb r s.reading h)
-rule_call m s c k (astray_report {p = p} {n = n} {r = r} u x h f) =
-    let (ls, e, q) = underway_call m s p u (Report n r) in
-    q ∙ rw ((point_test p n).1 x, le-ltb r s.reading h, no_levels p u.table.accepted s ls e n f)
-rule_call m s c k (astray_end {p = p} {r = r} u h f) =
-    let (ls, e, q) = underway_call m s p u (End r) in
-    q ∙ rw (le-ltb r s.reading h, fails _ (can_end p u.table.accepted s ls (levels_found p u.table.accepted s ls e)) f)
+rule_call m s c k (nowhere {p = p} {o = r} o e f) = on_table m s c p o (state.Open r) e ∙ ap (λ q. on_state p s c (found_at r q)) (levels_missing p o.accepted r f)
+rule_call m s c k (busy {p = p} {o = o} u) = (underway_call m s p o u Release).2
+rule_call m s c k (unfit {p = p} o e f) = on_table m s Release p o state.Idle e ∙ rw (fails _ (fit_exactly p) f)
+rule_call m s c k (idle_report {p = p} {n = n} {r = r} o e) = on_table m s (Report n r) p o state.Idle e
+rule_call m s c k (idle_end {p = p} {r = r} o e) = on_table m s (End r) p o state.Idle e
+rule_call m s c k (stranger {p = p} {o = o} {n = n} {r = r} u f) = (underway_call m s p o u (Report n r)).2 ∙ rw (fails _ (point_test p n) f)
+rule_call m s c k (backward_report {p = p} {o = o} {n = n} {r = r} u x h) =
+    (underway_call m s p o u (Report n r)).2 ∙ rw ((point_test p n).1 x, lt-ltb r o.reading h)
+rule_call m s c k (backward_end {p = p} {o = o} {r = r} u h) = (underway_call m s p o u (End r)).2 ∙ rw (lt-ltb r o.reading h)
+rule_call m s c k (astray_report {p = p} {o = o} {n = n} {r = r} u x h f) =
+    let (ls, e, q) = underway_call m s p o u (Report n r) in
+    q ∙ rw ((point_test p n).1 x, le-ltb r o.reading h, no_levels p u.table.accepted o ls e n f)
+rule_call m s c k (astray_end {p = p} {o = o} {r = r} u h f) =
+    let (ls, e, q) = underway_call m s p o u (End r) in
+    q ∙ rw (le-ltb r o.reading h, fails _ (can_end p u.table.accepted o ls (levels_found p u.table.accepted o ls e)) f)
 
 -- THE RULES, EXACTLY
 

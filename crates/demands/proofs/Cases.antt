@@ -9,9 +9,10 @@ use Rattle.control.specs.State.{fresh}
 use Rattle.control.specs.Calls.{controller_of}
 use Rattle.model.specs.Histories.{Answered}
 use Rattle.control.proofs.Cases.{cases_right}
-use Rattle.rolsipay.specs.declared.Leaf.{Leaf}
+use Rattle.rows.specs.declared.Leaf.{Leaf}
+use Rattle.rolsipay.specs.Calling.{zeros}
 use Rattle.rolsipay.proofs.Theorems.{column_held}
-use Rattle.demands.specs.Delivered.{Memory, zeros}
+use Rattle.demands.specs.Delivered.{Memory}
 use Rattle.demands.specs.Rules.{TableOf}
 use Rattle.demands.specs.Cases.{RightIn, EachRight}
 use Rattle.demands.proofs.Tables.{numbers_held}

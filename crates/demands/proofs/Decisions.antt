@@ -30,14 +30,16 @@ use Rattle.model.proofs.Outlooks.{next_stands, outlook_is}
 use Rattle.model.proofs.Decisions.{holds_exactly}
 use Rattle.model.proofs.Since as since
 use Rattle.model.proofs.Since.{StateOf}
+use Rattle.control.specs.declared.OpenRelease.{OpenRelease}
+use Rattle.control.specs.declared.State.TheVariants.{Open}
 use Rattle.control.specs.Calls.{in_numbers, reply, call_on}
 use Rattle.control.specs.Meaning.{HistoryState}
 use Rattle.control.proofs.Theorems as control
 use Rattle.control.proofs.Alike.{on_tied}
 use Rattle.rolsipay.specs.declared.State.{State}
-use Rattle.rolsipay.specs.Calling.{state_of, lent}
+use Rattle.rolsipay.specs.Calling.{zeros, state_of, lent}
 use Rattle.demands.specs.Decisions.{Worded, goes, suspends, stays, Decides, Closes, resumes, just_ends}
-use Rattle.demands.specs.Delivered.{Memory, zeros, delivered}
+use Rattle.demands.specs.Delivered.{Memory, delivered}
 use Rattle.demands.specs.Rules.{TableOf}
 use Rattle.demands.proofs.Tables.{numbers_held}
 use Rattle.demands.proofs.Delivered.{answer_held, accepted_leaves, StandsFor, alike}
@@ -98,8 +100,9 @@ module _ (p : Plan) (m : Memory) (o : TableOf p m) where
   since_state : {s : State} {h : List ℕ} {ds : List Decision} → Since (delivered m) s h ds → (x : places.State) × StandsFor p m o s x × StateOf p t x h ds
   since_state w = since.since_state p t (delivered m) (StandsFor p m o) refl (alike p m o) w
 
-  -- So it is that of its history.
-  pub history_state : {s : State} {n : ℕ} {h : List ℕ} {ds : List Decision} → Since (delivered m) s (n ∷ h) ds → HistoryState p (state_of s) (n ∷ h)
+  -- So it is an open release of its history.
+  pub history_state : {s : State} {n : ℕ} {h : List ℕ} {ds : List Decision} → Since (delivered m) s (n ∷ h) ds →
+      (o : OpenRelease) × (state_of s ≡ Open o) × HistoryState p o (n ∷ h)
   history_state {s} {n} {h} {ds} w = let (x, i, k) = since_state w in control.state_is_of_history p o.accepted (state_of s) x n h ds i k
 
   -- The release.

@@ -1,4 +1,4 @@
--- Where a good state can go on: the next levels are found exactly for the points that some run standing there reports next, and the end exactly where
+-- Where a good release can go on: the next levels are found exactly for the points that some run standing there reports next, and the end exactly where
 -- some run standing there ends.
 use mathlib.Core.Bool.{true}
 use mathlib.Core.List.{List, [], ◌∷◌, ◌++◌}
@@ -23,7 +23,7 @@ use Rattle.model.proofs.Decoded.{known_plan}
 use Rattle.model.proofs.Points.{standing_points}
 use Rattle.model.proofs.Reachable.{stack_stands}
 use Rattle.model.proofs.Refusing.{next_reported, close_complete}
-use Rattle.control.specs.declared.State.{State}
+use Rattle.control.specs.declared.OpenRelease.{OpenRelease}
 use Rattle.control.specs.State.{stack_of, levels_of}
 use Rattle.control.specs.Calls.{place_of}
 use Rattle.control.proofs.Places.{decode_top, points_all, all_points}
@@ -40,23 +40,23 @@ module _ (p : Plan) (a : Accepted p) where
   placed [] (g ∷ ks) = at_report 0 (g ∷ ks)
   placed (n ∷ h) (g ∷ ks) = at_report (last_of n h) (g ∷ ks)
 
-  -- What comes next behind it, and whether a run can end there, is what the state's own place says.
-  next_same : (s : State) (h : List ℕ) (ls : Levels) (n : ℕ) → next_levels p (place_of s ls) n ≡ next_levels p (placed h ls) n
-  next_same s h [] n = refl
-  next_same s [] (g ∷ ks) n = refl
-  next_same s (m ∷ h) (g ∷ ks) n = refl
+  -- What comes next behind it, and whether a run can end there, is what the release's own place says.
+  next_same : (o : OpenRelease) (h : List ℕ) (ls : Levels) (n : ℕ) → next_levels p (place_of o ls) n ≡ next_levels p (placed h ls) n
+  next_same o h [] n = refl
+  next_same o [] (g ∷ ks) n = refl
+  next_same o (m ∷ h) (g ∷ ks) n = refl
 
-  close_same : (s : State) (h : List ℕ) (ls : Levels) → can_close p (place_of s ls) ≡ can_close p (placed h ls)
-  close_same s h [] = refl
-  close_same s [] (g ∷ ks) = refl
-  close_same s (m ∷ h) (g ∷ ks) = refl
+  close_same : (o : OpenRelease) (h : List ℕ) (ls : Levels) → can_close p (place_of o ls) ≡ can_close p (placed h ls)
+  close_same o h [] = refl
+  close_same o [] (g ∷ ks) = refl
+  close_same o (m ∷ h) (g ∷ ks) = refl
 
   -- Next levels are found exactly for the points that come next.
-  found_exactly : (s : State) (ls : Levels) (h : List ℕ) (n : ℕ) → Stands p (placed h ls) h →
-      ((ls' : Levels) × (next_levels p (place_of s ls) n ≡ some ls')) ↔ Reported (main p) (h ++ (n ∷ []))
-  found_exactly s ls h n w =
+  found_exactly : (o : OpenRelease) (ls : Levels) (h : List ℕ) (n : ℕ) → Stands p (placed h ls) h →
+      ((ls' : Levels) × (next_levels p (place_of o ls) n ≡ some ls')) ↔ Reported (main p) (h ++ (n ∷ []))
+  found_exactly o ls h n w =
       let t = accepted_traceable p a in
-      let q = next_same s h ls n in (
+      let q = next_same o h ls n in (
         (λ (ls', i). next_reported p t (placed h ls) h n ls' w (sym q ∙ i)),
         λ r.
             let (g, e) = (leads_reported (main p) (h ++ (n ∷ [])) t).1 r in
@@ -65,10 +65,10 @@ module _ (p : Plan) (a : Accepted p) where
       )
 
   -- The levels may end exactly where a run does.
-  end_exactly : (s : State) (ls : Levels) (h : List ℕ) → Stands p (placed h ls) h → (can_close p (place_of s ls) ≡ true) ↔ Complete (main p) h
-  end_exactly s ls h w = subst (λ b. (b ≡ true) ↔ Complete (main p) h) (sym (close_same s h ls)) (close_complete p (accepted_traceable p a) (placed h ls) h w)
+  end_exactly : (o : OpenRelease) (ls : Levels) (h : List ℕ) → Stands p (placed h ls) h → (can_close p (place_of o ls) ≡ true) ↔ Complete (main p) h
+  end_exactly o ls h w = subst (λ b. (b ≡ true) ↔ Complete (main p) h) (sym (close_same o h ls)) (close_complete p (accepted_traceable p a) (placed h ls) h w)
 
-  -- WHERE A STATE STANDS
+  -- WHERE A RELEASE STANDS
 
   -- Levels that open with a visit, to which a history leads, are the place of that history.
   top_stands : (ls : Levels) → Top ls → (h : List ℕ) → locate_at (main p) [] h ≡ some ls → Stands p (placed h ls) h
@@ -99,32 +99,32 @@ module _ (p : Plan) (a : Accepted p) where
   -- WHERE IT CAN GO
 
   -- From the levels to a run, and back.
-  report_to : (s : State) (ls : Levels) (n : ℕ) (ss : List Frame) → stack_of s ≡ ss → levels_of p ss ≡ some ls → (ls' : Levels) × (next_levels p (place_of s ls) n ≡ some ls') →
-      CanReport p s n
-  report_to s ls n [] q e w = rules.from_the_release q ((found_exactly s ls [] n (none_stands ls e)).0 w)
-  report_to s ls n (f ∷ fs) q e w =
+  report_to : (o : OpenRelease) (ls : Levels) (n : ℕ) (ss : List Frame) → stack_of o ≡ ss → levels_of p ss ≡ some ls → (ls' : Levels) × (next_levels p (place_of o ls) n ≡ some ls') →
+      CanReport p o n
+  report_to o ls n [] q e w = rules.from_the_release q ((found_exactly o ls [] n (none_stands ls e)).0 w)
+  report_to o ls n (f ∷ fs) q e w =
       let (x, i) = some_run f fs ls e in
-      rules.from_a_report x (i ∙ sym q) ((found_exactly s ls (history x) n (run_stands (f ∷ fs) ls e x i)).0 w)
+      rules.from_a_report x (i ∙ sym q) ((found_exactly o ls (history x) n (run_stands (f ∷ fs) ls e x i)).0 w)
 
-  report_from : (s : State) (ls : Levels) (n : ℕ) → levels_of p (stack_of s) ≡ some ls → CanReport p s n → (ls' : Levels) × (next_levels p (place_of s ls) n ≡ some ls')
-  report_from s ls n e (rules.from_the_release q r) = (found_exactly s ls [] n (none_stands ls (ap (levels_of p) (sym q) ∙ e))).1 r
-  report_from s ls n e (rules.from_a_report x i r) = (found_exactly s ls (history x) n (run_stands (stack_of s) ls e x i)).1 r
+  report_from : (o : OpenRelease) (ls : Levels) (n : ℕ) → levels_of p (stack_of o) ≡ some ls → CanReport p o n → (ls' : Levels) × (next_levels p (place_of o ls) n ≡ some ls')
+  report_from o ls n e (rules.from_the_release q r) = (found_exactly o ls [] n (none_stands ls (ap (levels_of p) (sym q) ∙ e))).1 r
+  report_from o ls n e (rules.from_a_report x i r) = (found_exactly o ls (history x) n (run_stands (stack_of o) ls e x i)).1 r
 
-  -- A state that stands at levels finds the next levels exactly for the points that some run standing there reports next.
-  pub can_report : (s : State) (ls : Levels) (n : ℕ) → levels_of p (stack_of s) ≡ some ls → ((ls' : Levels) × (next_levels p (place_of s ls) n ≡ some ls')) ↔ CanReport p s n
-  can_report s ls n e = (report_to s ls n (stack_of s) refl e, report_from s ls n e)
+  -- A release that stands at levels finds the next levels exactly for the points that some run standing there reports next.
+  pub can_report : (o : OpenRelease) (ls : Levels) (n : ℕ) → levels_of p (stack_of o) ≡ some ls → ((ls' : Levels) × (next_levels p (place_of o ls) n ≡ some ls')) ↔ CanReport p o n
+  can_report o ls n e = (report_to o ls n (stack_of o) refl e, report_from o ls n e)
 
   -- The same of the end.
-  end_to : (s : State) (ls : Levels) (ss : List Frame) → stack_of s ≡ ss → levels_of p ss ≡ some ls → can_close p (place_of s ls) ≡ true → CanEnd p s
-  end_to s ls [] q e w = rules.from_the_release q ((end_exactly s ls [] (none_stands ls e)).0 w)
-  end_to s ls (f ∷ fs) q e w =
+  end_to : (o : OpenRelease) (ls : Levels) (ss : List Frame) → stack_of o ≡ ss → levels_of p ss ≡ some ls → can_close p (place_of o ls) ≡ true → CanEnd p o
+  end_to o ls [] q e w = rules.from_the_release q ((end_exactly o ls [] (none_stands ls e)).0 w)
+  end_to o ls (f ∷ fs) q e w =
       let (x, i) = some_run f fs ls e in
-      rules.from_a_report x (i ∙ sym q) ((end_exactly s ls (history x) (run_stands (f ∷ fs) ls e x i)).0 w)
+      rules.from_a_report x (i ∙ sym q) ((end_exactly o ls (history x) (run_stands (f ∷ fs) ls e x i)).0 w)
 
-  end_from : (s : State) (ls : Levels) → levels_of p (stack_of s) ≡ some ls → CanEnd p s → can_close p (place_of s ls) ≡ true
-  end_from s ls e (rules.from_the_release q r) = (end_exactly s ls [] (none_stands ls (ap (levels_of p) (sym q) ∙ e))).1 r
-  end_from s ls e (rules.from_a_report x i r) = (end_exactly s ls (history x) (run_stands (stack_of s) ls e x i)).1 r
+  end_from : (o : OpenRelease) (ls : Levels) → levels_of p (stack_of o) ≡ some ls → CanEnd p o → can_close p (place_of o ls) ≡ true
+  end_from o ls e (rules.from_the_release q r) = (end_exactly o ls [] (none_stands ls (ap (levels_of p) (sym q) ∙ e))).1 r
+  end_from o ls e (rules.from_a_report x i r) = (end_exactly o ls (history x) (run_stands (stack_of o) ls e x i)).1 r
 
   -- It may end exactly where some run standing there ends.
-  pub can_end : (s : State) (ls : Levels) → levels_of p (stack_of s) ≡ some ls → (can_close p (place_of s ls) ≡ true) ↔ CanEnd p s
-  can_end s ls e = (end_to s ls (stack_of s) refl e, end_from s ls e)
+  pub can_end : (o : OpenRelease) (ls : Levels) → levels_of p (stack_of o) ≡ some ls → (can_close p (place_of o ls) ≡ true) ↔ CanEnd p o
+  can_end o ls e = (end_to o ls (stack_of o) refl e, end_from o ls e)

@@ -3,42 +3,35 @@
 use mathlib.Core.Bool.{Bool, true, false}
 use mathlib.Core.List.{List, [], ◌∷◌, ◌++◌}
 use mathlib.Core.Logic.{◌⊎◌, ◌↔◌, inl, inr}
-use mathlib.Core.Option.{Option, none, some}
 use mathlib.Core.Path.{◌≡◌, refl, ap, sym, ◌∙◌, subst}
-use Prim.Native.Nat.{ℕ, ◌+◌, ◌<◌}
+use Prim.Native.Nat.{ℕ, ◌<◌}
 use native.Mathlib.Omega.{arith}
 use native.Mathlib.Decide.{dec_le}
-use lib.Dec.{leb}
 use Rattle.model.specs.declared.Refusal.{Refusal}
 use Rattle.model.specs.Refusals.{number_of}
-use Rattle.model.specs.declared.Refusal.TheVariants.{Broken, Unfit, Idle}
-use Rattle.model.specs.Plan.{Block, C, Plan, all_leaves}
+use Rattle.model.specs.declared.Refusal.TheVariants.{Broken, Idle}
+use Rattle.model.specs.Plan.{Block, Plan, all_leaves}
 use Rattle.model.specs.Forms.{main}
-use Rattle.model.specs.Total.{total}
 use Rattle.model.specs.Remaining.{Reported, Complete}
 use Rattle.model.specs.declared.Call.{Call}
 use Rattle.model.specs.declared.Call.TheVariants.{Release, Report, End}
 use Rattle.model.specs.declared.Answer.{Answer}
 use Rattle.model.specs.declared.Answer.TheVariants.{Refused}
-use Rattle.model.specs.declared.Others.TheVariants.{Running}
 use Rattle.model.specs.Calls.{Accepts, Reply, refuse}
-use Rattle.model.specs.Decisions.{at_release, Decision, Fit}
+use Rattle.model.specs.Decisions.{Decision, Fit}
 use Rattle.model.specs.Timed.{PointOf, last_reading, opened, Refusable}
 use Rattle.model.specs.Timed as timed
 use Rattle.model.specs.Histories.{Reached, at_first, after, Since}
 use Rattle.model.specs.Histories as since
-use Rattle.model.specs.Controller as places
-use Rattle.model.specs.Controller.{idle, is_point, decided, respond}
-use Rattle.model.specs.Places.{pick}
+use Rattle.model.specs.Controller.{is_point}
 use Rattle.reader.specs.Print.{print}
-use Rattle.table.specs.Table.{Table, plan_of}
-use Rattle.control.specs.declared.State as control
-use Rattle.control.specs.State.{fresh}
-use Rattle.control.specs.Calls.{read_state, left, in_numbers, reply, on_state, on_plan, call_on}
+use Rattle.control.specs.declared.OpenRelease.{OpenRelease}
+use Rattle.control.specs.declared.State.TheVariants as state
+use Rattle.control.specs.Calls.{call_on}
 use Rattle.control.specs.Meaning.{StandsSomewhere}
 use Rattle.rolsipay.specs.declared.State.{State}
-use Rattle.rolsipay.specs.Calling.{state_of, lent}
-use Rattle.demands.specs.Delivered.{Memory, after_read, ReadAs, zeros, delivered}
+use Rattle.rolsipay.specs.Calling.{zeros, state_of, lent}
+use Rattle.demands.specs.Delivered.{Memory, after_read, ReadAs, delivered}
 use Rattle.demands.specs.Rules.{TableOf, Refuses, no_plan, nowhere, busy, unfit, idle_report, idle_end, stranger, backward_report, backward_end, astray_report, astray_end}
 use Rattle.demands.specs.Decisions.{Closes, resumes, just_ends}
 use Rattle.demands.proofs.Tables.{table_held, own_text, read_holds, one_plan}
@@ -61,30 +54,12 @@ pub alike_answered : (m : Memory) (s t : State) → state_of s ≡ state_of t �
 alike_answered m s t e c = answer_held m s c ∙ (ap (λ x. (call_on (table_held m) x c).answer) e ∙ sym (answer_held m t c))
 
 -- An accepted release does not depend on what else an idle state holds.
-released_alike : (t : Table) (s : control.State) → s.running ≡ false → Accepts (call_on t s Release).answer → call_on t s Release ≡ call_on t fresh Release
-unfolding call_on respond
-released_alike t s e = by (plan_of t)
-  where
-    picked : (p : Plan) (b : Bool) (x : Reply places.State) → ((k : control.State) → left p k x.state x.answer ≡ left p fresh x.state x.answer) →
-        Accepts (in_numbers p s (pick b x (refuse idle Unfit))).answer →
-        in_numbers p s (pick b x (refuse idle Unfit)) ≡ in_numbers p fresh (pick b x (refuse idle Unfit))
-    picked p true x f q = λ i. record { state = f s i; answer = x.answer }
-    picked p false x f q = absurd q
-
-    at_idle : (p : Plan) (b : Bool) → b ≡ false → Accepts (on_state p s Release (read_state p s b)).answer → on_state p s Release (read_state p s b) ≡ reply p fresh idle Release
-    at_idle p false i q = picked p (leb (total C (main p) + p.switch) p.deadline) (decided p at_release 0 Running) (λ k. refl) q
-    at_idle p true i q = let z : ◌≡◌ {A = ℕ} 0 1 = cc in absurd (omega arith)
-
-    by : (o : Option Plan) → Accepts (on_plan s Release o).answer → on_plan s Release o ≡ on_plan fresh Release o
-    by none q = absurd q
-    by (some p) q = at_idle p s.running e q
-
-pub idle_released : (m : Memory) (s : State) → (state_of s).running ≡ false → Accepts ((delivered m).respond s Release).answer →
+pub idle_released : (m : Memory) (s : State) → state_of s ≡ state.Idle → Accepts ((delivered m).respond s Release).answer →
     (delivered m).respond s Release ≡ (delivered m).respond zeros Release
 idle_released m s e q =
+    let i : call_on (table_held m) (state_of s) Release ≡ call_on (table_held m) state.Idle Release = ap (λ x. call_on (table_held m) x Release) e in
     let a : Accepts (call_on (table_held m) (state_of s) Release).answer = subst Accepts (answer_held m s Release) q in
-    let i = released_alike (table_held m) (state_of s) e a in
-    let b : Accepts (call_on (table_held m) fresh Release).answer = subst (λ x. Accepts x.answer) i a in
+    let b : Accepts (call_on (table_held m) state.Idle Release).answer = subst (λ x. Accepts x.answer) i a in
     let answer_same : ((delivered m).respond s Release).answer ≡ ((delivered m).respond zeros Release).answer =
     answer_held m s Release ∙ (ap (λ x. x.answer) i ∙ sym (answer_held m zeros Release)) in
     let state_same : ((delivered m).respond s Release).state ≡ ((delivered m).respond zeros Release).state =
@@ -92,7 +67,7 @@ idle_released m s e q =
     λ j. record { state = state_same j; answer = answer_same j }
 
 -- A call on an idle state is refused by 11 exactly where no accepted text, read into whatever memory, leaves this one.
-pub broken_exactly : (m : Memory) (s : State) → (state_of s).running ≡ false → (c : Call) →
+pub broken_exactly : (m : Memory) (s : State) → state_of s ≡ state.Idle → (c : Call) →
     (((delivered m).respond s c).answer ≡ Refused Broken) ↔ ((text : List ℕ) (before : Memory) (p : Plan) → ReadAs text before p → ¬ (after_read text before ≡ m))
 broken_exactly m s e c = (
   (λ q text before p r i. by refl ((refused_exactly m s c Broken).0 q) (p, subst (TableOf p) i (read_holds text before p r))),
@@ -112,14 +87,17 @@ broken_exactly m s e c = (
     by i (astray_report u x l f) w = omega arith
     by i (astray_end u l f) w = omega arith
 
--- On the table of an accepted plan a running state is refused by 11 exactly when no run stands where it stands.
-pub nowhere_exactly : (p : Plan) (m : Memory) → TableOf p m → (s : State) → (state_of s).running ≡ true → (c : Call) →
-    (((delivered m).respond s c).answer ≡ Refused Broken) ↔ ¬ StandsSomewhere p (state_of s)
-nowhere_exactly p m o s e c = ((λ q. by refl ((refused_exactly m s c Broken).0 q)), λ f. (refused_exactly m s c Broken).1 (nowhere o e f))
+-- On the table of an accepted plan an open release is refused by 11 exactly when no run stands where it stands.
+pub nowhere_exactly : (p : Plan) (m : Memory) → TableOf p m → (s : State) (release : OpenRelease) → state_of s ≡ state.Open release → (c : Call) →
+    (((delivered m).respond s c).answer ≡ Refused Broken) ↔ ¬ StandsSomewhere p release
+nowhere_exactly p m o s release e c = ((λ q. by refl ((refused_exactly m s c Broken).0 q)), λ f. (refused_exactly m s c Broken).1 (nowhere o e f))
   where
-    by : {c : Call} {k : Refusal} → number_of k ≡ 11 → Refuses m (state_of s) c k → ¬ StandsSomewhere p (state_of s)
+    by : {c : Call} {k : Refusal} → number_of k ≡ 11 → Refuses m (state_of s) c k → ¬ StandsSomewhere p release
     by i (no_plan f) = absurd (f p o)
-    by i (nowhere {p = q} u r f) = subst (λ x. ¬ StandsSomewhere x (state_of s)) (one_plan q p m u o) f
+    by i (nowhere {p = q} {o = x} u r f) =
+        let z : state.Open x ≡ state.Open release = sym r ∙ e in
+        let y : x ≡ release = cc in
+        subst (λ w. ¬ StandsSomewhere p w) y (subst (λ w. ¬ StandsSomewhere w x) (one_plan q p m u o) f)
     by i (busy u) = absurd (omega arith)
     by i (unfit u r f) = absurd (omega arith)
     by i (idle_report u r) = absurd (omega arith)

@@ -13,8 +13,8 @@ use Rattle.flight_log.specs.Log.{log_text, AllSmall}
 use Rattle.transcript.specs.Transcript.{replayed, replay, answers_told}
 use Rattle.transcript.proofs.Theorems.{calls_replayed}
 use Rattle.rolsipay.specs.declared.State.{State}
-use Rattle.rolsipay.specs.Calling.{state_of}
-use Rattle.demands.specs.Delivered.{Memory, after_read, ReadAs, zeros, delivered}
+use Rattle.rolsipay.specs.Calling.{zeros, state_of}
+use Rattle.demands.specs.Delivered.{Memory, after_read, ReadAs, delivered}
 use Rattle.demands.proofs.Tables.{table_held, numbers_held, read_holds}
 use Rattle.demands.proofs.Delivered.{answer_held, state_left}
 

@@ -1,10 +1,11 @@
 -- What the delivered reading answers and leaves. Lent memory holds the table of a plan, as the rules say it, exactly where the table in it is the plan's.
 use Rattle.std.specs.Prelude.{Ok, Err}
-use mathlib.Core.List.{List, map}
+use mathlib.Core.List.{List}
 use mathlib.Core.Logic.{◌↔◌}
 use mathlib.Core.Path.{◌≡◌, refl, ap, sym, ◌∙◌, subst}
 use Prim.Native.Nat.{ℕ, ◌≤◌}
 use native.Mathlib.Omega.{arith}
+use Rattle.std.proofs.lemmas.List.{take-map}
 use lib.ListN.{length, get_or, take, drop}
 use lib.Seq.{drop_at, get_or-take}
 use Rattle.model.specs.declared.Refusal.{Refusal}
@@ -16,18 +17,20 @@ use Rattle.model.specs.Timed.{PointOf}
 use Rattle.model.specs.Acceptance.{sizes, Accepted}
 use Rattle.model.proofs.Blocks.{point_of_is}
 use Rattle.model.proofs.Theorems as model
+use Rattle.rows.specs.declared.Leaf.{Leaf}
+use Rattle.rows.specs.Leaves.{lent_stretches}
 use Rattle.reader.specs.declared.RefusedAt.{RefusedAt}
 use Rattle.reader.specs.Outcome.{Outcome, plan, refused}
 use Rattle.reader.specs.Print.{print}
 use Rattle.table.specs.Table.{Table, table_of}
 use Rattle.table.specs.Reading.{verdict, head_after}
+use Rattle.table.specs.Lent.{leaves_from, row_after}
+use Rattle.table.proofs.Lent.{length_leaves}
 use Rattle.table.proofs.Theorems as table
-use Rattle.rolsipay.specs.declared.Leaf.{Leaf}
 use Rattle.control.proofs.Tabled.{point_marked, stretch_at}
-use Rattle.rolsipay.specs.Lent.{leaves_from, table_in}
-use Rattle.rolsipay.specs.Reading.{answer_of, row_after}
-use Rattle.rolsipay.proofs.Spreading.{length_leaves}
-use Rattle.rolsipay.proofs.Theorems.{read_back, read_again, take_map, column_held}
+use Rattle.rolsipay.specs.Lent.{table_in}
+use Rattle.rolsipay.specs.Reading.{answer_of}
+use Rattle.rolsipay.proofs.Theorems.{read_back, read_again, column_held}
 use Rattle.demands.specs.Delivered.{Memory, read_answer, after_read, ReadAs}
 use Rattle.demands.specs.Rules.{Ruled, TableOf}
 use Rattle.demands.specs.Tables.{Numbers}
@@ -118,7 +121,7 @@ one_plan p q m o u =
 -- WHAT THE TABLE SAYS
 
 -- The stretch in the record of a point.
-row_stretch : (p : Plan) (m : Memory) → TableOf p m → (n : ℕ) → PointOf p n → get_or (map (λ (l : Leaf). l.stretch) m.row) n 0 ≡ stretch M n (main p) 0
+row_stretch : (p : Plan) (m : Memory) → TableOf p m → (n : ℕ) → PointOf p n → get_or (lent_stretches m.row) n 0 ≡ stretch M n (main p) 0
 row_stretch p m o n w =
     let f : Leaf → ℕ = λ l. l.stretch in
     let e = numbers_held p m o in
@@ -126,9 +129,9 @@ row_stretch p m o n w =
     let (h, k) = point_marked p o.accepted n i in
     let count : m.head.leaves ≡ sizes p.functions = ap (λ (t : Table). t.head.leaves) e in
     let few : m.head.leaves ≤ 512 = omega (arith, count, o.accepted.formed.few_leaves) in
-    let column : take m.head.leaves (map f m.row) ≡ (table_of p).stretches =
-    take_map f m.head.leaves m.row ∙ (sym (column_held f m.head.leaves m.row few) ∙ ap (λ (t : Table). t.stretches) e) in
-    sym (get_or-take m.head.leaves (map f m.row) n 0 (omega (arith, h, count))) ∙ (ap (λ (c : List ℕ). get_or c n 0) column ∙ stretch_at p o.accepted n i)
+    let column : take m.head.leaves (lent_stretches m.row) ≡ (table_of p).stretches =
+    take-map f m.head.leaves m.row ∙ (sym (column_held f m.head.leaves m.row few) ∙ ap (λ (t : Table). t.stretches) e) in
+    sym (get_or-take m.head.leaves (lent_stretches m.row) n 0 (omega (arith, h, count))) ∙ (ap (λ (c : List ℕ). get_or c n 0) column ∙ stretch_at p o.accepted n i)
 
 pub table_numbers : (p : Plan) (m : Memory) → TableOf p m → Numbers p m
 table_numbers p m o =

@@ -1,7 +1,6 @@
 -- What is promised of the calls that integrators link: the three demands, rule 11 and the marked cases. Statements alone: each proof names the lemma that
 -- shows it. `read_answer` and `after_read` are what the delivered `read` answers and leaves, `delivered` what `release`, `report` and `end` answer and leave
 -- (specs/Delivered), each by its contract. docs/BELIEVE.md lists every definition that these statements need.
-use mathlib.Core.Bool.{true, false}
 use mathlib.Core.List.{List, [], ◌∷◌, ◌++◌}
 use mathlib.Core.Logic.{◌⊎◌, ◌↔◌}
 use mathlib.Core.Path.{◌≡◌}
@@ -27,11 +26,13 @@ use Rattle.model.specs.Worked.{plan_A}
 use Rattle.model.proofs.Theorems as model
 use Rattle.reader.specs.Print.{print}
 use Rattle.table.proofs.Theorems as table
+use Rattle.control.specs.declared.OpenRelease.{OpenRelease}
+use Rattle.control.specs.declared.State.TheVariants.{Idle, Open}
 use Rattle.control.specs.Meaning.{StandsSomewhere, HistoryState}
 use Rattle.control.specs.Cases.{worst_of_A, cases}
 use Rattle.rolsipay.specs.declared.State.{State}
-use Rattle.rolsipay.specs.Calling.{state_of}
-use Rattle.demands.specs.Delivered.{Memory, read_answer, after_read, ReadAs, zeros, delivered}
+use Rattle.rolsipay.specs.Calling.{zeros, state_of}
+use Rattle.demands.specs.Delivered.{Memory, read_answer, after_read, ReadAs, delivered}
 use Rattle.demands.specs.Rules.{Ruled, TableOf, Refuses}
 use Rattle.demands.specs.Tables.{Numbers}
 use Rattle.demands.specs.Decisions.{Decides, Closes}
@@ -96,7 +97,7 @@ call_accepted_exactly = reached.accepted_exactly
 pub alike_answered : (m : Memory) (s t : State) → state_of s ≡ state_of t → (c : Call) → ((delivered m).respond s c).answer ≡ ((delivered m).respond t c).answer
 alike_answered = reached.alike_answered
 
-pub idle_as_fresh : (m : Memory) (s : State) → (state_of s).running ≡ false → Accepts ((delivered m).respond s Release).answer →
+pub idle_as_fresh : (m : Memory) (s : State) → state_of s ≡ Idle → Accepts ((delivered m).respond s Release).answer →
     (delivered m).respond s Release ≡ (delivered m).respond zeros Release
 idle_as_fresh = reached.idle_released
 
@@ -107,9 +108,10 @@ module _ (p : Plan) (m : Memory) (o : TableOf p m) where
   pub every_state_known : {s : State} → Reached (delivered m) s → (s ≡ zeros) ⊎ ((h : List ℕ) × (ds : List Decision) × Since (delivered m) s h ds)
   every_state_known = reached.reached_known p m o
 
-  -- After one report or more the place and the remaining times of the lent state are those of its history: some run with these reports stands at its stack of
-  -- points, open loops and calls with their visit counts, and its 33 remaining times are that run's.
-  pub state_is_of_history : {s : State} {n : ℕ} {h : List ℕ} {ds : List Decision} → Since (delivered m) s (n ∷ h) ds → HistoryState p (state_of s) (n ∷ h)
+  -- After one report or more a release is open in the lent state, and its place and its remaining times are those of its history: some run with these reports
+  -- stands at its stack of points, open loops and calls with their visit counts, and its 33 remaining times are that run's.
+  pub state_is_of_history : {s : State} {n : ℕ} {h : List ℕ} {ds : List Decision} → Since (delivered m) s (n ∷ h) ds →
+      (o : OpenRelease) × (state_of s ≡ Open o) × HistoryState p o (n ∷ h)
   state_is_of_history = decisions.history_state p m o
 
   -- A release from a state of zeros is accepted exactly when total + T is within D.
@@ -181,15 +183,15 @@ worst_case_played m room = worst.worst_A (after_read text_A m) (table_written te
 -- RULE 11 AND THE MARKED CASES
 
 -- Rule 11, the table: every call on an idle state is refused by 11 exactly when no accepted text, read into whatever memory, leaves this one.
-pub table_good_exactly : (m : Memory) (s : State) → (state_of s).running ≡ false → (c : Call) →
+pub table_good_exactly : (m : Memory) (s : State) → state_of s ≡ Idle → (c : Call) →
     (((delivered m).respond s c).answer ≡ Refused Broken) ↔ ((text : List ℕ) (before : Memory) (p : Plan) → ReadAs text before p → ¬ (after_read text before ≡ m))
 table_good_exactly = reached.broken_exactly
 
--- Rule 11, the state: on the table of an accepted plan every call on a running state is refused by 11 exactly when the state neither stands at the release
--- with the times of the release, nor stands where some run of the plan stands, at its last point, open loops and calls with its visit counts, with that
--- run's 33 remaining times.
-pub state_good_exactly : (p : Plan) (m : Memory) → TableOf p m → (s : State) → (state_of s).running ≡ true → (c : Call) →
-    (((delivered m).respond s c).answer ≡ Refused Broken) ↔ ¬ StandsSomewhere p (state_of s)
+-- Rule 11, the state: on the table of an accepted plan every call while a release is open is refused by 11 exactly when the state neither stands at the
+-- release with the times of the release, nor stands where some run of the plan stands, at its last point, open loops and calls with its visit counts, with
+-- that run's 33 remaining times.
+pub state_good_exactly : (p : Plan) (m : Memory) → TableOf p m → (s : State) (o : OpenRelease) → state_of s ≡ Open o → (c : Call) →
+    (((delivered m).respond s c).answer ≡ Refused Broken) ↔ ¬ StandsSomewhere p o
 state_good_exactly = reached.nowhere_exactly
 
 -- The marked cases m1 to m12 hold, in one table: in every memory that holds the table of the case's plan.

@@ -27,7 +27,8 @@ use Rattle.table.specs.Reading.{verdict}
 use Rattle.table.proofs.Theorems as table
 use Rattle.control.specs.Cases.{worst_of_A, cases}
 use Rattle.demands.specs.Lists.{exchanges, text_A}
-use Rattle.demands.specs.Delivered.{Memory, zeros, delivered}
+use Rattle.rolsipay.specs.Calling.{zeros}
+use Rattle.demands.specs.Delivered.{Memory, delivered}
 use Rattle.demands.specs.Rules.{TableOf}
 use Rattle.demands.specs.Cases.{EachRight}
 use Rattle.demands.proofs.Cases.{each_right}

@@ -3,9 +3,10 @@
 use Rattle.std.specs.Prelude.{List, [], ◌∷◌, map, ◌≡◌, take}
 use Rattle.model.specs.Acceptance.{Accepted}
 use Rattle.model.specs.Histories.{Answered}
+use Rattle.rows.specs.declared.Leaf.{Leaf}
 use Rattle.control.specs.Cases.{Case}
-use Rattle.rolsipay.specs.declared.Leaf.{Leaf}
-use Rattle.demands.specs.Delivered.{Memory, zeros, delivered}
+use Rattle.rolsipay.specs.Calling.{zeros}
+use Rattle.demands.specs.Delivered.{Memory, delivered}
 use Rattle.demands.specs.Rules.{TableOf}
 
 -- A case holds in a memory: its totals stand in the head, its stretches in the row, and the delivered calls answer as it says.

@@ -11,7 +11,7 @@ use Rattle.model.specs.declared.Outlook.{Outlook}
 use Rattle.model.specs.Calls.{Reply}
 use Rattle.model.specs.Decisions.{OutlookAt, margin, late, Decision, ConditionAt, ConditionAtEach}
 use Rattle.rolsipay.specs.declared.State.{State}
-use Rattle.demands.specs.Delivered.{zeros}
+use Rattle.rolsipay.specs.Calling.{zeros}
 
 -- The word of a decision d, where `before` are the decisions before it since the release: suspend exactly at the first decision where the condition
 -- fails, go at each one before that, stay at each one behind it.

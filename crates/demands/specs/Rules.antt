@@ -1,6 +1,6 @@
 -- What the rules of document 01, and of 02, L2, say of a text and of a call ('Calls', the table of refusals and the order below it).
 -- Assumes nothing: these are definitions.
-use Rattle.std.specs.Prelude.{true, false, List, [], ◌∷◌, ◌++◌, ◌⊎◌, ◌≡◌, ℕ, ◌^◌, ◌≤◌, ◌<◌, length}
+use Rattle.std.specs.Prelude.{List, [], ◌∷◌, ◌++◌, ◌⊎◌, ◌≡◌, ℕ, ◌^◌, ◌≤◌, ◌<◌, length}
 use Rattle.model.specs.declared.Refusal.{Refusal}
 use Rattle.model.specs.declared.Refusal.TheVariants.{Oversize, Unseen, Uncalled, Long, Broken, Busy, Unfit, Idle, Stranger, Backward, Astray}
 use Rattle.model.specs.Plan.{C, M, Plan}
@@ -15,7 +15,9 @@ use Rattle.model.specs.Decisions.{Fit}
 use Rattle.model.specs.Timed.{PointOf}
 use Rattle.reader.specs.Print.{print}
 use Rattle.refusals.specs.Refusal.{RefusedAt}
+use Rattle.control.specs.declared.OpenRelease.{OpenRelease}
 use Rattle.control.specs.declared.State.{State}
+use Rattle.control.specs.declared.State.TheVariants as state
 use Rattle.control.specs.State.{stack_of}
 use Rattle.control.specs.Meaning.{StandsSomewhere}
 use Rattle.demands.specs.Delivered.{Memory, after_read}
@@ -50,40 +52,40 @@ pub record TableOf (p : Plan) (m : Memory) : Type 0 where
   pub fits : Fits (length m.row) p
   pub unchanged : after_read (print p) m ≡ m
 
--- A release is open on the table of the accepted plan p, and the state is good: it stands at the release, or where some run of p stands.
-pub record Underway (p : Plan) (m : Memory) (s : State) : Type 0 where
+-- A release is open on the table of the accepted plan p, and it is good: it stands at the release itself, or where some run of p stands.
+pub record Underway (p : Plan) (m : Memory) (s : State) (o : OpenRelease) : Type 0 where
   pub table : TableOf p m
-  pub running : s.running ≡ true
-  pub stands : StandsSomewhere p s
+  pub running : s ≡ state.Open o
+  pub stands : StandsSomewhere p o
 
--- Some run that stands where the state stands (at the release, or at its last point, open loops and calls with its visit counts) reports n next.
-pub data CanReport (p : Plan) (s : State) (n : ℕ) : Type 0 where
-  from_the_release : stack_of s ≡ [] → Reported (main p) (n ∷ []) → CanReport p s n
-  from_a_report : (x : Standing (main p)) → stack [] (so_far x) ≡ stack_of s → Reported (main p) (history x ++ (n ∷ [])) → CanReport p s n
+-- Some run that stands where the release stands (at the release itself, or at its last point, open loops and calls with its visit counts) reports n next.
+pub data CanReport (p : Plan) (o : OpenRelease) (n : ℕ) : Type 0 where
+  from_the_release : stack_of o ≡ [] → Reported (main p) (n ∷ []) → CanReport p o n
+  from_a_report : (x : Standing (main p)) → stack [] (so_far x) ≡ stack_of o → Reported (main p) (history x ++ (n ∷ [])) → CanReport p o n
 
--- Some run that stands where the state stands ends without a further report.
-pub data CanEnd (p : Plan) (s : State) : Type 0 where
-  from_the_release : stack_of s ≡ [] → Complete (main p) [] → CanEnd p s
-  from_a_report : (x : Standing (main p)) → stack [] (so_far x) ≡ stack_of s → Complete (main p) (history x) → CanEnd p s
+-- Some run that stands where the release stands ends without a further report.
+pub data CanEnd (p : Plan) (o : OpenRelease) : Type 0 where
+  from_the_release : stack_of o ≡ [] → Complete (main p) [] → CanEnd p o
+  from_a_report : (x : Standing (main p)) → stack [] (so_far x) ≡ stack_of o → Complete (main p) (history x) → CanEnd p o
 
 -- The rules refuse this call, on the table in this memory and on this state, by this refusal. Release: 11, 12, 13. Report: 11, 14, 15, 16, 17. End: 11, 14, 16, 17.
 pub data Refuses (m : Memory) (s : State) : Call → Refusal → Type 0 where
   -- 11: the table is that of no accepted plan.
   no_plan : {c : Call} → ((p : Plan) → ¬ TableOf p m) → Refuses m s c Broken
-  -- 11: the state is running and no run on this table stands where it stands, or its remaining times aren't those of that place.
-  nowhere : {c : Call} {p : Plan} → TableOf p m → s.running ≡ true → ¬ StandsSomewhere p s → Refuses m s c Broken
+  -- 11: a release is open and no run on this table stands where it stands, or its remaining times aren't those of that place.
+  nowhere : {c : Call} {p : Plan} {o : OpenRelease} → TableOf p m → s ≡ state.Open o → ¬ StandsSomewhere p o → Refuses m s c Broken
   -- 12: release before the end.
-  busy : {p : Plan} → Underway p m s → Refuses m s Release Busy
+  busy : {p : Plan} {o : OpenRelease} → Underway p m s o → Refuses m s Release Busy
   -- 13: total + T over D.
-  unfit : {p : Plan} → TableOf p m → s.running ≡ false → ¬ Fit p → Refuses m s Release Unfit
+  unfit : {p : Plan} → TableOf p m → s ≡ state.Idle → ¬ Fit p → Refuses m s Release Unfit
   -- 14: report or end without a release.
-  idle_report : {p : Plan} {n r : ℕ} → TableOf p m → s.running ≡ false → Refuses m s (Report n r) Idle
-  idle_end : {p : Plan} {r : ℕ} → TableOf p m → s.running ≡ false → Refuses m s (End r) Idle
+  idle_report : {p : Plan} {n r : ℕ} → TableOf p m → s ≡ state.Idle → Refuses m s (Report n r) Idle
+  idle_end : {p : Plan} {r : ℕ} → TableOf p m → s ≡ state.Idle → Refuses m s (End r) Idle
   -- 15: the number isn't a point of the plan.
-  stranger : {p : Plan} {n r : ℕ} → Underway p m s → ¬ PointOf p n → Refuses m s (Report n r) Stranger
+  stranger : {p : Plan} {o : OpenRelease} {n r : ℕ} → Underway p m s o → ¬ PointOf p n → Refuses m s (Report n r) Stranger
   -- 16: a reading below the last accepted one.
-  backward_report : {p : Plan} {n r : ℕ} → Underway p m s → PointOf p n → r < s.reading → Refuses m s (Report n r) Backward
-  backward_end : {p : Plan} {r : ℕ} → Underway p m s → r < s.reading → Refuses m s (End r) Backward
+  backward_report : {p : Plan} {o : OpenRelease} {n r : ℕ} → Underway p m s o → PointOf p n → r < o.reading → Refuses m s (Report n r) Backward
+  backward_end : {p : Plan} {o : OpenRelease} {r : ℕ} → Underway p m s o → r < o.reading → Refuses m s (End r) Backward
   -- 17: no run that stands there reports this point next; for end, none can end there.
-  astray_report : {p : Plan} {n r : ℕ} → Underway p m s → PointOf p n → s.reading ≤ r → ¬ CanReport p s n → Refuses m s (Report n r) Astray
-  astray_end : {p : Plan} {r : ℕ} → Underway p m s → s.reading ≤ r → ¬ CanEnd p s → Refuses m s (End r) Astray
+  astray_report : {p : Plan} {o : OpenRelease} {n r : ℕ} → Underway p m s o → PointOf p n → o.reading ≤ r → ¬ CanReport p o n → Refuses m s (Report n r) Astray
+  astray_end : {p : Plan} {o : OpenRelease} {r : ℕ} → Underway p m s o → o.reading ≤ r → ¬ CanEnd p o → Refuses m s (End r) Astray

@@ -11,7 +11,7 @@ use std::fs::File;
 use std::io::{Error, ErrorKind, Print, Read, Write};
 use std::{fs, io, str};
 
-// A text that was opened: it, and how many bytes of the buffer are its name.
+// A text that was opened: it, and how many bytes of the buffer are its name. (A number: a slice would keep the buffer lent.)
 #[derive(Drop)]
 pub struct Opened {
     pub file: File,
@@ -141,6 +141,7 @@ fn fill<R: Read>(rt: &HostRuntime, file: &mut R, name: &[u8], buf: &mut [u8]) ->
     ensures { IfOk result (λ size. IsPrefixLen size buf.new) }
 {
     let mut n = 0;
+    // A `while`: each read says how far it came, so no range has these steps.
     while n < buf.len() {
         match piece(rt, file, name, &mut buf[n..])? {
             0 => return Ok(n),
@@ -165,6 +166,7 @@ pub fn input(rt: &HostRuntime, buf: &mut [u8]) -> usize
 {
     let mut from = rt.stdin();
     let mut n = 0;
+    // A `while`: each read says how far it came, so no range has these steps.
     while n < buf.len() {
         match read(&mut from, &mut buf[n..]) {
             Ok(got) if got > 0 => n += got,

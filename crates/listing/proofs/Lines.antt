@@ -1,17 +1,15 @@
 -- The listing of a text, from what was collected of it. Assumes nothing.
 use Prim.Native.Nat.{ℕ, ◌+◌, ◌*◌, ◌≤◌}
-use mathlib.Core.Path.{◌≡◌, refl, sym, ap, subst, ◌∙◌}
+use mathlib.Core.Path.{◌≡◌, refl, ap, subst, ◌∙◌}
 use mathlib.Core.List.{List, ◌++◌, flat_map}
 use native.Mathlib.Omega.{arith}
 use lib.ListN.{length, take, replicate, length-replicate}
 use lib.Seq.{sets, length-sets}
-use Rattle.std.specs.Prelude.{Ok, Err}
-use Rattle.model.specs.Refusals.{number_of}
+use Rattle.std.specs.Prelude.{Ok}
 use Rattle.model.specs.Plan.{Plan}
 use Rattle.reader.specs.Outcome.{Outcome, plan, refused}
-use Rattle.reader.specs.declared.RefusedAt.{RefusedAt}
 use Rattle.table.specs.Reading.{verdict}
-use Rattle.print.specs.Lines.{task_line, point_line, refused_plan_line}
+use Rattle.print.specs.Lines.{task_line, point_line}
 use Rattle.print.specs.Printed.{PrintedWithin}
 use Rattle.print.proofs.Laws.{joined, Whole, all_of}
 use Rattle.listing.specs.declared.Summary.{Summary}
@@ -22,12 +20,7 @@ use Rattle.listing.proofs.Points.{few_of_text}
 
 -- WHAT THE ANSWER TELLS
 
--- A refusal is that of the text,
-pub was_refused : (o : Outcome) {e : RefusedAt} → Err e ≡ summary_of o → o ≡ refused e.refusal e.line
-was_refused (plan p) x = cc
-was_refused (refused a b) {e} x = let z : e ≡ record { refusal = a; line = b } = cc in sym (ap (λ (y : RefusedAt). refused y.refusal y.line) z)
-
--- and a summary is that of the plan that it was read as.
+-- A summary is that of the plan that a text was read as.
 pub record Listed (text : List ℕ) (v : Summary) (g : List (List ℕ)) : Type 0 where
   pub of : Plan
   pub is : verdict 512 text ≡ plan of
@@ -58,13 +51,6 @@ listed text x {v} {g} e h = by (verdict 512 text) e refl (few_of_text text).0 h
     by (refused k j) e is few h = cc
 
 -- THE LISTING
-
--- What is printed of a refused text, where it is the refusal.
-pub refusal_printed : (f : Outcome → List ℕ) (size : ℕ) (o : Outcome) {e : RefusedAt} {r : ℕ} {l m : List ℕ} →
-    f (refused e.refusal e.line) ≡ refused_plan_line (number_of e.refusal) e.line →
-    128 ≤ size → length l ≡ size → Err e ≡ summary_of o → PrintedWithin 128 l 0 (refused_plan_line (number_of e.refusal) e.line) m r → Whole size l (f o) m r
-refusal_printed f size o {e} {r} {l} {m} is room long x p =
-    subst (λ (t : List ℕ). Whole size l t m r) (sym (ap f (was_refused o x) ∙ is)) (all_of room long p)
 
 -- The listing of a plan is its line, and those of its points behind it.
 pub list_accepted : (text : List ℕ) {v : Summary} {g : List (List ℕ)} {f r : ℕ} {l m o : List ℕ} → length l ≡ 65664 → Listed text v g →

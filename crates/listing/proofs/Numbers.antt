@@ -1,15 +1,15 @@
 -- The points of a plan, stored one behind the other and taken back. Assumes nothing.
-use Prim.Native.Nat.{ℕ, suc, ◌+◌, ◌≤◌}
-use mathlib.Core.Bool.{Bool, true, false}
+use Prim.Native.Nat.{ℕ, suc, ◌+◌, ◌≤◌, ◌<◌}
 use mathlib.Core.Path.{◌≡◌, refl, ap, ◌∙◌}
-use mathlib.Core.List.{List, [], ◌∷◌, ◌++◌}
+use mathlib.Core.List.{List, [], ◌∷◌, ◌++◌, append_assoc, append-nil}
 use native.Mathlib.Numerals.{add-one}
 use native.Mathlib.Omega.{arith}
-use lib.Dec.{eqb}
-use lib.ListN.{length, get_or, set, take, drop, length-append}
-use lib.Seq.{sets, sets-eq, take_at}
-use Rattle.model.specs.Places.{pick}
-use Rattle.rows.specs.Rows.{point_at, level_at}
+use lib.ListN.{length, get_or, set, take, drop, length-append, length-take}
+use lib.Seq.{sets, sets-eq, take_at, take-suc}
+use borrow.Author.Tests.{eq-eqb, ne_eqb}
+use Rattle.rows.specs.declared.Leaf.{Leaf}
+use Rattle.rows.specs.Leaves.{no_leaf}
+use Rattle.reader.proofs.Stores.{sets_behind}
 use Rattle.listing.specs.Private.{leaf_points, leaves_points, Collected}
 
 -- A point has four numbers.
@@ -18,45 +18,51 @@ Four x = length x ≡ 4
 
 -- STORED
 
--- What is stored behind what was stored.
-stores_join : {A : Type 0} (xs ys l : List A) (at i : ℕ) → i ≡ at + length xs → sets (sets l at xs) i ys ≡ sets l at (xs ++ ys)
-stores_join [] ys l at i e = let e' : i ≡ at = omega arith in rw e'
-stores_join (x ∷ xs) ys l at i e = stores_join xs ys (set l at x) (suc at) i (omega arith)
+-- The points among some leaves and those behind them.
+pub points_append : (i : ℕ) (ls ms : List Leaf) → leaves_points i (ls ++ ms) ≡ leaves_points i ls ++ leaves_points (i + length ls) ms
+unfolding leaves_points
+points_append i [] ms = let z : i + 0 ≡ i = omega arith in rw z refl
+points_append i (l ∷ ls) ms =
+    let z : i + suc (length ls) ≡ i + 1 + length ls = omega arith in
+    rw (points_append (i + 1) ls ms, z, append_assoc) refl
 
--- At most one point for a leaf.
-leaf_one : (row tails stretches : List ℕ) (i : ℕ) → length (leaf_points row tails stretches i) ≤ 1
-leaf_one row tails stretches i = by (eqb (point_at row i) 1)
-  where
-    by : (b : Bool) → length (pick b ((i ∷ level_at row i ∷ get_or tails i 0 ∷ get_or stretches i 0 ∷ []) ∷ []) []) ≤ 1
-    by true = omega arith
-    by false = omega arith
-
--- What was stored of the first leaves.
-pub record First (row tails stretches : List ℕ) (l : List (List ℕ)) (i : ℕ) (m : List (List ℕ)) (count : ℕ) : Type 0 where
-  pub collected : Collected l 0 (leaves_points row tails stretches i) m count
+-- What was stored of the first i of some leaves.
+pub record First (ls : List Leaf) (old : List (List ℕ)) (i : ℕ) (points : List (List ℕ)) (count : ℕ) : Type 0 where
+  pub collected : Collected old (leaves_points 0 (take i ls)) points count
   pub few : count ≤ i
 
 -- Before the first leaf nothing.
-pub first_none : (row tails stretches : List ℕ) (l : List (List ℕ)) → First row tails stretches l 0 l 0
+pub first_none : (ls : List Leaf) (l : List (List ℕ)) → First ls l 0 l 0
 unfolding leaves_points
-first_none row tails stretches l = record { collected = record { stored = refl; counted = refl }; few = omega arith }
+first_none ls l = record { collected = record { stored = refl; counted = refl }; few = omega arith }
 
 -- A leaf more.
-pub first_more : {row tails stretches : List ℕ} {l m n : List (List ℕ)} {i count r : ℕ} → First row tails stretches l i m count →
-    Collected m count (leaf_points row tails stretches i) n r → First row tails stretches l (i + 1) n r
-unfolding leaves_points
-first_more {row} {tails} {stretches} {l} {m} {n} {i} {count} {r} f g =
-    let xs = leaves_points row tails stretches i in
-    let ys = leaf_points row tails stretches i in
-    let one = leaf_one row tails stretches i in
-    let at : count ≡ 0 + length xs = f.collected.counted in
-    rw (add-one i) (record {
-      collected = record {
-        stored = g.stored ∙ (ap (λ (u : List (List ℕ)). sets u count ys) f.collected.stored ∙ stores_join xs ys l 0 count at);
-        counted = omega (arith, f.collected.counted, g.counted, length-append xs ys);
-      };
-      few = omega (arith, f.few, g.counted, one);
-    })
+module _ {ls : List Leaf} {l m : List (List ℕ)} {i count : ℕ} (f : First ls l i m count) (inside : i < length ls) where
+  abbrev leaf : Leaf
+  leaf = get_or ls i no_leaf
+
+  first_next : (ys : List (List ℕ)) → leaf_points i leaf ≡ ys → length ys ≤ 1 → First ls l (i + 1) (sets m count ys) (count + length ys)
+  first_next ys e one =
+      let us = take i ls in
+      let before = leaves_points 0 us in
+      let z : 0 + length us ≡ i = omega (arith, length-take i ls) in
+      let more : leaves_points 0 (take (i + 1) ls) ≡ before ++ ys =
+      rw (add-one i, take-suc ls i no_leaf inside, points_append 0 us (leaf ∷ []), z) (unfold leaves_points in rw (append-nil, e) refl) in
+      record {
+        collected = record {
+          stored = rw more (ap (λ (u : List (List ℕ)). sets u count ys) f.collected.stored ∙ sets_behind before ys l 0 count (omega (arith, f.collected.counted)));
+          counted = rw more (omega (arith, f.collected.counted, length-append before ys));
+        };
+        few = omega (arith, f.few);
+      }
+
+  -- A point is stored,
+  pub first_point : leaf.point ≡ 1 → First ls l (i + 1) (set m count (i ∷ leaf.level ∷ leaf.tail ∷ leaf.stretch ∷ [])) (count + 1)
+  first_point e = first_next ((i ∷ leaf.level ∷ leaf.tail ∷ leaf.stretch ∷ []) ∷ []) (rw (eq-eqb leaf.point 1 e) refl) (omega arith)
+
+  -- and a silent leaf is passed over.
+  pub first_silent : (leaf.point ≡ 1 → ⊥) → First ls l (i + 1) m count
+  first_silent e = let z : count + 0 ≡ count = omega arith in rw z at (first_next [] (rw (ne_eqb leaf.point 1 e) refl) (omega arith))
 
 -- TAKEN BACK
 

@@ -1,13 +1,13 @@
--- The numbers that are listed from those that `read` leaves in memory are those of the plan that it read: leaf number i of the plan is at place i of the row
--- and of each column, and the points among the leaves, one after the other, are those of the functions. Assumes nothing.
+-- The numbers that are listed from the leaves that `read` leaves in memory are those of the plan that it read: leaf number i of the plan is at place i of the
+-- row, and the points among the leaves, one after the other, are those of the functions. Assumes nothing.
 use mathlib.Core.Bool.{Bool, true, false}
-use mathlib.Core.List.{List, [], ◌∷◌, ◌++◌, map, map-append, append_assoc, append-nil}
+use mathlib.Core.List.{List, [], ◌∷◌, ◌++◌, map, map-append}
 use mathlib.Core.Path.{◌≡◌, refl, sym, ap, ◌∙◌, subst}
-use Prim.Native.Nat.{ℕ, zero, suc, ◌+◌, ◌*◌, ◌≤◌, ◌<◌}
+use Prim.Native.Nat.{ℕ, zero, suc, ◌+◌, ◌≤◌, ◌<◌}
 use native.Mathlib.Omega.{arith}
 use lib.Dec.{eqb}
-use lib.ListN.{length, get_or, replicate, length-append, length-replicate, length-map, get_or-append, get_or-map}
-use lib.Seq.{sets, get_or-take, get_or-append-add}
+use lib.ListN.{length, get_or, take, drop, length-append, length-map, get_or-append, get_or-map}
+use lib.Seq.{sets, take_at, get_or-append-add}
 use Rattle.model.specs.Plan.{Block, C, M, Lines, close, leaf_line, call_line, loop_line, if_line, Plan, leaves, all_leaves}
 use Rattle.model.specs.Forms.{main}
 use Rattle.model.specs.Runs.{Among}
@@ -19,22 +19,22 @@ use Rattle.model.specs.Acceptance.{size, sizes, Formed}
 use Rattle.model.specs.Places.{pick, bit}
 use Rattle.model.proofs.Among.{among_left, among_right}
 use Rattle.reader.specs.Outcome.{Outcome, plan, refused}
-use Rattle.rows.specs.Records.{row_of}
+use Rattle.rows.specs.declared.Leaf.{Leaf}
 use Rattle.reader.specs.Records.{leveled_leaves, no_leaf}
-use Rattle.reader.proofs.Theorems.{row_length, row_leaf}
+use Rattle.reader.proofs.Theorems.{row_leaf}
 use Rattle.table.specs.declared.Head.{Head}
-use Rattle.table.specs.Table.{table_of, head_of, all_tails, stretch_of}
-use Rattle.table.specs.Reading.{verdict, result_of, stored}
+use Rattle.table.specs.Table.{Table, table_of, head_of, all_tails, stretch_of}
+use Rattle.table.specs.Reading.{verdict, result_of}
+use Rattle.table.specs.Lent.{leaf_of, leaves_from, row_after}
 use Rattle.table.proofs.Holding.{leaves_size}
-use Rattle.table.proofs.Writing.{take_stored, accepted_plan}
+use Rattle.table.proofs.Lent.{length_leaves}
 use Rattle.std.specs.Prelude.{Ok}
-use Rattle.table.proofs.Written.{tails_size, stretches_size}
 use Rattle.table.proofs.Theorems.{read_as_plan}
 use Rattle.listing.specs.PlanListing.{point_numbers, points_of, all_points, points, outcome_points}
 use Rattle.listing.specs.Summary.{summary_of}
 use Rattle.listing.specs.Private.{leaf_points, leaves_points, Collected}
 use Rattle.listing.proofs.Each.{Each, each_append}
-use Rattle.listing.proofs.Numbers.{Four}
+use Rattle.listing.proofs.Numbers.{Four, points_append}
 
 -- LEAVES AND THEIR LEVELS
 
@@ -121,36 +121,39 @@ marked false x = refl
 behind : {A : Type 0} (xs ys : List A) (d : A) (n j : ℕ) → length xs ≡ n → get_or (xs ++ ys) (n + j) d ≡ get_or ys j d
 behind xs ys d n j e = subst (λ (m : ℕ). get_or (xs ++ ys) (m + j) d ≡ get_or ys j d) e (get_or-append-add xs ys j d)
 
-module _ (p : Plan) (row tails stretches : List ℕ) where
-  -- The points among some leaves of a function behind those of the first k leaves.
-  points_behind : (l : Lines) (vs : List Leveled) (k : ℕ) →
-      ((j : ℕ) → j < length vs → leaf_points row tails stretches (k + j) ≡ point_of p l (get_or vs j no_leaf)) →
-      leaves_points row tails stretches (k + length vs) ≡ leaves_points row tails stretches k ++ points_of p l vs
+-- Some leaves of a table, and those after them.
+leaves_join : (t : Table) (k m n : ℕ) → leaves_from t k (m + n) ≡ leaves_from t k m ++ leaves_from t (k + m) n
+leaves_join t k zero n = let z : k + 0 ≡ k = omega arith in let y : 0 + n ≡ n = omega arith in rw (z, y) refl
+leaves_join t k (suc m) n =
+    let z : suc m + n ≡ suc (m + n) = omega arith in
+    let y : k + suc m ≡ k + 1 + m = omega arith in
+    rw (z, y) (ap (λ (u : List Leaf). leaf_of t k ∷ u) (leaves_join t (k + 1) m n))
+
+module _ (p : Plan) where
+  -- The points among leaves of the plan's table that are a function's.
+  points_from : (l : Lines) (vs : List Leveled) (k : ℕ) →
+      ((j : ℕ) → j < length vs → leaf_points (k + j) (leaf_of (table_of p) (k + j)) ≡ point_of p l (get_or vs j no_leaf)) →
+      leaves_points k (leaves_from (table_of p) k (length vs)) ≡ points_of p l vs
   unfolding leaves_points
-  points_behind l [] k h =
-      let e : k + 0 ≡ k = omega arith in
-      rw (e, none p l, append-nil (leaves_points row tails stretches k))
-  points_behind l (v ∷ vs) k h =
-      let e : k + suc (length vs) ≡ suc k + length vs = omega arith in
+  points_from l [] k h = sym (none p l)
+  points_from l (v ∷ vs) k h =
       let z : k + 0 ≡ k = omega arith in
+      let first : leaf_points k (leaf_of (table_of p) k) ≡ point_of p l v = rw z at (h 0 (omega arith)) in
       rw (
-        e,
-        points_behind l vs (suc k) (λ j lt. let z : suc k + j ≡ k + suc j = omega arith in rw z (h (suc j) (omega arith))),
-        append_assoc (leaves_points row tails stretches k) (leaf_points row tails stretches k) (points_of p l vs),
+        first,
+        points_from l vs (k + 1) (λ j lt. let z : k + 1 + j ≡ k + suc j = omega arith in rw z (h (suc j) (omega arith))),
         first_point p l v vs,
-        sym (h 0 (omega arith)),
-        z,
       )
 
-  -- From leaf number k on the numbers in memory are those of the functions.
+  -- From leaf number k on the leaves of the table are those of the functions.
   abbrev Shown : ℕ → List Lines → Type 0
   Shown k ls =
-      (j : ℕ) → j < sizes ls → leaf_points row tails stretches (k + j) ≡
+      (j : ℕ) → j < sizes ls → leaf_points (k + j) (leaf_of (table_of p) (k + j)) ≡
       shown (get_or (leveled_leaves ls) j no_leaf) (get_or (all_tails (tallies C [] p.functions) ls) j 0) (get_or (map (stretch_of p) (all_leaves ls)) j 0)
 
   -- So those of the first function are its own, and behind them are those of the others.
   shown_first : (l : Lines) (ls : List Lines) (k : ℕ) → Shown k (l ∷ ls) →
-      (j : ℕ) → j < size l → leaf_points row tails stretches (k + j) ≡ point_of p l (get_or (own_levels 1 l) j no_leaf)
+      (j : ℕ) → j < size l → leaf_points (k + j) (leaf_of (table_of p) (k + j)) ≡ point_of p l (get_or (own_levels 1 l) j no_leaf)
   unfolding sizes leveled_leaves all_tails all_leaves
   shown_first l ls k h j lt =
       let g : Block → ℕ = λ b. tail (tallies C [] p.functions) b.number l 0 in
@@ -176,23 +179,21 @@ module _ (p : Plan) (row tails stretches : List ℕ) where
         behind (map (stretch_of p) (leaves l)) (map (stretch_of p) (all_leaves ls)) 0 (size l) j (length-map (leaves l) (stretch_of p) ∙ leaves_size l),
       ))
 
-  -- The points of all functions behind those of the first k leaves.
-  all_behind : (ls : List Lines) (k : ℕ) → Shown k ls →
-      leaves_points row tails stretches (k + sizes ls) ≡ leaves_points row tails stretches k ++ all_points p ls
-  unfolding sizes all_points
-  all_behind [] k h =
-      let e : k + 0 ≡ k = omega arith in
-      rw (e, append-nil (leaves_points row tails stretches k))
-  all_behind (l ∷ ls) k h =
-      let e : k + (size l + sizes ls) ≡ k + size l + sizes ls = omega arith in
-      let f : k + size l ≡ k + length (own_levels 1 l) = omega (arith, own_size l) in
-      let first : leaves_points row tails stretches (k + size l) ≡ leaves_points row tails stretches k ++ points_of p l (own_levels 1 l) =
-      rw f (points_behind l (own_levels 1 l) k (λ j lt. shown_first l ls k h j (omega (arith, own_size l)))) in
+  -- The points of all functions.
+  all_from : (ls : List Lines) (k : ℕ) → Shown k ls → leaves_points k (leaves_from (table_of p) k (sizes ls)) ≡ all_points p ls
+  unfolding sizes all_points leaves_points
+  all_from [] k h = refl
+  all_from (l ∷ ls) k h =
+      let us = leaves_from (table_of p) k (size l) in
+      let e : k + length us ≡ k + size l = omega (arith, length_leaves (table_of p) k (size l)) in
+      let first : leaves_points k us ≡ points_of p l (own_levels 1 l) =
+      rw (own_size l) at (points_from l (own_levels 1 l) k (λ j lt. shown_first l ls k h j (omega (arith, own_size l)))) in
       rw (
-        e,
-        all_behind ls (k + size l) (shown_later l ls k h),
+        leaves_join (table_of p) k (size l) (sizes ls),
+        points_append k us (leaves_from (table_of p) (k + size l) (sizes ls)),
         first,
-        append_assoc (leaves_points row tails stretches k) (points_of p l (own_levels 1 l)) (all_points p ls),
+        e,
+        all_from ls (k + size l) (shown_later l ls k h),
       )
 
 -- HOW MANY, AND HOW MANY NUMBERS OF EACH
@@ -227,41 +228,17 @@ few_of_text text = by (verdict 512 text) (λ p e. ((read_as_plan 512 text p).0 e
 
 -- FROM THE LENT MEMORY
 
--- Numbers stored at the beginning of a list stand there.
-stored_at : (xs l : List ℕ) (i : ℕ) → i < length xs → length xs ≤ length l → get_or (sets l 0 xs) i 0 ≡ get_or xs i 0
-stored_at xs l i h k =
-    sym (get_or-take (length xs) (sets l 0 xs) i 0 h) ∙ ap (λ (u : List ℕ). get_or u i 0) (take_stored xs l (length xs) refl k)
+-- The leaves of the table of a plan are the plan's.
+plan_shown : (p : Plan) → Formed p → Shown p 0 p.functions
+plan_shown p f j lt =
+    let (number, shows) = row_leaf p f j lt in
+    let z : 0 + j ≡ j = omega arith in
+    rw (z, shows.point, shows.level, number) (marked (get_or (leveled_leaves p.functions) j no_leaf).block.point _)
 
--- Consider lent memory that is large enough for any plan.
-module _ (row tails stretches : List ℕ) (long : length row ≡ 4096) (wide_tails : length tails ≡ 512) (wide_stretches : length stretches ≡ 512) where
-  -- The numbers of a plan that are stored there are the plan's.
-  plan_shown : (p : Plan) → Formed p →
-      Shown p (sets row 0 (row_of p)) (sets tails 0 (table_of p).tails) (sets stretches 0 (table_of p).stretches) 0 p.functions
-  plan_shown p f j lt =
-      let (number, shows) = row_leaf p f j lt in
-      let v = get_or (leveled_leaves p.functions) j no_leaf in
-      let z : 0 + j ≡ j = omega arith in
-      rw (
-        z,
-        stored_at (row_of p) row (j * 8 + 1) (omega (arith, row_length p)) (omega (arith, row_length p, f.few_leaves)),
-        stored_at (row_of p) row (j * 8 + 7) (omega (arith, row_length p)) (omega (arith, row_length p, f.few_leaves)),
-        stored_at (table_of p).tails tails j (omega (arith, tails_size p)) (omega (arith, tails_size p, f.few_leaves)),
-        stored_at (table_of p).stretches stretches j (omega (arith, stretches_size p)) (omega (arith, stretches_size p, f.few_leaves)),
-        shows.point,
-        shows.level,
-        number,
-      ) (marked v.block.point _)
-
-  plan_collected : (p : Plan) → Formed p →
-      leaves_points (stored (plan p) (λ t. t.row) row) (stored (plan p) (λ t. t.tails) tails) (stored (plan p) (λ t. t.stretches) stretches)
-      (head_of p).leaves ≡ points p
-  unfolding leaves_points
-  plan_collected p f =
-      let z : sizes p.functions ≡ 0 + sizes p.functions = omega arith in
-      ap (leaves_points (sets row 0 (row_of p)) (sets tails 0 (table_of p).tails) (sets stretches 0 (table_of p).stretches)) z ∙
-      all_behind p (sets row 0 (row_of p)) (sets tails 0 (table_of p).tails) (sets stretches 0 (table_of p).stretches) p.functions 0 (plan_shown p f)
-
--- FROM MEMORY OF ZEROS
+plan_collected : (p : Plan) → Formed p → (row : List Leaf) → leaves_points 0 (take (sizes p.functions) (row_after (plan p) row)) ≡ points p
+plan_collected p f row =
+    let n = sizes p.functions in
+    ap (leaves_points 0) (take_at (leaves_from (table_of p) 0 n) (drop n row) n (length_leaves (table_of p) 0 n)) ∙ all_from p p.functions 0 (plan_shown p f)
 
 -- A head is that of a plan, which is accepted.
 pub record Read (text : List ℕ) (h : Head) : Type 0 where
@@ -272,29 +249,24 @@ pub record Read (text : List ℕ) (h : Head) : Type 0 where
   pub few : h.leaves ≤ 512
 
 pub head_read : (text : List ℕ) {h : Head} → Ok h ≡ result_of (verdict 512 text) → Read text h
-head_read text {h} e =
-    let (p, o) = accepted_plan (verdict 512 text) e in
-    let f = ((read_as_plan 512 text p).0 o).1.formed in
-    let x : Ok h ≡ result_of (plan p) = e ∙ ap (λ (y : Outcome). result_of y) o in
-    let z : h ≡ head_of p = cc in
-    record { of = p; is = o; formed = f; head = z; few = omega (arith, ap (λ (y : Head). y.leaves) z, f.few_leaves) }
-
--- The numbers that were collected where `read` left its own, with 0 everywhere before, are those of the plan.
-module _ (text : List ℕ) (h : Head) (p : Plan) (is : verdict 512 text ≡ plan p) (formed : Formed p) (head : h ≡ head_of p) (row tails stretches : List ℕ)
-    (a : row ≡ stored (verdict 512 text) (λ t. t.row) (replicate 4096 0)) (b : tails ≡ stored (verdict 512 text) (λ t. t.tails) (replicate 512 0))
-    (c : stretches ≡ stored (verdict 512 text) (λ t. t.stretches) (replicate 512 0)) (l m : List (List ℕ)) (count : ℕ)
-    (g : Collected l 0 (leaves_points row tails stretches h.leaves) m count)
+head_read text {h} e = by (verdict 512 text) refl e
   where
-    all : leaves_points row tails stretches h.leaves ≡ points p
-    all =
-        rw (a, b, c, is, head)
-        (plan_collected (replicate 4096 0) (replicate 512 0) (replicate 512 0) (length-replicate {A = ℕ} 4096 0) (length-replicate {A = ℕ} 512 0)
-        (length-replicate {A = ℕ} 512 0) p formed)
+    by : (o : Outcome) → verdict 512 text ≡ o → Ok h ≡ result_of o → Read text h
+    by (plan p) o e =
+        let f = ((read_as_plan 512 text p).0 o).1.formed in
+        let z : h ≡ head_of p = cc in
+        record { of = p; is = o; formed = f; head = z; few = omega (arith, ap (λ (y : Head). y.leaves) z, f.few_leaves) }
+    by (refused k j) o e = cc
+
+-- The numbers that were collected where `read` left its leaves are those of the plan.
+module _ {text : List ℕ} {h : Head} (r : Read text h) (row : List Leaf) {read : List Leaf} (left : read ≡ row_after (verdict 512 text) row) {l m : List (List ℕ)} {count : ℕ}
+    (g : Collected l (leaves_points 0 (take h.leaves read)) m count)
+  where
+    all : leaves_points 0 (take h.leaves read) ≡ points r.of
+    all = rw (left, r.is, r.head) (plan_collected r.of r.formed row)
 
     pub collected_summary : Ok (record { task = h.total ∷ h.max_load_total ∷ h.deadline ∷ h.switch ∷ []; count = count }) ≡ summary_of (verdict 512 text)
-    collected_summary =
-        let n : count ≡ length (points p) = g.counted ∙ (ap (λ (u : List (List ℕ)). 0 + length u) all ∙ omega arith) in
-        rw (is, head, n) refl
+    collected_summary = rw (r.is, r.head, g.counted, all) refl
 
     pub collected_points : m ≡ sets l 0 (outcome_points (verdict 512 text))
-    collected_points = g.stored ∙ rw (all, is) refl
+    collected_points = g.stored ∙ rw (all, r.is) refl

@@ -1,21 +1,21 @@
--- What the private functions promise: the numbers that are listed, from those that reading a plan leaves in memory.
+-- What the private functions promise: the numbers that are listed, from the leaves that reading a plan leaves in memory.
 -- Assumes nothing: these are definitions.
-use Rattle.std.specs.Prelude.{ℕ, zero, suc, ◌+◌, ◌≡◌, eqb, length, get_or}
+use Rattle.std.specs.Prelude.{ℕ, ◌+◌, ◌≡◌, eqb, length}
 use mathlib.Core.List.{List, [], ◌∷◌, ◌++◌}
 use Rattle.std.proofs.lemmas.List.Edits.{sets}
 use Rattle.model.specs.Places.{pick}
-use Rattle.rows.specs.Rows.{point_at, level_at}
+use Rattle.rows.specs.declared.Leaf.{Leaf}
 
 -- Leaf number i, where it is a point.
-abbrev pub leaf_points : List ℕ → List ℕ → List ℕ → ℕ → List (List ℕ)
-leaf_points row tails stretches i = pick (eqb (point_at row i) 1) ((i ∷ level_at row i ∷ get_or tails i 0 ∷ get_or stretches i 0 ∷ []) ∷ []) []
+abbrev pub leaf_points : ℕ → Leaf → List (List ℕ)
+leaf_points i l = pick (eqb l.point 1) ((i ∷ l.level ∷ l.tail ∷ l.stretch ∷ []) ∷ []) []
 
--- The points among the first n leaves.
-unfoldable pub leaves_points : List ℕ → List ℕ → List ℕ → ℕ → List (List ℕ)
-leaves_points row tails stretches zero = []
-leaves_points row tails stretches (suc n) = leaves_points row tails stretches n ++ leaf_points row tails stretches n
+-- The points among these leaves, the first of which is number i.
+unfoldable pub leaves_points : ℕ → List Leaf → List (List ℕ)
+leaves_points i [] = []
+leaves_points i (l ∷ ls) = leaf_points i l ++ leaves_points (i + 1) ls
 
--- Some points were stored behind so many, and then there are so many.
-pub record Collected (old : List (List ℕ)) (count : ℕ) (points new : List (List ℕ)) (next : ℕ) : Type 0 where
-  pub stored : new ≡ sets old count points
-  pub counted : next ≡ count + length points
+-- Some points were stored at the beginning, and so many there are.
+pub record Collected (old : List (List ℕ)) (points new : List (List ℕ)) (count : ℕ) : Type 0 where
+  pub stored : new ≡ sets old 0 points
+  pub counted : count ≡ length points

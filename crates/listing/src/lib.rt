@@ -10,14 +10,15 @@ ghost use Rattle.print.specs.Printed.{PrintedWithin};
 ghost use Rattle.table.specs.Reading.{verdict};
 ghost use Rattle.listing.specs.PlanListing.{outcome_points, outcome_listing};
 ghost use Rattle.listing.specs.Summary.{summary_of};
-ghost use Rattle.listing.specs.Private.{leaf_points, leaves_points, Collected};
+ghost use Rattle.listing.specs.Private.{leaves_points, Collected};
 
 use print::{numbers_line, refused_plan_line};
 use reader::RefusedAt;
-use rows::{LEVEL, MAX_LEAVES, POINT, ROW, get};
+use rows::{Leaf, MAX_LEAVES};
 use table::read;
 
-// How many numbers are listed of a point: its number, its level, its tail and its stretch.
+// How many numbers are listed of a point: its number, its level, its tail and its stretch. They stand in an array, as a line of either listing has them: a
+// line is printed from a list of numbers.
 pub const FIELDS: usize = 4;
 
 // How many numbers are listed of the task: the total, the max-load total, D and T.
@@ -26,48 +27,25 @@ const TASK: usize = 4;
 // How many bytes a listing has room for: a line for the task and one for each leaf.
 pub const LISTING: usize = 65664;
 
-// What is listed of a plan beside its points: the total, the max-load total, D and T, and how many points there are.
+// What is listed of a plan beside its points: the total, the max-load total, D and T, and how many points there are. (A number: a slice of
+// the points would keep them lent.)
 #[derive(Clone, Copy)]
 pub struct Summary {
     pub task: [u64; TASK],
     pub count: usize,
 }
 
-// Stores what is listed of a leaf behind the points before it, where the leaf is a point, and gives how many points there are then.
-fn collect_leaf(
-    points: &mut [[u64; FIELDS]; MAX_LEAVES],
-    count: usize,
-    row: &[u64; ROW],
-    tails: &[u64; MAX_LEAVES],
-    stretches: &[u64; MAX_LEAVES],
-    i: usize,
-) -> usize
-    requires { (i < 512) × (count ≤ i) }
-    ensures { Collected points.old count (leaf_points row.now tails.now stretches.now i)
-        points.new result }
-{
-    if get(row, i, POINT) == 1 {
-        points[count] = [i as u64, get(row, i, LEVEL), tails[i], stretches[i]];
-        return count + 1;
-    }
-    count
-}
-
-// Stores what is listed of the first so many leaves, and gives how many points there are among them.
-fn collect_leaves(
-    points: &mut [[u64; FIELDS]; MAX_LEAVES],
-    row: &[u64; ROW],
-    tails: &[u64; MAX_LEAVES],
-    stretches: &[u64; MAX_LEAVES],
-    n: usize,
-) -> usize
-    requires { n ≤ 512 }
-    ensures { Collected points.old 0 (leaves_points row.now tails.now stretches.now n)
-        points.new result }
+// Stores what is listed of these leaves, the first of which is number 0, and gives how many points there are among them.
+fn collect_leaves(points: &mut [[u64; FIELDS]; MAX_LEAVES], leaves: &[Leaf]) -> usize
+    requires { length leaves.now ≤ 512 }
+    ensures { Collected points.old (leaves_points 0 leaves.now) points.new result }
 {
     let mut count = 0;
-    for i in 0..n {
-        count = collect_leaf(points, count, row, tails, stretches, i);
+    for (i, leaf) in leaves.iter().enumerate() {
+        if leaf.point == 1 {
+            points[count] = [i as u64, leaf.level, leaf.tail, leaf.stretch];
+            count += 1;
+        }
     }
     count
 }
@@ -78,19 +56,9 @@ pub fn collect(points: &mut [[u64; FIELDS]; MAX_LEAVES], text: &[u8]) -> Result<
     ensures summary { result ≡ summary_of (verdict 512 text.now) }
     ensures numbers { points.new ≡ sets points.old 0 (outcome_points (verdict 512 text.now)) }
 {
-    let mut row = [0; ROW];
-    let mut turns = [0; MAX_LEAVES];
-    let mut tails = [0; MAX_LEAVES];
-    let mut stretches = [0; MAX_LEAVES];
-    let head = read(
-        text,
-        MAX_LEAVES,
-        &mut row,
-        &mut turns,
-        &mut tails,
-        &mut stretches,
-    )?;
-    let count = collect_leaves(points, &row, &tails, &stretches, head.leaves);
+    let mut row = [Leaf::default(); MAX_LEAVES];
+    let head = read(text, &mut row)?;
+    let count = collect_leaves(points, &row[..head.leaves]);
     Ok(Summary {
         task: [head.total, head.max_load_total, head.deadline, head.switch],
         count,

@@ -36,19 +36,11 @@ digits_counted k (suc n) h l =
     let larger : max (suc n) 1 ≡ suc n = omega arith in
     sym (digits_between k (suc n) (rw larger at h) (rw larger at l))
 
--- Nothing is written of no blanks.
-pub no_blanks : (l : List ℕ) (at : ℕ) → Printed l at (replicate 0 32) l at
-no_blanks = nothing_written
-
 -- One blank more.
 pub blank_more : (i : ℕ) {l m n : List ℕ} {at e r : ℕ} → Printed l at (replicate i 32) m e → Printed m e (bytes " ") n r
     → Printed l at (replicate (i + 1) 32) n r
 blank_more i {l} {m} {n} {at} {e} {r} p q =
     subst (λ (t : List ℕ). Printed l at t n r) (replicate-append-replicate i 1 32) (behind p q)
-
--- All of them.
-pub blanks_all : (i count : ℕ) {l m : List ℕ} {at e : ℕ} → i ≡ count → Printed l at (replicate i 32) m e → Printed l at (replicate count 32) m e
-blanks_all i count h p = rw (sym h) p
 
 -- A LINE
 
@@ -57,9 +49,6 @@ pub record Begun (widths numbers l : List ℕ) (at : ℕ) (m : List ℕ) (e left
   pub text : List ℕ
   pub written : Printed l at text m e
   pub rest : in_fields 72 widths numbers ≡ text ++ in_fields left (drop i widths) (drop i numbers)
-
-pub line_begun : (widths numbers l : List ℕ) (at : ℕ) → Begun widths numbers l at l at 72 0
-line_begun widths numbers l at = record { text = []; written = nothing_written l at; rest = refl }
 
 -- A number more.
 pub begun_more : {widths numbers l m n : List ℕ} {at e r left i : ℕ} → i < length widths → i < length numbers →

@@ -2,7 +2,7 @@
 use mathlib.Core.Path.{◌≡◌, refl, sym, ap, ◌∙◌}
 use mathlib.Core.Bool.{Bool, true, false, ◌&&◌, ◌||◌}
 use mathlib.Core.List.{List, [], ◌∷◌}
-use mathlib.Core.Option.{none, some}
+use mathlib.Core.Option.{some}
 use Prim.Native.Nat.{ℕ, zero, suc, ◌+◌, ◌-◌, ◌≤◌}
 use native.Mathlib.Omega.{arith}
 use native.Mathlib.Decide.{dec_le}
@@ -21,7 +21,7 @@ use Rattle.place.specs.Private.{Stands, Level, Running, Placed, ground, Finds, M
 use Rattle.place.specs.Private.{sight_of, nothing, sight_at, series, either, sight_beyond, levels_sight, sight_ahead}
 use Rattle.place.specs.Stack.{FunctionTable}
 use Rattle.place.proofs.Suffixes.{seek_suffix}
-use Rattle.place.proofs.Sights.{there_some, there_none, series_nothing, series_assoc, sight-⊕, sight_loop, either_series, series_stuck, beyond_tied}
+use Rattle.place.proofs.Sights.{there_some, series_nothing, series_assoc, sight-⊕, sight_loop, either_series, series_stuck, beyond_tied}
 use Rattle.place.proofs.Views.{View, a_leaf, a_call, a_loop, an_if}
 use Rattle.place.proofs.Falling.{top, as_loop, as_call, leaf_view}
 use Rattle.place.proofs.Finding.{CallTop, LoopTop, front, there, loop_here}
@@ -222,9 +222,6 @@ module _ {w starts : List ℕ} {n : ℕ} (p : FunctionTable w starts n) where
       rw (hi, he) sp
 
   module _ (leaves counts : List ℕ) (x : ℕ) {v : Sight} (hv : v ≡ sight_of (get_or p.funs (n - 1) done) (Some x)) where
-    pub first_none : v.meets ≡ false → onto [] (seek (get_or p.funs (n - 1) done) x) ≡ none
-    first_none met = let c = there_none (seek (get_or p.funs (n - 1) done) x) (ap (λ (y : Sight). y.meets) (sym hv) ∙ met) in rw c
-
     pub first_some : v.meets ≡ true → Finds 0 (get_or p.funs (n - 1) done) leaves counts (onto [] (seek (get_or p.funs (n - 1) done) x)) x (Some (record { at = 1; count = 0 }))
     unfolding ground turned Stands
     first_some met =

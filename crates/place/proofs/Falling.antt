@@ -9,9 +9,10 @@ use native.Mathlib.Omega.{arith}
 use native.Mathlib.Numerals.{add-one}
 use lib.Dec.{eqb}
 use lib.ListN.{length, get_or}
-use borrow.Author.Tests.{eq-eqb, ne_eqb}
+use borrow.Author.Tests.{eq-eqb, ne_eqb, eqb-true, eqb-false}
 use Rattle.std.specs.Prelude.{Option as RustOption}
 use Rattle.std.specs.Prelude.{Some, None}
+use Rattle.std.specs.Bool.{then_some}
 use Rattle.model.specs.Plan.{Block}
 use Rattle.model.specs.Forms.{Forms, done, leaf, call, loop, cond, forms}
 use Rattle.model.specs.Places.{pick, passes, seek}
@@ -321,16 +322,25 @@ module _ {w starts leaves : List ℕ} {n l : ℕ} (q : Running w starts n leaves
   under = let t = top q one_up in under_of t.under (omega (arith, t.depth)) t.stands t.level.level t.level.opens
 
   -- The answers down there.
-  pub fall_again : {v : Sight} {hd : ℕ} → Saw v (next_beyond (top q one_up).place x) (quits (top q one_up).place) → v.meets ≡ false → v.free ≡ true →
+  fall_again : {v : Sight} {hd : ℕ} → Saw v (next_beyond (top q one_up).place x) (quits (top q one_up).place) → v.meets ≡ false → v.free ≡ true →
       hd ≡ get_or leaves (l - 1) 0 → kind_at w hd ≡ 2 → hd ≡ x → Lands main_of leaves q.counts q.levels x (Some (l - 1))
   fall_again s m f hh k hx =
       let (zs, c, y) = under.again (ap (λ (p : ℕ). kind_at w p) (sym hh) ∙ k) (sym hh ∙ hx) in
       whole_lands q one_up x (Some (l - 1)) (omega arith, omega (arith, (top q one_up).depth), (zs, down q one_up x s m f ∙ c, y))
 
-  pub fall_other : {v : Sight} {hd : ℕ} → Saw v (next_beyond (top q one_up).place x) (quits (top q one_up).place) → v.meets ≡ false → v.free ≡ true →
+  fall_other : {v : Sight} {hd : ℕ} → Saw v (next_beyond (top q one_up).place x) (quits (top q one_up).place) → v.meets ≡ false → v.free ≡ true →
       hd ≡ get_or leaves (l - 1) 0 → kind_at w hd ≡ 2 → (hd ≡ x → ⊥) → Lands main_of leaves q.counts q.levels x None
   fall_other s m f hh k hx =
       whole_lands q one_up x None (down q one_up x s m f ∙ under.other (ap (λ (p : ℕ). kind_at w p) (sym hh) ∙ k) (λ z. hx (hh ∙ z)))
+
+  -- Both of them, as the code tells them apart.
+  pub fall_head : {v : Sight} {hd : ℕ} {r : RustOption ℕ} → Saw v (next_beyond (top q one_up).place x) (quits (top q one_up).place) → v.meets ≡ false → v.free ≡ true →
+      hd ≡ get_or leaves (l - 1) 0 → kind_at w hd ≡ 2 → r ≡ then_some (eqb hd x) (l - 1) → Lands main_of leaves q.counts q.levels x r
+  fall_head {hd = hd} {r = r} s m f hh k e = by (eqb hd x) refl e
+    where
+      by : (b : Bool) → eqb hd x ≡ b → r ≡ then_some b (l - 1) → Lands main_of leaves q.counts q.levels x r
+      by true z e = rw e (fall_again s m f hh k (eqb-true hd x z))
+      by false z e = rw e (fall_other s m f hh k (eqb-false hd x z))
 
   lands_down : (r : RustOption ℕ) → fall_at ((top q one_up).place ∷ (top q one_up).under) x ≡ fall_at (top q one_up).under x →
       Lands main_of leaves q.counts (top q one_up).under x r → Lands main_of leaves q.counts ((top q one_up).place ∷ (top q one_up).under) x r

@@ -45,7 +45,7 @@ turned_suc v (loop b zero body r) g e = never e
 turned_suc v (loop b (suc m) body r) g e = let (k, p, q) = turned_loop v b m body r g e in (b, k, body, r, q)
 turned_suc v (cond b t s r) g e = never e
 
-pub loop_bound : {w : List ℕ} {G : List Forms} {k p v e : ℕ} {g : Forms} → View w G k p v e g → (b : Block) (m : ℕ) (body r : Forms) → g ≡ loop b m body r → v ≤ detail_at w p
+pub loop_bound : {w : List ℕ} {G : List Forms} {k p v e : ℕ} {g : Forms} → View w G k p v e g → (b : Block) (m : ℕ) (body r : Forms) → g ≡ loop b m body r → v ≤ 65535
 loop_bound (a_leaf k r z) b m body s e = absurd (let y : leaf _ r ≡ loop b m body s = sym z ∙ e in let z : ◌≡◌ {A = ℕ} 0 1 = cc in omega arith)
 loop_bound (a_call k t r z) b m body s e = absurd (let y = sym z ∙ e in let z : ◌≡◌ {A = ℕ} 0 1 = cc in omega arith)
 loop_bound (a_loop k q cs le m s r z) b o body u e = omega arith
@@ -71,15 +71,15 @@ module _ {w starts : List ℕ} {n : ℕ} {leaves counts : List ℕ} {l : ℕ} (q
       let k : eqb (get_or leaves r 0) x ≡ false = ne_eqb (get_or leaves r 0) x hx in
       (z.0, (omega (arith, z.1, q.depth), omega (arith, z.1, q.depth)), (z.2.0, z.2.1, rw k at z.2.2))
 
-  -- a loop's visits stay within its bound.
-  visits_fit : (r v : ℕ) (ks : Levels) → Moved main_of leaves counts r x (v + 1) ks → v + 1 ≤ detail_at w x
+  -- a loop's visits stay within the highest bound.
+  visits_fit : (r v : ℕ) (ks : Levels) → Moved main_of leaves counts r x (v + 1) ks → v + 1 ≤ 65535
   visits_fit r v ks m =
       let lv = m.level in
       let sp = (level_spanned q.table leaves counts m.under m.stands lv.level lv.opens).0 in
       let (b, k, body, s, e) = turned_suc v lv.start m.place (ap (λ (v : ℕ). turned lv.start v) (sym (add-one v)) ∙ lv.turns) in
       loop_bound (view sp x (v + 1) lv.start m.place lv.found lv.turns).0 b k body s e
 
-  pub again_fits : {r : ℕ} → l ≤ 32 → get_or leaves r 0 ≡ x → Lands main_of leaves counts q.levels x (Some r) → get_or counts r 0 + 1 ≤ detail_at w x
+  pub again_fits : {r : ℕ} → l ≤ 32 → get_or leaves r 0 ≡ x → Lands main_of leaves counts q.levels x (Some r) → get_or counts r 0 + 1 ≤ 65535
   again_fits {r} b hx z = let y = below_again {r = r} b hx z in visits_fit r (get_or counts r 0) y.2.0 y.2.2
 
 -- The innermost leaf's record: a call or a loop, with what is inside it; or else.
@@ -96,6 +96,7 @@ pub record LoopTop (w starts : List ℕ) (G : List Forms) (n p v : ℕ) (g : For
   pub later : Forms
   pub shape : g ≡ loop (block_at w p) rounds body later
   pub bound : rounds + v ≡ detail_at w p
+  pub few : detail_at w p ≤ 65535
   pub spanned : Spanned w G n (inner_from w starts p) (inner_to w starts p) body
   pub head : Enterable w starts p
 
@@ -112,8 +113,8 @@ module _ {w starts : List ℕ} {n : ℕ} (pr : FunctionTable w starts n) {p v e 
   as_loop_top (a_leaf k r z) h = absurd (omega arith)
   as_loop_top (a_call k t r z) h = absurd (omega arith)
   as_loop_top (a_loop k q cs le m s r z) h =
-      let (sp, hd) = open_loop pr p e k q cs le lt room in
-      record { rounds = m; body = forms pr.funs q.part.lines; later = r; shape = z; bound = s; spanned = sp; head = hd }
+      let (sp, hd) = open_loop pr p e k q cs le.0 lt room in
+      record { rounds = m; body = forms pr.funs q.part.lines; later = r; shape = z; bound = s; few = le.1; spanned = sp; head = hd }
   as_loop_top (an_if k t s r z) h = absurd (omega arith)
 
   flat_onward : View w pr.funs n p v e g → (kind_at w p ≡ 1 → ⊥) → (kind_at w p ≡ 2 → ⊥) → (ks : Levels) (x : ℕ) → Traceable (whole (g ∷ ks)) → onward_at (g ∷ ks) x ≡ fall_at (g ∷ ks) x

@@ -1,10 +1,10 @@
 -- When a stack holds: level by level. Plain mathematics: no code is named here. Assumes nothing.
-use mathlib.Core.Path.{◌≡◌, refl, sym, ap, ◌∙◌}
+use mathlib.Core.Path.{subst, ◌≡◌, refl, sym, ap, ◌∙◌}
 use mathlib.Core.Bool.{Bool, true, false}
 use mathlib.Core.List.{List, [], ◌∷◌}
 use mathlib.Core.Logic.{inl, inr}
 use mathlib.Core.Option.{Option, none, some}
-use Prim.Native.Nat.{ℕ, zero, suc, ◌+◌, ◌-◌, ◌*◌, ◌≤◌}
+use Prim.Native.Nat.{ℕ, zero, suc, ◌+◌, ◌-◌, ◌*◌, ◌≤◌, ◌<◌}
 use native.Mathlib.Omega.{arith}
 use native.Mathlib.Decide.{dec_le}
 use lib.Dec.{eqb}
@@ -19,6 +19,7 @@ use Rattle.model.proofs.Places.{never}
 use Rattle.rows.specs.Rows.{point_at, block_at, Piece}
 use Rattle.rows.specs.Answers.{Says}
 use Rattle.place.specs.Pieces.{Spanned}
+use Rattle.place.specs.Lent.{main_forms}
 use Rattle.place.specs.declared.Sight.{Sight}
 use Rattle.place.specs.Private.{sight_behind, Level, Stands, Placed, ground, Enters, Counted, Settled, StackStands, Enterable, inner_from, inner_to, base_from, base_to}
 use Rattle.place.specs.Stack.{FunctionTable, Decodes}
@@ -99,15 +100,11 @@ module _ {w : List ℕ} {G : List Forms} {n i e : ℕ} {f : Forms} (sp : Spanned
       nay (settled_count vw s.start s.turns)
 
 -- a leaf that is there lies in the row.
-pub in_room : {w : List ℕ} {i e : ℕ} → Piece w 62 i e → e * 8 ≤ length w → (p : ℕ) (x : RustOption ℕ) {r : RustOption Sight} →
-    ((q : Piece w 62 i e) (G : List Forms) → r ≡ sight_behind (suffix (forms G q.part.lines) p) x) → is_some r ≡ true → p * 8 + 8 ≤ length w
+pub in_room : {w : List ℕ} {left i e : ℕ} → Piece w left i e → e * 8 ≤ length w → (p : ℕ) (x : RustOption ℕ) {r : RustOption Sight} →
+    ((q : Piece w left i e) (G : List Forms) → r ≡ sight_behind (suffix (forms G q.part.lines) p) x) → is_some r ≡ true → p * 8 + 8 ≤ length w
 in_room {w} {i} {e} q room p x hr h =
     let c = behind_some (suffix (forms [] q.part.lines) p) x (hr q []) h in
     omega (arith, suffix_in w q.level i e q.part.lines [] p c.0 q.part.rep c.1)
-
--- The main function of a table.
-abbrev mainOf : {w starts : List ℕ} {n : ℕ} → FunctionTable w starts n → Forms
-mainOf {n = n} p = get_or p.funs (n - 1) done
 
 -- The levels of a stack that holds.
 abbrev pub placed_held : {w starts : List ℕ} {n : ℕ} (p : FunctionTable w starts n) {leaves counts : List ℕ} {l : ℕ} → StackStands w (get_or p.funs (n - 1) done) leaves counts l → Placed w starts n leaves counts l
@@ -118,16 +115,16 @@ unfolding Stands
 held_none w main leaves counts l e = record { levels = []; depth = sym e; stands = tt; marked = λ k a b. absurd (omega arith) }
 
 module _ {w starts : List ℕ} {n : ℕ} (p : FunctionTable w starts n) {leaves counts : List ℕ} {l : ℕ} (one : 1 ≤ l) where
-  pub held_down : StackStands w (mainOf p) leaves counts l → StackStands w (mainOf p) leaves counts (l - 1)
+  pub held_down : StackStands w (main_forms p) leaves counts l → StackStands w (main_forms p) leaves counts (l - 1)
   held_down h =
       let t = front (placed_held p h) one in
       record { levels = t.under; depth = omega (arith, t.depth); stands = t.stands; marked = λ k a b. h.marked k a (omega arith) }
 
-  held_up : (h : StackStands w (mainOf p) leaves counts (l - 1)) (f : Forms) → ground (mainOf p) h.levels ≡ some f → Settled w f (get_or leaves l 0) (get_or counts l 0) → StackStands w (mainOf p) leaves counts l
+  held_up : (h : StackStands w (main_forms p) leaves counts (l - 1)) (f : Forms) → ground (main_forms p) h.levels ≡ some f → Settled w f (get_or leaves l 0) (get_or counts l 0) → StackStands w (main_forms p) leaves counts l
   unfolding Stands
   held_up h f c s =
       let e : l ≡ length h.levels + 1 = omega (arith, h.depth) in
-      let lv : Level (mainOf p) h.levels (get_or leaves l 0) (get_or counts l 0) s.left = record { level = f; opens = c; start = s.start; found = s.found; turns = s.turns } in
+      let lv : Level (main_forms p) h.levels (get_or leaves l 0) (get_or counts l 0) s.left = record { level = f; opens = c; start = s.start; found = s.found; turns = s.turns } in
       record {
         levels = s.left ∷ h.levels;
         depth = omega (arith, h.depth);
@@ -138,17 +135,32 @@ module _ {w starts : List ℕ} {n : ℕ} (p : FunctionTable w starts n) {leaves 
         ];
       }
 
-  held_settled : (h : StackStands w (mainOf p) leaves counts l) → Settled w (front (placed_held p h) one).level.level (get_or leaves l 0) (get_or counts l 0)
+  held_settled : (h : StackStands w (main_forms p) leaves counts l) → Settled w (front (placed_held p h) one).level.level (get_or leaves l 0) (get_or counts l 0)
   held_settled h =
       let lv = (front (placed_held p h) one).level in
       record { mark = h.marked l one (omega arith); start = lv.start; found = lv.found; left = (front (placed_held p h) one).place; turns = lv.turns }
 
   -- The answer of the test of the level l, over the records of that level.
-  says_held : (r : Bool) {i e : ℕ} → i ≡ base_from w starts n leaves l → e ≡ base_to w starts n leaves l → (h : StackStands w (mainOf p) leaves counts (l - 1)) →
-      ((f : Forms) × (ground (mainOf p) h.levels ≡ some f) × Spanned w p.funs n i e f) →
-      ((n : ℕ) (G : List Forms) (f : Forms) → Spanned w G n i e f → Says r (Settled w f (get_or leaves l 0) (get_or counts l 0))) → Says r (StackStands w (mainOf p) leaves counts l)
+  says_held : (r : Bool) {i e : ℕ} → i ≡ base_from w starts n leaves l → e ≡ base_to w starts n leaves l → (h : StackStands w (main_forms p) leaves counts (l - 1)) →
+      ((f : Forms) × (ground (main_forms p) h.levels ≡ some f) × Spanned w p.funs n i e f) →
+      ((n : ℕ) (G : List Forms) (f : Forms) → Spanned w G n i e f → Says r (Settled w f (get_or leaves l 0) (get_or counts l 0))) → Says r (StackStands w (main_forms p) leaves counts l)
   says_held true hi he h o u = let (f, c, sp) = o in held_up h f c (u n p.funs f sp)
   says_held false hi he h o u = λ k. u n p.funs (front (placed_held p k) one).level.level (rw (hi, he) (spanned (running (placed_held p k)) one)) (held_settled k)
+
+-- A stack that holds up to a level holds up to each level below it.
+pub held_below : {w starts : List ℕ} {n : ℕ} (p : FunctionTable w starts n) {leaves counts : List ℕ} {l : ℕ} (m k : ℕ) → k ≡ m + l →
+    StackStands w (main_forms p) leaves counts k → StackStands w (main_forms p) leaves counts l
+held_below {w} p {leaves} {counts} {l} zero k e h = let i : k ≡ l = omega arith in subst (λ (j : ℕ). StackStands w (main_forms p) leaves counts j) i h
+held_below p (suc m) k e h = held_below p m (k - 1) (omega arith) (held_down p (omega arith) h)
+
+-- One level more.
+pub held_next : {w starts : List ℕ} {n : ℕ} (p : FunctionTable w starts n) {leaves counts : List ℕ} {l : ℕ} → ((k : ℕ) → k < l → StackStands w (main_forms p) leaves counts k) →
+    StackStands w (main_forms p) leaves counts l → (k : ℕ) → k < l + 1 → StackStands w (main_forms p) leaves counts k
+held_next {w} p {leaves} {counts} {l} u h k lt =
+    elim (dec_le l k) [
+      | yes g ↦ let i : l ≡ k = omega arith in subst (λ (j : ℕ). StackStands w (main_forms p) leaves counts j) i h
+      | no g ↦ u k (omega arith)
+    ]
 
 -- At the second level and above.
 view_enters : {w : List ℕ} {G : List Forms} {k p v e : ℕ} {g : Forms} → View w G k p v e g → (f : Forms) → inside_of g ≡ some f → Enters w p v
@@ -159,27 +171,27 @@ view_enters (a_loop k q cs le zero s r z) f c = never (rw z at c)
 view_enters (a_loop k q cs le (suc m) s r z) f c = inr (k, omega arith)
 view_enters (an_if k t s r z) f c = never (rw z at c)
 
-open_enters : {w starts : List ℕ} {n : ℕ} (p : FunctionTable w starts n) (leaves counts : List ℕ) (k : ℕ) (ks : Levels) → length ks ≡ k → 1 ≤ k → Stands (mainOf p) leaves counts ks → (f : Forms) → ground (mainOf p) ks ≡ some f → Enters w (get_or leaves k 0) (get_or counts k 0)
+open_enters : {w starts : List ℕ} {n : ℕ} (p : FunctionTable w starts n) (leaves counts : List ℕ) (k : ℕ) (ks : Levels) → length ks ≡ k → 1 ≤ k → Stands (main_forms p) leaves counts ks → (f : Forms) → ground (main_forms p) ks ≡ some f → Enters w (get_or leaves k 0) (get_or counts k 0)
 unfolding Stands ground
 open_enters p leaves counts k [] d h st f c = absurd (omega arith)
 open_enters p leaves counts k (g ∷ ks) d h st f c =
     let e : length ks + 1 ≡ k = omega arith in
-    let lv : Level (mainOf p) ks (get_or leaves k 0) (get_or counts k 0) g = rw e at st.1 in
+    let lv : Level (main_forms p) ks (get_or leaves k 0) (get_or counts k 0) g = rw e at st.1 in
     let sp = (level_spanned p leaves counts ks st.0 lv.level lv.opens).0 in
     view_enters (view sp (get_or leaves k 0) (get_or counts k 0) lv.start g lv.found lv.turns).0 f c
 
-opens_ground : {w starts : List ℕ} {n : ℕ} (p : FunctionTable w starts n) (ks : Levels) (g : Forms) (us : Levels) (f : Forms) → ks ≡ g ∷ us → inside_of g ≡ some f → ground (mainOf p) ks ≡ some f
+opens_ground : {w starts : List ℕ} {n : ℕ} (p : FunctionTable w starts n) (ks : Levels) (g : Forms) (us : Levels) (f : Forms) → ks ≡ g ∷ us → inside_of g ≡ some f → ground (main_forms p) ks ≡ some f
 unfolding ground
-opens_ground p ks g us f e c = ap (λ (ks : Levels). ground (mainOf p) ks) e ∙ c
+opens_ground p ks g us f e c = ap (λ (ks : Levels). ground (main_forms p) ks) e ∙ c
 
 module _ {w starts : List ℕ} {n : ℕ} (p : FunctionTable w starts n) {leaves counts : List ℕ} {l : ℕ} (two : 2 ≤ l) where
-  pub held_enters : StackStands w (mainOf p) leaves counts l → Enters w (get_or leaves (l - 1) 0) (get_or counts (l - 1) 0)
+  pub held_enters : StackStands w (main_forms p) leaves counts l → Enters w (get_or leaves (l - 1) 0) (get_or counts (l - 1) 0)
   held_enters h =
       let t = front (placed_held p h) (omega arith) in
       open_enters p leaves counts (l - 1) t.under (omega (arith, t.depth)) (omega arith) t.stands t.level.level t.level.opens
 
-  enters_open : (h : StackStands w (mainOf p) leaves counts (l - 1)) → Enters w (get_or leaves (l - 1) 0) (get_or counts (l - 1) 0) →
-      ((f : Forms) × (ground (mainOf p) h.levels ≡ some f) × Spanned w p.funs n (inner_from w starts (get_or leaves (l - 1) 0)) (inner_to w starts (get_or leaves (l - 1) 0)) f) ×
+  enters_open : (h : StackStands w (main_forms p) leaves counts (l - 1)) → Enters w (get_or leaves (l - 1) 0) (get_or counts (l - 1) 0) →
+      ((f : Forms) × (ground (main_forms p) h.levels ≡ some f) × Spanned w p.funs n (inner_from w starts (get_or leaves (l - 1) 0)) (inner_to w starts (get_or leaves (l - 1) 0)) f) ×
       Enterable w starts (get_or leaves (l - 1) 0)
   unfolding inside_of
   enters_open h (inl k) =
@@ -201,10 +213,10 @@ module _ {w starts : List ℕ} {n : ℕ} (p : FunctionTable w starts n) {leaves 
         c.head,
       )
 
-  pub head_room : StackStands w (mainOf p) leaves counts (l - 1) → {hd : ℕ} → hd ≡ get_or leaves (l - 1) 0 → hd * 8 + 8 ≤ length w
+  pub head_room : StackStands w (main_forms p) leaves counts (l - 1) → {hd : ℕ} → hd ≡ get_or leaves (l - 1) 0 → hd * 8 + 8 ≤ length w
   head_room h hh = leaf_room (placed_held p h) (omega arith) hh
 
-  pub head_open : StackStands w (mainOf p) leaves counts (l - 1) → {hd c : ℕ} → hd ≡ get_or leaves (l - 1) 0 → c ≡ get_or counts (l - 1) 0 → Enters w hd c → Enterable w starts hd
+  pub head_open : StackStands w (main_forms p) leaves counts (l - 1) → {hd c : ℕ} → hd ≡ get_or leaves (l - 1) 0 → c ≡ get_or counts (l - 1) 0 → Enters w hd c → Enterable w starts hd
   head_open h hh hc en = rw hh (enters_open h (rw (hh, hc) at en)).1
 
 -- The outermost level runs the main function.
@@ -214,9 +226,9 @@ ground_main main [] e = refl
 ground_main main (g ∷ ks) e = absurd (omega arith)
 
 -- The records of a level above levels that hold.
-module _ {w starts : List ℕ} {n : ℕ} (p : FunctionTable w starts n) {leaves counts : List ℕ} {l : ℕ} (one : 1 ≤ l) (h : StackStands w (mainOf p) leaves counts (l - 1))
+module _ {w starts : List ℕ} {n : ℕ} (p : FunctionTable w starts n) {leaves counts : List ℕ} {l : ℕ} (one : 1 ≤ l) (h : StackStands w (main_forms p) leaves counts (l - 1))
     (en : 2 ≤ l → Enters w (get_or leaves (l - 1) 0) (get_or counts (l - 1) 0)) {i e : ℕ} (hi : i ≡ base_from w starts n leaves l) (he : e ≡ base_to w starts n leaves l) where
-  level_open : (f : Forms) × (ground (mainOf p) h.levels ≡ some f) × Spanned w p.funs n i e f
+  level_open : (f : Forms) × (ground (main_forms p) h.levels ≡ some f) × Spanned w p.funs n i e f
   level_open =
       elim (dec_le 2 l) [
         | yes two ↦
@@ -225,14 +237,14 @@ module _ {w starts : List ℕ} {n : ℕ} (p : FunctionTable w starts n) {leaves 
             (o.0, o.1, rw (hi, he, z) o.2)
         | no low ↦
             let z : eqb l 1 ≡ true = eq-eqb l 1 (omega arith) in
-            (mainOf p, ground_main (mainOf p) h.levels (omega (arith, h.depth)), main_spanned p (hi ∙ rw z) (he ∙ rw z))
+            (main_forms p, ground_main (main_forms p) h.levels (omega (arith, h.depth)), main_spanned p (hi ∙ rw z) (he ∙ rw z))
       ]
 
   pub level_plan : (e * 8 ≤ length w) × Piece w 62 i e
   level_plan = let sp = level_open.2 in (sp.room, sp.piece)
 
   pub says_level : (r : Bool) → ((n : ℕ) (G : List Forms) (f : Forms) → Spanned w G n i e f → Says r (Settled w f (get_or leaves l 0) (get_or counts l 0))) →
-      Says r (StackStands w (mainOf p) leaves counts l)
+      Says r (StackStands w (main_forms p) leaves counts l)
   says_level r u = says_held p one r hi he h level_open u
 
 -- a stack that holds is one that the model decodes.

@@ -1,3 +1,4 @@
+pub mod Lent
 pub mod Shape
 pub mod Suffixes
 pub mod Sights

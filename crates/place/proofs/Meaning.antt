@@ -10,13 +10,11 @@ use native.Mathlib.Omega.{arith}
 use lib.ListN.{length, get_or}
 use Rattle.std.specs.Prelude.{Option as RustOption}
 use Rattle.model.specs.Plan.{Plan}
-use Rattle.model.specs.Forms.{Forms, done, leaf, call, loop, cond, linked, main}
+use Rattle.model.specs.Forms.{Forms, done, linked, main}
 use Rattle.model.specs.Levels.{Standing, so_far, stack}
 use Rattle.model.specs.Acceptance.{Accepted}
-use Rattle.model.specs.Places.{passes, seek, onward, can_end, no_more, no_further}
-use Rattle.model.specs.Stack.{Levels, below, whole, onto, seek_at, onward_at, flat, decode, times}
-use Rattle.model.proofs.Steps.{Step, past, into, out, first, ⊕-done}
-use Rattle.model.proofs.Levels.{flat_seek, flat_onward}
+use Rattle.model.specs.Places.{passes, seek, can_end, no_more, no_further}
+use Rattle.model.specs.Stack.{Levels, whole, onto, seek_at, onward_at, decode, times}
 use Rattle.model.proofs.Points.{AllPoints}
 use Rattle.model.proofs.Statics.{main_last}
 use Rattle.model.proofs.Theorems.{standing_has_stack, stack_is_of_points, stack_has_run}
@@ -28,28 +26,12 @@ use Rattle.place.specs.declared.Place.{Place}
 use Rattle.place.specs.Stack.{FunctionTable, Decoded, Decodes, NextStack, frames}
 use Rattle.place.specs.Times.{TimesAt, CostedStack, Clocked, outer_levels}
 use Rattle.place.specs.Plans.{PlanColumns}
-use Rattle.place.specs.Private.{Nonempty}
-use Rattle.place.proofs.Suffixes.{suffix_headed}
 use Rattle.place.proofs.Views.{leaf_low}
-use Rattle.place.proofs.Falling.{turned_next, top_of}
 use Rattle.place.proofs.Decode.{levels_stand}
 use Rattle.place.proofs.Tables.{table_of, columns_of}
 use Rattle.place.proofs.Points.{mark_point, point_mark, all_points, each_point}
 use Rattle.place.proofs.Entries.{all_times, times_are}
 use Rattle.place.proofs.Carrying.{seek_times, onward_times}
-
--- Forms that are not empty have a next visit.
-step_of : (g : Forms) → Nonempty g → Step g
-step_of done h = absurd h
-step_of (leaf b r) h = past
-step_of (call b fun r) h = into
-step_of (loop b n body r) h = out
-step_of (cond b t e r) h = first
-
--- The first place by levels is the first place in the main function.
-pub first_is_seek : (f : Forms) (x : ℕ) → flat (seek_at f [] x) ≡ seek f x
-unfolding below
-first_is_seek f x = flat_seek f [] x ∙ ap (λ (g : Forms). seek g x) (⊕-done f)
 
 -- Where the old times are the model's, they are right up to the level below the new place's: at a first report, and behind a report.
 pub first_times : (p : Plan) (x : ℕ) (ls : Levels) (old : List ℕ) → seek_at (main p) [] x ≡ some ls → old ≡ times (main p) [] → TimesAt (main p) old (outer_levels ls)
@@ -81,16 +63,6 @@ module _ {w starts : List ℕ} (p : Plan) (a : Accepted p) (d : PlanIn w starts 
     pub points : ((k : ℕ) → 1 ≤ k → k ≤ l → point_at w (get_or leaves k 0) ≡ 1) → AllPoints p (frames leaves counts 1 l)
     points m = all_points p leaves counts 1 l (λ j lo hi. mark_point p a d (get_or leaves j 0) (leaf_in j lo (omega arith)) (m j lo (omega arith)))
 
-    -- The next place by levels is the next place in all that is left to run.
-    pub next_is_onward : (x : ℕ) → flat (onward_at ls x) ≡ onward (whole ls) x
-    next_is_onward x =
-        let f = get_or (linked [] p.functions) (count - 1) done in
-        let (st, e) = levels_stand f leaves counts l ls one by_table in
-        let t = top_of f leaves counts l ls st e one in
-        let v = t.level in
-        let o = (turned_next (get_or counts l 0) v.start t.place x v.turns (suffix_headed v.level (get_or leaves l 0) v.start v.found)).1 in
-        ap (λ (ls : Levels). flat (onward_at ls x)) t.same ∙ flat_onward t.place t.under x (step_of t.place o) ∙ ap (λ (ls : Levels). onward (whole ls) x) (sym t.same)
-
     -- Such a stack is what the functions ask for.
     module _ (u : AllPoints p (frames leaves counts 1 l)) where
       abbrev pub decoded : Decoded w starts count leaves counts l
@@ -119,12 +91,10 @@ module _ {w starts : List ℕ} (p : Plan) (a : Accepted p) (d : PlanIn w starts 
 
         -- `next_times`, where the old times are right up to the level below: all 33 are the model's.
         pub next_times_are : l ≤ 32 → (old new : List ℕ) → TimesAt (main p) old (outer_levels ls) → length new ≡ 33 →
-            ((q : Clocked w tails turns totals leaves counts l old)
-            → TimesAt (get_or q.costed.decoded.table.funs (q.n - 1) done) new q.costed.decoded.levels × ((k : ℕ) → l < k → get_or new k 0 ≡ 0)) →
-            new ≡ times (main p) ls
-        next_times_are most old new t e h =
-            let (y, z) = h (clocked {old = old} t) in
-            all_times (main p) new ls e (omega (arith, depth_is)) (rw (main_last p) y) (λ k lt. z k (omega (arith, depth_is)))
+            ((q : Clocked w tails turns totals leaves counts l old) → TimesAt (get_or q.costed.decoded.table.funs (q.n - 1) done) new q.costed.decoded.levels) →
+            ((k : ℕ) → l < k → get_or new k 0 ≡ 0) → new ≡ times (main p) ls
+        next_times_are most old new t e h z =
+            all_times (main p) new ls e (omega (arith, depth_is)) (rw (main_last p) (h (clocked {old = old} t))) (λ k lt. z k (omega (arith, depth_is)))
 
         -- `times_ok`, where the times above the place's level are 0: all 33 are the model's, or not.
         pub times_ok_is : l ≤ 32 → (ts : List ℕ) → length ts ≡ 33 → ((k : ℕ) → l < k → get_or ts k 0 ≡ 0) → (r : Bool) →

@@ -1,9 +1,9 @@
 -- The remaining time of a level, from the table's columns and the level below. Plain mathematics: no code is named here. Assumes nothing.
-use mathlib.Core.Path.{◌≡◌, sym, ap, ◌∙◌}
+use mathlib.Core.Path.{subst, ◌≡◌, sym, ap, ◌∙◌}
 use mathlib.Core.Bool.{true, false}
 use mathlib.Core.List.{List, [], ◌∷◌}
 use mathlib.Core.Option.{some}
-use Prim.Native.Nat.{ℕ, suc, ◌+◌, ◌-◌, ◌*◌, ◌≤◌, ◌<◌}
+use Prim.Native.Nat.{ℕ, zero, suc, ◌+◌, ◌-◌, ◌*◌, ◌≤◌, ◌<◌}
 use native.Mathlib.Omega.{arith}
 use native.Mathlib.Decide.{dec_le}
 use lib.Dec.{eqb}
@@ -248,3 +248,50 @@ module _ {w tails turns totals leaves counts : List ℕ} {l : ℕ} {times : List
   pub lower_times : TimesAt (main (fares one q.costed) one) times (tip (fares one q.costed) one).under
   unfolding outer_levels
   lower_times = rw (tip (fares one q.costed) one).same at q.lower
+
+-- The kept times level by level, from level 0 up: they are right up to level k, or wrong there.
+abbrev pub Right : (w tails turns totals leaves counts : List ℕ) (n : ℕ) (times : List ℕ) → ℕ → Type 0
+Right w tails turns totals leaves counts n times k =
+    (z : Fares w tails turns totals leaves counts n k) → TimesAt (get_or z.placed.table.funs (n - 1) done) times z.placed.levels
+
+abbrev pub Wrong : (w tails turns totals leaves counts : List ℕ) (n : ℕ) (times : List ℕ) → ℕ → Type 0
+Wrong w tails turns totals leaves counts n times k =
+    (z : Fares w tails turns totals leaves counts n k) → TimesAt (get_or z.placed.table.funs (n - 1) done) times z.placed.levels → ⊥
+
+module _ {w tails turns totals leaves counts : List ℕ} {n : ℕ} (times : List ℕ) where
+  pub right_none : get_or times 0 0 ≡ get_or totals (n - 1) 0 → (k : ℕ) → k < 1 → Right w tails turns totals leaves counts n times k
+  right_none e k lt z = base_right z times (omega arith) e
+
+  pub wrong_none : (get_or times 0 0 ≡ get_or totals (n - 1) 0 → ⊥) → (k : ℕ) → k ≡ 0 → Wrong w tails turns totals leaves counts n times k
+  wrong_none e k z q = base_wrong q times z e
+
+  module _ {l : ℕ} (one : 1 ≤ l) (u : (k : ℕ) → k < l → Right w tails turns totals leaves counts n times k) where
+    pub right_next : {t : ℕ} → t ≡ level_time w tails turns totals leaves counts times l → get_or times l 0 ≡ t → (k : ℕ) → k < l + 1 → Right w tails turns totals leaves counts n times k
+    right_next {t} h e k lt z =
+        elim (dec_le l k) [
+          | yes g ↦
+              let i : l ≡ k = omega arith in
+              let b : 1 ≤ k = omega arith in
+              time_right z b times (u (k - 1) (omega arith) (down z b)) (h ∙ ap (λ (j : ℕ). level_time w tails turns totals leaves counts times j) i)
+              (ap (λ (j : ℕ). get_or times j 0) (sym i) ∙ e)
+          | no g ↦ u k (omega arith) z
+        ]
+
+    pub wrong_next : {t : ℕ} → t ≡ level_time w tails turns totals leaves counts times l → (get_or times l 0 ≡ t → ⊥) → (k : ℕ) → k ≡ l → Wrong w tails turns totals leaves counts n times k
+    wrong_next {t} h e k i z =
+        let b : 1 ≤ k = omega arith in
+        time_wrong z b times (u (k - 1) (omega arith) (down z b)) (h ∙ ap (λ (j : ℕ). level_time w tails turns totals leaves counts times j) (sym i))
+        (λ y. e (ap (λ (j : ℕ). get_or times j 0) (sym i) ∙ y))
+
+    -- What the code asks for at level l, where a place stands at that level or above it.
+    pub fits_at : (m k : ℕ) → k ≡ m + l → Fares w tails turns totals leaves counts n k → LevelFits w tails turns totals leaves counts times l
+    fits_at zero k e z =
+        let i : k ≡ l = omega arith in
+        let b : 1 ≤ k = omega arith in
+        subst (λ (j : ℕ). LevelFits w tails turns totals leaves counts times j) i (level_fits z b times (u (k - 1) (omega arith) (down z b)))
+    fits_at (suc m) k e z = fits_at m (k - 1) (omega arith) (down z (omega arith))
+
+  -- Times that are wrong up to a level are wrong up to each level above it.
+  pub wrong_above : {l : ℕ} → ((k : ℕ) → k ≡ l → Wrong w tails turns totals leaves counts n times k) → (m k : ℕ) → k ≡ m + l → Wrong w tails turns totals leaves counts n times k
+  wrong_above h zero k e z = h k (omega arith) z
+  wrong_above h (suc m) k e z = let b : 1 ≤ k = omega arith in lower_wrong z b times (wrong_above h m (k - 1) (omega arith) (down z b))

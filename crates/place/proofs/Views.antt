@@ -107,7 +107,7 @@ turned_loop (suc v) b (suc n) body r g e = let (m, p, q) = turned_loop v b n bod
 pub data View (w : List ℕ) (G : List Forms) (k p v e : ℕ) (g : Forms) : Type 0 where
   a_leaf : kind_at w p ≡ 0 → (r : Forms) → g ≡ leaf (block_at w p) r → View w G k p v e g
   a_call : kind_at w p ≡ 1 → detail_at w p < k → (r : Forms) → g ≡ call (block_at w p) (get_or G (detail_at w p) done) r → View w G k p v e g
-  a_loop : kind_at w p ≡ 2 → (q : Piece w 62 (p + 1) (after_at w p)) → length q.heights ≤ k → after_at w p ≤ e → (m : ℕ) → m + v ≡ detail_at w p → (r : Forms) →
+  a_loop : kind_at w p ≡ 2 → (q : Piece w 62 (p + 1) (after_at w p)) → length q.heights ≤ k → (after_at w p ≤ e) × (detail_at w p ≤ 65535) → (m : ℕ) → m + v ≡ detail_at w p → (r : Forms) →
       g ≡ loop (block_at w p) m (forms G q.part.lines) r → View w G k p v e g
   an_if : kind_at w p ≡ 3 → (t s r : Forms) → g ≡ cond (block_at w p) t s r → View w G k p v e g
 
@@ -124,7 +124,7 @@ module _ (w hs : List ℕ) (G : List Forms) (k lv p v e o : ℕ) (g : Forms) (fe
   view_lines (loop_line b n body l) h d lt le r s z t =
       let (m, q, y) = turned_loop v b n (forms G body) (forms G l ⊕ r) g (rw z at t) in
       a_loop h.0.0 (record { heights = hs; level = suc lv; part = record { lines = body; rep = h.3; rules = rules_more hs 61 62 (suc lv) body (omega arith) d.5 } }) few
-      (omega (arith, rep_le w lv (after_at w p) e l h.4)) m (q ∙ sym h.1) (forms G l ⊕ r) (y ∙ ap (λ (b : Block). loop b m (forms G body) (forms G l ⊕ r)) h.0.1)
+      (omega (arith, rep_le w lv (after_at w p) e l h.4), omega (arith, h.1, d.2)) m (q ∙ sym h.1) (forms G l ⊕ r) (y ∙ ap (λ (b : Block). loop b m (forms G body) (forms G l ⊕ r)) h.0.1)
   view_lines (if_line b x y l) h d lt le r s z t =
       let u = turned_same v (cond b (forms G x) (forms G y) (forms G l ⊕ r)) g (λ m. refl) (rw z at t) in
       an_if h.0.0 (forms G x) (forms G y) (forms G l ⊕ r) (sym u ∙ ap (λ (b : Block). cond b (forms G x) (forms G y) (forms G l ⊕ r)) h.0.1)
@@ -166,7 +166,7 @@ module _ {w starts : List ℕ} {n : ℕ} (pr : FunctionTable w starts n) where
   open_spanned p v e g f (a_loop k q cs le zero s r z) lt room c = never (rw z at c)
   open_spanned p v e g f (a_loop k q cs le (suc m) s r z) lt room c =
       let d : forms pr.funs q.part.lines ≡ f = let y : some (forms pr.funs q.part.lines) ≡ some f = rw z at c in cc in
-      let (sp, hd) = open_loop p e k q cs le lt room in
+      let (sp, hd) = open_loop p e k q cs le.0 lt room in
       (spanned_same d sp, hd)
 
   base_up : (leaves : List ℕ) (l : ℕ) → 2 ≤ l → (f : Forms) → Spanned w pr.funs n (inner_from w starts (get_or leaves (l - 1) 0)) (inner_to w starts (get_or leaves (l - 1) 0)) f →

@@ -2,4 +2,5 @@ pub mod Pieces
 pub mod Stack
 pub mod Times
 pub mod Plans
+pub mod Lent
 pub mod Private

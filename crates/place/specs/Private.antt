@@ -6,9 +6,13 @@ use Rattle.std.specs.Prelude.{Option as RustOption}
 use Rattle.std.proofs.Math.Option.{Option, none, some}
 use Rattle.model.specs.Places.{pick, ◌or◌, passes, seek, can_end, no_more, no_further}
 use Rattle.model.specs.Stack.{Levels, behind, below, whole, ◌else_at◌, given, onto, seek_at, suffix, turned, inside_of}
-use Rattle.rows.specs.Rows.{kind_at, point_at, detail_at, after_at, isolated_at}
+use Rattle.rows.specs.Rows.{kind_at, point_at, detail_at, after_at, isolated_at, Piece}
+use Rattle.rows.specs.Leaves.{numbers, lent_turns, lent_tails}
+use Rattle.rows.specs.declared.Leaf.{Leaf}
+use Rattle.rows.specs.declared.Code.{Code}
 use Rattle.place.specs.declared.Sight.{Sight}
 use Rattle.place.specs.declared.Found.{Found}
+use Rattle.place.specs.declared.Place.{Place}
 use Rattle.place.specs.Stack.{FunctionTable}
 use Rattle.place.specs.Times.{Columns}
 
@@ -260,3 +264,70 @@ Nonempty (leaf b r) = Unit {0}
 Nonempty (call b fun r) = Unit {0}
 Nonempty (loop b n body r) = Unit {0}
 Nonempty (cond b t e r) = Unit {0}
+
+-- The record h of the code can be looked into.
+abbrev pub HeadEnterable : Code → ℕ → Type 0
+HeadEnterable c h = Enterable (numbers c.row.now) c.bounds.now h
+
+-- The leaves from i up to e are there, and are forms.
+pub record Held (row : List Leaf) (i e : ℕ) : Type 0 where
+  pub room : e ≤ length row
+  pub left : ℕ
+  pub forms : Piece (numbers row) left i e
+
+-- Those inside the loop or call at h are.
+abbrev pub HeadHeld : Code → ℕ → Type 0
+HeadHeld c h = Held c.row.now (inner_from (numbers c.row.now) c.bounds.now h) (inner_to (numbers c.row.now) c.bounds.now h)
+
+-- The records inside the loop or call at h are forms.
+abbrev pub HeadPiece : Code → ℕ → Type 0
+HeadPiece c h = Piece (numbers c.row.now) 62 (inner_from (numbers c.row.now) c.bounds.now h) (inner_to (numbers c.row.now) c.bounds.now h)
+
+-- Where the records of level l begin, and where they end.
+abbrev pub level_from : Code → List ℕ → ℕ → ℕ
+level_from c leaves l = base_from (numbers c.row.now) c.bounds.now c.functions leaves l
+
+abbrev pub level_to : Code → List ℕ → ℕ → ℕ
+level_to c leaves l = base_to (numbers c.row.now) c.bounds.now c.functions leaves l
+
+-- The records of level l can be looked up, over the leaves reported last at those below it.
+pub record LevelOpen (c : Code) (leaves : List ℕ) (l : ℕ) : Type 0 where
+  pub least : 1 ≤ l
+  pub most : l ≤ 32
+  pub count : 1 ≤ c.functions
+  pub fits : c.functions < length c.bounds.now
+  pub enterable : 2 ≤ l → HeadEnterable c (get_or leaves (l - 1) 0)
+
+-- A run of the code stands at the leaf numbers, at level l, one of the 32.
+pub record CodeRunning (c : Code) (leaves : List ℕ) (l : ℕ) : Type 0 where
+  pub least : 1 ≤ l
+  pub most : l ≤ 32
+  pub running : Running (numbers c.row.now) c.bounds.now c.functions leaves l
+
+-- A run of the code stands at the place, at one of the 32 levels.
+pub record PlaceStands (c : Code) (p : Place) : Type 0 where
+  pub least : 1 ≤ p.level
+  pub most : p.level ≤ 32
+  pub placed : Placed (numbers c.row.now) c.bounds.now c.functions p.leaves p.earlier p.level
+
+-- What a search for the next place from this one answers.
+abbrev pub PlaceFinds : Forms → Place → Option Levels → ℕ → RustOption Found → Type 0
+PlaceFinds main p o x found = Finds p.level main p.leaves p.earlier o x found
+
+-- The place holds up to level l.
+abbrev pub PlaceHolds : Code → Forms → Place → ℕ → Type 0
+PlaceHolds c main p l = StackStands (numbers c.row.now) main p.leaves p.earlier l
+
+-- What a first visit inside the loop or call at a looks at is there in this row, and no difference falls below 0.
+abbrev pub RowOpens : List Leaf → List ℕ → ℕ → ℕ → ℕ → Type 0
+RowOpens row totals a time tail = Opens (numbers row) (lent_tails row) totals a time tail
+
+-- The same of the leaf of level l, one of the 32, and its earlier visits took no more than remained at its first.
+pub record PlaceFits (row : List Leaf) (totals : List ℕ) (p : Place) (times : List ℕ) (l : ℕ) : Type 0 where
+  pub least : 1 ≤ l
+  pub most : l ≤ 32
+  pub fits : LevelFits (numbers row) (lent_tails row) (lent_turns row) totals p.leaves p.earlier times l
+
+-- The remaining time at the leaf of level l of the place.
+abbrev pub place_time : List Leaf → List ℕ → Place → List ℕ → ℕ → ℕ
+place_time row totals p times l = level_time (numbers row) (lent_tails row) (lent_turns row) totals p.leaves p.earlier times l

@@ -1,13 +1,13 @@
 -- Texts written one behind the other, as far as there is room, and how long they are. Assumes nothing.
 use Prim.Native.Nat.{ℕ, zero, suc, ◌+◌, ◌-◌, ◌*◌, ◌/◌, ◌%◌, ◌^◌, ◌≤◌, ◌<◌, min}
-use mathlib.Core.Path.{◌≡◌, refl, sym, ap, subst, ◌∙◌}
+use mathlib.Core.Path.{◌≡◌, refl, sym, ap, ◌∙◌}
 use mathlib.Core.List.{List, [], ◌∷◌, ◌++◌, flatten, flat_map, append_assoc, append-nil}
 use mathlib.Core.Bool.{Bool, true, false}
 use native.Mathlib.Numerals.{add-one}
 use native.Mathlib.Omega.{arith}
 use lib.Dec.{leb}
 use lib.ListN.{length, take, drop, get_or, set, length-append, length-take, length-set}
-use lib.Seq.{sets, take-suc, take-nil, take-length, set_out, length-sets}
+use lib.Seq.{sets, take-suc, take-nil, set_out, length-sets}
 use borrow.Author.Tests.{leb-true, leb-false}
 use borrow.Rule.Slice.PartMut.{put_mid}
 use native.Mathlib.Decide.{dec_le}
@@ -150,14 +150,6 @@ pub one_written : {A : Type 0} (f : A → List ℕ) (d : A) (xs : List A) (most 
 unfolding flat_map
 one_written f d xs most i h p q =
     rw (add-one i, take-suc xs i d h, flat_append f (take i xs) (get_or xs i d ∷ []), append-nil (f (get_or xs i d))) (wider (omega arith) (joined p q))
-
--- All of them.
-pub all_written : {A : Type 0} (f : A → List ℕ) (xs : List A) (most i : ℕ) {l m : List ℕ} {at e : ℕ} → i ≡ length xs →
-    PrintedWithin (i * most) l at (flat_map f (take i xs)) m e → PrintedWithin (length xs * most) l at (flat_map f xs) m e
-all_written f xs most i {l} {m} {at} {e} k p =
-    let w : PrintedWithin (length xs * most) l at (flat_map f (take (length xs) xs)) m e =
-    subst (λ (n : ℕ). PrintedWithin (n * most) l at (flat_map f (take n xs)) m e) k p in
-    subst (λ (ys : List _). PrintedWithin (length xs * most) l at (flat_map f ys) m e) (take-length xs) w
 
 -- NUMBERS
 

@@ -1,7 +1,7 @@
 // The lines that the programs print (document 01, 'Calls' and 'Plans worked through'; document 02, L1), each at a place of a lent buffer, as far as it has
 // room.
-// A buffer and a place go in and the next place comes out, with no struct of both: callers carry the place on, and each line would make and undo it (d).
-// No `Display`: what is written is cut at the end of a lent buffer, and a writer that cuts would be this crate again, with `write!` around it (d).
+// A buffer and a place go in and the next place comes out, with no struct of both: callers carry the place on, and each line would make and undo it.
+// No `Display`: what is written is cut at the end of a lent buffer, and a writer that cuts would be this crate again, with `write!` around it.
 #![tactic(auto)]
 
 ghost use Rattle.std.specs.Prelude.{◌≡◌, [], ◌∷◌, ◌+◌, ◌*◌, ◌<◌, length};

@@ -15,3 +15,4 @@ pub mod Bodies
 pub mod Tasks
 pub mod Examples
 pub mod Theorems
+pub mod Parts

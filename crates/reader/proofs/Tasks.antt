@@ -20,9 +20,9 @@ use Rattle.model.specs.declared.Refusal.{Refusal}
 use Rattle.reader.specs.declared.RefusedAt.{RefusedAt}
 use Rattle.reader.specs.declared.Raw.{Raw}
 use Rattle.reader.specs.Machine.{start, task, done, brackets, level, functions_of, stuck, in_task, closed_task, with_function, fault, run, outcome}
-use Rattle.reader.specs.Outcome.{Outcome, plan, refused}
+use Rattle.reader.specs.Outcome.{plan, refused}
 use Rattle.rows.specs.Records.{records, row_of}
-use Rattle.reader.specs.Raw.{padded, raw_with, raw_of, row_left, Written}
+use Rattle.reader.specs.Raw.{padded, raw_with, raw_of, Written}
 use Rattle.reader.specs.Private.{of_task, judged_head, first_line, ended_raw, Halted, FormsDone, TextAt}
 use Rattle.reader.proofs.Allowed.{no_fault}
 use Rattle.reader.proofs.Capped.{Held, found_held}
@@ -197,9 +197,6 @@ module _ {s : List ℕ} {room D t : ℕ} {R₀ : List ℕ} {at i n own : ℕ} {b
   pub held_heights : take own hs ≡ g.tall
   held_heights = ap₂ take g.measured g.heights_held ∙ take_padded 16 g.tall (omega (arith, g.few, g.measured))
 
-  pub held_length : length hs ≡ 16
-  held_length = ap length g.heights_held ∙ length_padded 16 g.tall
-
   -- The line is neither a function's nor the closing bracket.
   pub holding_neither : Strays (lines (drop at s)) → TextAt s room R₀ R (Err (record { refusal = Refusal.Form; line = i }))
   holding_neither (no_more e) = text_refused (task_end g.reading e)
@@ -291,13 +288,3 @@ pub raw_lines : (row : ℕ) (s R₀ R : List ℕ) {room : ℕ} {r : Result Raw R
 raw_lines row s R₀ R h q w =
     let e = ap (λ x. run x start 0 1 (lines s)) q ∙ sym (outcome_lines row s h) in
     (w.answers ∙ ap raw_of e, subst (λ o. Written o R₀ R) e w.writes)
-
--- The row of an accepted text is the one that was written.
-pub row_accepted : (o : Outcome) (R₀ R : List ℕ) {raw : Raw} → Ok raw ≡ raw_of o → Written o R₀ R → R ≡ row_left o R₀
-row_accepted (plan p) R₀ R e w = w
-row_accepted (refused k j) R₀ R e w = cc
-
--- The row of a refused text is the one that was lent.
-pub row_refused : (o : Outcome) (R₀ : List ℕ) {x : RefusedAt} → Err x ≡ raw_of o → R₀ ≡ row_left o R₀
-row_refused (plan p) R₀ e = cc
-row_refused (refused k j) R₀ e = refl

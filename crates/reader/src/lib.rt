@@ -2,20 +2,21 @@
 // document 02, L2).
 #![tactic(auto)]
 
-ghost use Rattle.std.specs.Prelude.{◌≡◌, ◌≢◌, [], ◌∷◌, ◌+◌, ◌*◌, ◌<◌, ◌≤◌, length, leb};
+ghost use Rattle.std.specs.Prelude.{◌≡◌, ◌≢◌, ◌+◌, ◌*◌, ◌<◌, ◌≤◌, length, leb};
 ghost use Rattle.std.specs.Result.{result_err};
 ghost use Rattle.std.proofs.lemmas.List.Edits.{sets};
+ghost use Rattle.rows.specs.Leaves.{numbers};
 ghost use Rattle.text.specs.Grammar.{read_at, Found};
 ghost use Rattle.reader.specs.Machine.{of_leaf, refuse_unless, outcome};
 ghost use Rattle.text.specs.declared.Form.TheVariants.{Task};
-ghost use Rattle.reader.specs.Raw.{raw_of, row_left, Written};
+ghost use Rattle.reader.specs.Raw.{raw_of, row_left, Written, derived};
 ghost use Rattle.reader.specs.Private.{of_bound, of_open, of_target, body_fault, body_line, AwaitedAt, of_task, first_line};
 ghost use Rattle.reader.specs.Private.{heights_before, with_body, record_of, ended_raw, FormsAt, FormAt, PartsAt, TextAt};
 
 use model::Refusal;
 use rows::{
-    BOUNDS, CALL, IF, LEAF, LIMIT, LOOP, MAX_BRACKETS, MAX_COST, MAX_FUNCTIONS, MAX_LEAVES,
-    MAX_LEVEL, MAX_LOOP_BOUND, MAX_SWITCH, ROW, STRIDE,
+    BOUNDS, Kind, LIMIT, Leaf, MAX_BRACKETS, MAX_COST, MAX_FUNCTIONS, MAX_LEAVES, MAX_LEVEL,
+    MAX_LOOP_BOUND, MAX_SWITCH,
 };
 use text::{Form, line};
 
@@ -27,7 +28,8 @@ pub struct RefusedAt {
 }
 
 // What the reader makes of a text beside the row: the plan's deadline, its switch cost, how many leaves and functions it has, the functions' bounds and
-// their heights, filled up with 0.
+// their heights, filled up with 0: arrays as long as any plan asks, for there is no heap. That the functions are 16 at most stands in the contracts, not
+// here: `raw_of` (specs/Raw) makes a `Raw` of each plan's numbers.
 #[derive(Clone, Copy)]
 pub struct Raw {
     pub deadline: u64,
@@ -227,13 +229,9 @@ fn body_line(
     requires { before.now.functions ≤ 16 }
     ensures { result ≡ body_line spot.line room nesting.brackets nesting.level spot.leaves (heights_before before.now) (read_at text.now spot.at) }
 {
-    let Some((form, end)) = line(text, spot.at) else {
-        return Err(spot.refused(Refusal::Form));
-    };
-    match body_fault(form, before, room, nesting, spot.leaves) {
-        Ok(()) => Ok((form, end)),
-        Err(refusal) => Err(spot.refused(refusal)),
-    }
+    let (form, end) = line(text, spot.at).ok_or(spot.refused(Refusal::Form))?;
+    body_fault(form, before, room, nesting, spot.leaves).map_err(|refusal| spot.refused(refusal))?;
+    Ok((form, end))
 }
 
 // Passes the line at a spot, which must be this one. Inlined, or each nested form would take more stack (docs/MEMORY.md).
@@ -248,54 +246,59 @@ fn awaited(text: &[u8], spot: Spot, form: Form) -> Result<Spot, RefusedAt>
     }
 }
 
-// Writes the record of a leaf, by its number and its line.
-fn put(row: &mut [u64; ROW], number: usize, form: Form, other: usize, after: usize, level: u64)
-    requires { number < 512 }
-    ensures { row.new ≡ sets row.old (8 * number) (record_of number form other after level) }
+// Writes the record of a leaf, by its number and its line; what is derived of it stays.
+fn put(row: &mut [Leaf], number: usize, form: Form, other: usize, after: usize, level: u64)
+    requires { number < length row.old }
+    ensures writes { numbers row.new ≡ sets (numbers row.old) (8 * number) (record_of number form other after level) }
+    ensures keeps { derived row.new ≡ derived row.old }
 {
     let (kind, point, isolated, max_load, detail) = match form {
-        Form::Leaf(point, isolated, max_load) => (LEAF, point, isolated, max_load, 0),
-        Form::Call(point, target, isolated, max_load) => (CALL, point, isolated, max_load, target),
-        Form::Loop(point, bound, isolated, max_load) => (LOOP, point, isolated, max_load, bound),
-        Form::If(point, isolated, max_load) => (IF, point, isolated, max_load, 0),
+        Form::Leaf(point, isolated, max_load) => (Kind::Leaf, point, isolated, max_load, 0),
+        Form::Call(point, target, isolated, max_load) => {
+            (Kind::Call, point, isolated, max_load, target)
+        }
+        Form::Loop(point, bound, isolated, max_load) => {
+            (Kind::Loop, point, isolated, max_load, bound)
+        }
+        Form::If(point, isolated, max_load) => (Kind::If, point, isolated, max_load, 0),
         _ => return,
     };
-    let at = STRIDE * number;
-    row[at..at + STRIDE].copy_from_slice(&[
-        kind,
-        u64::from(point),
+    row[number] = Leaf {
+        kind: u64::from(kind),
+        point: u64::from(point),
         isolated,
         max_load,
         detail,
-        other as u64,
-        after as u64,
+        other: other as u64,
+        after: after as u64,
         level,
-    ]);
+        ..row[number]
+    };
 }
 
 // Reads the forms of a body from a spot on, up to the bracket that closes it, and writes their records. The plan so far has the functions before this
-// one, the row has room for so many leaves, and the body lies so deep.
+// one, the row has room for as many leaves as it is long, and the body lies so deep.
 #[cycle(forms_if_parts_one_form)]
 fn forms(
     text: &[u8],
     before: &Raw,
-    room: usize,
     nesting: Nesting,
     from: Spot,
-    row: &mut [u64; ROW],
+    row: &mut [Leaf],
 ) -> Result<Closed, RefusedAt>
-    requires { (before.now.functions ≤ 16) × (room ≤ 512) × (from.at ≤ length text.now) × (from.line ≤ from.at + 1) × (from.leaves ≤ room) }
-    ensures { FormsAt text.now room (heights_before before.now) nesting from row.old row.new result }
+    requires { (before.now.functions ≤ 16) × (from.at ≤ length text.now) × (from.line ≤ from.at + 1) × (from.leaves ≤ length row.old) }
+    ensures reads { FormsAt text.now (length row.old) (heights_before before.now) nesting from (numbers row.old) (numbers row.new) result }
+    ensures keeps { derived row.new ≡ derived row.old }
 {
     let mut spot = from;
     let mut height = 0;
     loop {
-        let (form, end) = body_line(text, before, room, nesting, spot)?;
+        let (form, end) = body_line(text, before, row.len(), nesting, spot)?;
         if form == Form::Close {
             let next = spot.behind(end);
             return Ok(Closed { next, height });
         }
-        let read = one_form(text, before, room, nesting, spot, form, end, row)?;
+        let read = one_form(text, before, nesting, spot, form, end, row)?;
         spot = read.next;
         height = height.max(read.height);
     }
@@ -306,50 +309,41 @@ fn forms(
 fn one_form(
     text: &[u8],
     before: &Raw,
-    room: usize,
     nesting: Nesting,
     spot: Spot,
     form: Form,
     end: usize,
-    row: &mut [u64; ROW],
+    row: &mut [Leaf],
 ) -> Result<Closed, RefusedAt>
-    requires { (before.now.functions ≤ 16) × (room ≤ 512) × (end ≤ length text.now) × (spot.line ≤ end) × (spot.leaves ≤ room) × (form ≢ Form.Close)
-        × (body_fault room nesting.brackets nesting.level spot.leaves (heights_before before.now) form ≡ None) }
-    ensures { FormAt text.now room (heights_before before.now) nesting spot.line spot.leaves end form row.old row.new result }
+    requires { (before.now.functions ≤ 16) × (end ≤ length text.now) × (spot.line ≤ end) × (spot.leaves ≤ length row.old) × (form ≢ Form.Close)
+        × (body_fault (length row.old) nesting.brackets nesting.level spot.leaves (heights_before before.now) form ≡ None) }
+    ensures reads { FormAt text.now (length row.old) (heights_before before.now) nesting spot.line spot.leaves end form (numbers row.old) (numbers row.new) result }
+    ensures keeps { derived row.new ≡ derived row.old }
 {
-    let number = spot.leaves;
-    let next = Spot {
+    let behind = Spot {
         at: end,
         line: spot.line + 1,
-        leaves: number + 1,
+        leaves: spot.leaves + 1,
     };
-    match form {
-        Form::Leaf(..) => {
-            put(row, number, form, 0, next.leaves, nesting.level);
-            Ok(Closed { next, height: 1 })
-        }
-        Form::Call(_, target, ..) => {
-            put(row, number, form, 0, next.leaves, nesting.level);
-            let height = 1 + before.heights[target as usize];
-            Ok(Closed { next, height })
-        }
+    let (other, next, height) = match form {
+        Form::Leaf(..) => (0, behind, 1),
+        Form::Call(_, target, ..) => (0, behind, 1 + before.heights[target as usize]),
         Form::Loop(..) => {
             let inside = Nesting {
                 brackets: nesting.brackets + 1,
                 level: nesting.level + 1,
             };
-            let body = forms(text, before, room, inside, next, row)?;
-            put(row, number, form, 0, body.next.leaves, nesting.level);
-            let height = 1 + body.height;
-            Ok(Closed { height, ..body })
+            let body = forms(text, before, inside, behind, row)?;
+            (0, body.next, 1 + body.height)
         }
         Form::If(..) => {
-            let (other, parts) = if_parts(text, before, room, nesting, next, row)?;
-            put(row, number, form, other, parts.next.leaves, nesting.level);
-            Ok(parts)
+            let (other, parts) = if_parts(text, before, nesting, behind, row)?;
+            (other, parts.next, parts.height)
         }
         _ => unreachable!(),
-    }
+    };
+    put(row, spot.leaves, form, other, next.leaves, nesting.level);
+    Ok(Closed { next, height })
 }
 
 // Reads the parts of an if, from the spot behind its line on: (then, its forms, (else, its forms and the bracket that closes the if. Writes their records,
@@ -358,14 +352,14 @@ fn one_form(
 fn if_parts(
     text: &[u8],
     before: &Raw,
-    room: usize,
     nesting: Nesting,
     spot: Spot,
-    row: &mut [u64; ROW],
+    row: &mut [Leaf],
 ) -> Result<(usize, Closed), RefusedAt>
-    requires { (before.now.functions ≤ 16) × (room ≤ 512) × (spot.at ≤ length text.now) × (spot.line ≤ spot.at + 1) × (spot.leaves ≤ room)
+    requires { (before.now.functions ≤ 16) × (spot.at ≤ length text.now) × (spot.line ≤ spot.at + 1) × (spot.leaves ≤ length row.old)
         × (nesting.brackets < 64) }
-    ensures { PartsAt text.now room (heights_before before.now) nesting spot row.old row.new result }
+    ensures reads { PartsAt text.now (length row.old) (heights_before before.now) nesting spot (numbers row.old) (numbers row.new) result }
+    ensures keeps { derived row.new ≡ derived row.old }
 {
     let first = awaited(text, spot, Form::Then)?;
     if MAX_BRACKETS <= nesting.brackets + 1 {
@@ -375,9 +369,9 @@ fn if_parts(
         brackets: nesting.brackets + 2,
         ..nesting
     };
-    let then = forms(text, before, room, inside, first, row)?;
+    let then = forms(text, before, inside, first, row)?;
     let second = awaited(text, then.next, Form::Else)?;
-    let last = forms(text, before, room, inside, second, row)?;
+    let last = forms(text, before, inside, second, row)?;
     let next = awaited(text, last.next, Form::Close)?;
     let height = then.height.max(last.height).max(1);
     Ok((then.next.leaves, Closed { next, height }))
@@ -435,11 +429,11 @@ fn functions(
     deadline: u64,
     switch: u64,
     from: usize,
-    room: usize,
-    row: &mut [u64; ROW],
+    row: &mut [Leaf],
 ) -> Result<Raw, RefusedAt>
-    requires { (room ≤ 512) × Found text.now 0 (Task deadline switch) from × (of_task deadline switch ≡ None) }
-    ensures { TextAt text.now room row.old row.new result }
+    requires { Found text.now 0 (Task deadline switch) from × (of_task deadline switch ≡ None) }
+    ensures reads { TextAt text.now (length row.old) (numbers row.old) (numbers row.new) result }
+    ensures keeps { derived row.new ≡ derived row.old }
 {
     let mut spot = Spot {
         at: from,
@@ -461,7 +455,7 @@ fn functions(
                 if raw.functions == MAX_FUNCTIONS {
                     return Err(spot.refused(Refusal::Count));
                 }
-                let body = forms(text, &raw, room, IN_FUNCTION, spot.behind(end), row)?;
+                let body = forms(text, &raw, IN_FUNCTION, spot.behind(end), row)?;
                 add(&mut raw, body);
                 spot = body.next;
             }
@@ -471,20 +465,23 @@ fn functions(
 }
 
 // Reads the task.
-fn whole_task(text: &[u8], room: usize, row: &mut [u64; ROW]) -> Result<Raw, RefusedAt>
-    requires { room ≤ 512 }
-    ensures { TextAt text.now room row.old row.new result }
+fn whole_task(text: &[u8], row: &mut [Leaf]) -> Result<Raw, RefusedAt>
+    ensures reads { TextAt text.now (length row.old) (numbers row.old) (numbers row.new) result }
+    ensures keeps { derived row.new ≡ derived row.old }
 {
-    match task_line(text) {
-        Ok((deadline, switch, end)) => functions(text, deadline, switch, end, room, row),
-        Err(refusal) => Err(RefusedAt { refusal, line: 1 }),
-    }
+    let (deadline, switch, end) = task_line(text).map_err(|refusal| RefusedAt {
+        refusal,
+        line: 1,
+    })?;
+    functions(text, deadline, switch, end, row)
 }
 
-// Reads a plan into a row of which so many records may be used, 512 at most. A refused text leaves in the row what was read of it.
-pub fn read_lines(text: &[u8], capacity: usize, row: &mut [u64; ROW]) -> Result<Raw, RefusedAt>
-    ensures answers { result ≡ raw_of (outcome capacity text.now) }
-    ensures writes { Written (outcome capacity text.now) row.old row.new }
+// Reads a plan into a row, of which 512 records are used at most; what is derived of the leaves stays. A refused text leaves in the row what was read of
+// it.
+pub fn read_lines(text: &[u8], row: &mut [Leaf]) -> Result<Raw, RefusedAt>
+    ensures answers { result ≡ raw_of (outcome (length row.old) text.now) }
+    ensures writes { Written (outcome (length row.old) text.now) (numbers row.old) (numbers row.new) }
+    ensures keeps { derived row.new ≡ derived row.old }
 {
     if MAX_TEXT < text.len() {
         return Err(RefusedAt {
@@ -492,16 +489,24 @@ pub fn read_lines(text: &[u8], capacity: usize, row: &mut [u64; ROW]) -> Result<
             line: 0,
         });
     }
-    whole_task(text, MAX_LEAVES.min(capacity), row)
+    let n = MAX_LEAVES.min(row.len());
+    whole_task(text, &mut row[..n])
 }
 
-// Reads a plan into the lent row, of which so many records may be used, 512 at most. A refused text leaves the row as it is.
-pub fn read_raw(text: &[u8], capacity: usize, row: &mut [u64; ROW]) -> Result<Raw, RefusedAt>
+// Reads a plan into the lent row, of which so many records may be used, 512 at most. A refused text leaves the row as it is: that takes a second row, which
+// a caller of `read_lines` spares whose row is its own. It is a copy of the whole row, which has a fixed length for that, so the capacity stands beside it.
+pub fn read_raw(
+    text: &[u8],
+    capacity: usize,
+    row: &mut [Leaf; MAX_LEAVES],
+) -> Result<Raw, RefusedAt>
     ensures answers { result ≡ raw_of (outcome capacity text.now) }
-    ensures writes { row.new ≡ row_left (outcome capacity text.now) row.old }
+    ensures writes { numbers row.new ≡ row_left (outcome capacity text.now) (numbers row.old) }
+    ensures keeps { derived row.new ≡ derived row.old }
 {
     let mut work = *row;
-    let raw = read_lines(text, capacity, &mut work)?;
+    let n = MAX_LEAVES.min(capacity);
+    let raw = read_lines(text, &mut work[..n])?;
     *row = work;
     Ok(raw)
 }

@@ -6,12 +6,12 @@ ghost use Rattle.std.specs.Prelude.{◌≤◌};
 
 use print::put_bytes;
 use reader::{TEXT, read_raw};
-use rows::ROW;
+use rows::{Leaf, MAX_LEAVES};
 use std::io;
 
 // Reads a text into a row of which so many records may be used, and prints the answer.
 fn show(rt: &impl Print, text: &[u8], capacity: usize) -> io::Result<()> {
-    let mut row = [0; ROW];
+    let mut row = [Leaf::default(); MAX_LEAVES];
     match read_raw(text, capacity, &mut row) {
         Ok(raw) => println!(rt; "accepted {} {}", raw.leaves, raw.functions),
         Err(refused) => println!(rt; "refused {} {}", u64::from(refused.refusal), refused.line),

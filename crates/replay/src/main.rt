@@ -7,7 +7,7 @@ ghost use Rattle.std.specs.Prelude.{◌≤◌, length};
 use files::{NAME, Opened};
 use print::{SIZE, refused_plan_line};
 use reader::{RefusedAt, TEXT};
-use rows::{MAX_LEAVES, ROW};
+use rows::{Leaf, MAX_LEAVES};
 use std::io::Read;
 use table::{Head, read};
 use transcript::{ANSWERS, PIECE, Replay, close, feed, start};
@@ -40,11 +40,8 @@ fn take_piece<R: Read>(
     file: &mut R,
     name: &[u8],
     out: &mut [u8; ANSWERS],
-    row: &[u64; ROW],
-    turns: &[u64; MAX_LEAVES],
-    tails: &[u64; MAX_LEAVES],
-    stretches: &[u64; MAX_LEAVES],
-    head: Head,
+    row: &[Leaf],
+    head: &Head,
     replay: Replay,
 ) -> Option<Replay> {
     let mut piece = [0u8; PIECE];
@@ -54,7 +51,7 @@ fn take_piece<R: Read>(
         show(rt, out, size);
         return None;
     }
-    let fed = feed(out, &piece[..n], row, turns, tails, stretches, head, replay);
+    let fed = feed(out, &piece[..n], row, head, replay);
     if show(rt, out, fed.size) {
         Some(fed.replay)
     } else {
@@ -64,22 +61,11 @@ fn take_piece<R: Read>(
 
 // Replays a log, piece by piece. A proved loop has to end, and nothing says that a file does; so the pieces are counted up to a number that no log comes
 // to, since each has a byte at least.
-fn play<R: Read>(
-    rt: &HostRuntime,
-    file: &mut R,
-    name: &[u8],
-    row: &[u64; ROW],
-    turns: &[u64; MAX_LEAVES],
-    tails: &[u64; MAX_LEAVES],
-    stretches: &[u64; MAX_LEAVES],
-    head: Head,
-) {
+fn play<R: Read>(rt: &HostRuntime, file: &mut R, name: &[u8], row: &[Leaf], head: &Head) {
     let mut out = [0u8; ANSWERS];
     let mut replay = start();
     for _piece in 0..u64::MAX {
-        let Some(next) = take_piece(
-            rt, file, name, &mut out, row, turns, tails, stretches, head, replay,
-        ) else {
+        let Some(next) = take_piece(rt, file, name, &mut out, row, head, replay) else {
             return;
         };
         replay = next;
@@ -87,44 +73,18 @@ fn play<R: Read>(
 }
 
 // Replays the log that the second argument names.
-fn replay_log(
-    rt: &HostRuntime,
-    row: &[u64; ROW],
-    turns: &[u64; MAX_LEAVES],
-    tails: &[u64; MAX_LEAVES],
-    stretches: &[u64; MAX_LEAVES],
-    head: Head,
-) {
+fn replay_log(rt: &HostRuntime, row: &[Leaf], head: &Head) {
     let mut name = [0u8; NAME];
     if let Ok(Opened { mut file, size }) = files::open(rt, LOG, &mut name) {
-        play(
-            rt,
-            &mut file,
-            &name[..size],
-            row,
-            turns,
-            tails,
-            stretches,
-            head,
-        );
+        play(rt, &mut file, &name[..size], row, head);
     }
 }
 
 // Reads a plan and replays the log on its table; or prints the plan's refusal, and does not look at the log.
 fn replay_plan(rt: &HostRuntime, text: &[u8]) {
-    let mut row = [0; ROW];
-    let mut turns = [0; MAX_LEAVES];
-    let mut tails = [0; MAX_LEAVES];
-    let mut stretches = [0; MAX_LEAVES];
-    match read(
-        text,
-        MAX_LEAVES,
-        &mut row,
-        &mut turns,
-        &mut tails,
-        &mut stretches,
-    ) {
-        Ok(head) => replay_log(rt, &row, &turns, &tails, &stretches, head),
+    let mut row = [Leaf::default(); MAX_LEAVES];
+    match read(text, &mut row) {
+        Ok(head) => replay_log(rt, &row, &head),
         Err(refused) => refuse(rt, refused),
     }
 }

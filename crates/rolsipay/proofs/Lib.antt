@@ -1,5 +1,2 @@
-pub mod Steps
-pub mod Stored
-pub mod Spreading
-pub mod Gathering
+pub mod Lending
 pub mod Theorems

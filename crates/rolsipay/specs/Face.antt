@@ -2,13 +2,10 @@
 -- Assumes nothing: these are definitions.
 use Rattle.std.specs.Prelude.{ℕ, Bool, ℤ, pos, Result, Ok, Err}
 use Rattle.reader.specs.declared.RefusedAt.{RefusedAt}
-use Rattle.model.specs.declared.Word.{Word}
-use Rattle.model.specs.declared.Word.TheVariants.{Go, Suspend, Stay}
-use Rattle.model.specs.declared.Ending.{Ending}
-use Rattle.model.specs.declared.Ending.TheVariants.{Resume, Ended}
 use Rattle.model.specs.declared.Answer.{Answer}
 use Rattle.model.specs.declared.Answer.TheVariants.{Refused, Decided, Closed}
 use Rattle.model.specs.Refusals.{number_of}
+use Rattle.model.specs.Words.{word_number, ending_number}
 use Rattle.rolsipay.specs.declared.Ruling.{Ruling}
 use Rattle.rolsipay.specs.declared.Reply.{Reply}
 use Rattle.model.specs.Places.{bit}
@@ -19,15 +16,6 @@ ruling_of (Ok u) = record { number = 0; line = 0 }
 ruling_of (Err r) = record { number = number_of r.refusal; line = r.line }
 
 -- Of a call: the word (0 refused, 1 go, 2 suspend, 3 stay, 4 resume, 5 ended), a refusal's number, remaining, margin and late mark; 0 where a case has none.
-abbrev pub word_number : Word → ℕ
-word_number Go = 1
-word_number Suspend = 2
-word_number Stay = 3
-
-abbrev pub ending_number : Ending → ℕ
-ending_number Resume = 4
-ending_number Ended = 5
-
 abbrev pub accepted : ℕ → ℕ → ℤ → Bool → Reply
 accepted word r m late = record { word = word; number = 0; remaining = r; margin = m; late = bit late }
 

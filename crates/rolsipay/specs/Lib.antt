@@ -2,4 +2,3 @@ pub mod Lent
 pub mod Reading
 pub mod Calling
 pub mod Face
-pub mod Private

@@ -4,10 +4,11 @@
 
 ghost use Rattle.std.specs.Prelude.{◌≡◌, length};
 ghost use Rattle.table.specs.Reading.{verdict, head_after};
+ghost use Rattle.table.specs.Lent.{row_after};
 ghost use Rattle.model.specs.declared.Call.TheVariants.{Release, Report, End};
 ghost use Rattle.rolsipay.specs.Calling.{called};
 ghost use Rattle.rolsipay.specs.Face.{ruling_of, reply_from};
-ghost use Rattle.rolsipay.specs.Reading.{answer_of, row_after};
+ghost use Rattle.rolsipay.specs.Reading.{answer_of};
 
 use rolsipay::{Leaf, Reply, Ruling, State};
 use table::Head;

@@ -6,3 +6,4 @@ pub mod Plans
 pub mod Storing
 pub mod Answers
 pub mod Worked
+pub mod Leaves

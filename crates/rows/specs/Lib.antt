@@ -7,3 +7,4 @@ pub mod Answers
 pub mod Turns
 pub mod Worked
 pub mod Kinds
+pub mod Leaves

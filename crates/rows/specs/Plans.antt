@@ -2,6 +2,8 @@
 use Rattle.std.specs.Prelude.{ℕ, ◌+◌, ◌*◌, ◌≤◌, ◌<◌, ◌≡◌, List, [], ◌∷◌, length, get_or}
 use Rattle.model.specs.Plan.{Lines, close, Plan}
 use Rattle.model.specs.Acceptance.{Functions, sizes}
+use Rattle.rows.specs.declared.Code.{Code}
+use Rattle.rows.specs.Leaves.{numbers}
 use Rattle.rows.specs.Rows.{Rep}
 
 -- The functions from number f on lie one after the other: the function f from its bound up to the next.
@@ -26,6 +28,10 @@ pub record PlanOf (w s : List ℕ) (n : ℕ) : Type 0 where
   pub lie : Lies w s 0 functions
   pub kept : Functions [] 0 functions
   pub small : sizes functions ≤ 512
+
+-- The same of a code that is lent.
+abbrev pub CodePlan : Code → Type 0
+CodePlan c = PlanOf (numbers c.row.now) c.bounds.now c.functions
 
 -- The lines of its function number f.
 abbrev pub lines_of : {w s : List ℕ} {n : ℕ} → PlanOf w s n → ℕ → Lines

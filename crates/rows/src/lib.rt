@@ -1,49 +1,52 @@
-// A plan's forms as a row of numbers, a record of eight for each leaf in text order: its fields, its kinds and its limits, for every crate.
+// A plan's forms as a row of leaf records, one for each leaf in text order: its fields, its kinds and its limits, for every crate.
 #![tactic(auto)]
 
-ghost use Rattle.std.specs.Prelude.{◌≡◌, length};
-ghost use Prim.Native.Nat.{◌+◌, ◌*◌, ◌≤◌, ◌<◌};
-ghost use Rattle.rows.specs.Rows.{field, kind_at, after_at};
-ghost use Rattle.rows.specs.Kinds.{IsKind};
+ghost use Rattle.std.specs.Prelude.{◌≡◌, length, get_or};
+ghost use Prim.Native.Nat.{◌+◌, ◌<◌};
+ghost use Rattle.rows.specs.Rows.{kind_at, point_at, isolated_at, max_load_at, detail_at, other_at, after_at, level_at};
+ghost use Rattle.rows.specs.Kinds.{IsKind, Decodes, Stands};
+ghost use Rattle.rows.specs.Leaves.{numbers, lent_turns, lent_tails, lent_stretches};
 
-// Fields of a record: the kind of its form,
-pub const KIND: usize = 0;
+use std::ops::Range;
 
-// 1 for a point and 0 for a silent leaf,
-pub const POINT: usize = 1;
+// A leaf's record, numbers alone, as the C interface takes it. Read from the plan: kind (0 leaf, 1 call, 2 loop, 3 if), point (1 or 0), costs alone and under
+// load, bound of a loop or target of a call, first leaf of an if's else part, first leaf after the form, level in its own function. Derived: turn, tail,
+// stretch.
+#[repr(C)]
+#[derive(Clone, Copy, Default)]
+pub struct Leaf {
+    pub kind: u64,
+    pub point: u64,
+    pub isolated: u64,
+    pub max_load: u64,
+    pub detail: u64,
+    pub other: u64,
+    pub after: u64,
+    pub level: u64,
+    pub turn: u64,
+    pub tail: u64,
+    pub stretch: u64,
+}
 
-// the isolated cost of a visit,
-pub const ISOLATED: usize = 2;
+// A plan's code in lent memory: its row of leaf records, the bounds of its functions (the first leaf of each, and behind them the number of leaves), and
+// how many functions there are. That there are more bounds than functions stands in each contract and in no ghost field here: a
+// code is also made of any head, whatever number of functions it says (table: `Head::code`).
+#[derive(Clone, Copy)]
+pub struct Code<'a> {
+    pub row: &'a [Leaf],
+    pub bounds: &'a [u64],
+    pub functions: usize,
+}
 
-// its max-load cost,
-pub const MAX_LOAD: usize = 3;
-
-// the bound of a loop or the function that a call names, else 0,
-pub const DETAIL: usize = 4;
-
-// the first leaf of the else part of an if, else 0,
-pub const OTHER: usize = 5;
-
-// the first leaf after the form,
-pub const AFTER: usize = 6;
-
-// and the level in its own function.
-pub const LEVEL: usize = 7;
-
-// How many numbers a record has.
-pub const STRIDE: usize = 8;
-
-// Kinds of forms: a leaf,
-pub const LEAF: u64 = 0;
-
-// a call,
-pub const CALL: u64 = 1;
-
-// a loop
-pub const LOOP: u64 = 2;
-
-// and an if.
-pub const IF: u64 = 3;
+impl Code<'_> {
+    // The records of the function f.
+    pub fn function(&self, f: usize) -> Range<usize>
+        requires { f + 1 < length self.now.bounds.now }
+        ensures { (result.start ≡ get_or self.now.bounds.now f 0) × (result.end ≡ get_or self.now.bounds.now (f + 1) 0) }
+    {
+        self.bounds[f] as usize..self.bounds[f + 1] as usize
+    }
+}
 
 // The kind of a form.
 #[derive(Clone, Copy, Debug, PartialEq, Eq)]
@@ -54,14 +57,46 @@ pub enum Kind {
     If,
 }
 
+// A number that stands for no kind.
+#[derive(Clone, Copy, Debug, PartialEq, Eq)]
+pub struct UnknownKind(pub u64);
+
+// The kind that a number stands for in a record.
+impl TryFrom<u64> for Kind {
+    type Error = UnknownKind;
+
+    ghost try_from_gives = { Decodes };
+
+    fn try_from(number: u64) -> Result<Self, UnknownKind> {
+        match number {
+            0 => Ok(Kind::Leaf),
+            1 => Ok(Kind::Call),
+            2 => Ok(Kind::Loop),
+            3 => Ok(Kind::If),
+            _ => Err(UnknownKind(number)),
+        }
+    }
+}
+
+// The number that stands for a kind in a record.
+impl From<Kind> for u64 {
+    ghost from_gives = { Stands };
+
+    fn from(kind: Kind) -> Self {
+        match kind {
+            Kind::Leaf => 0,
+            Kind::Call => 1,
+            Kind::Loop => 2,
+            Kind::If => 3,
+        }
+    }
+}
+
 // The most leaves of a plan,
 pub const MAX_LEAVES: usize = 512;
 
 // and its most functions.
 pub const MAX_FUNCTIONS: usize = 16;
-
-// The numbers of a row with the most leaves.
-pub const ROW: usize = MAX_LEAVES * STRIDE;
 
 // The bounds of functions: the first leaf of each, and one for the number of leaves.
 pub const BOUNDS: usize = MAX_FUNCTIONS + 1;
@@ -90,44 +125,113 @@ pub const LIMIT: u64 = 1 << 40;
 // Sums are held here, so that none wraps.
 pub const CEILING: u64 = 1 << 41;
 
-// Field f of the record i.
-pub fn get(row: &[u64], i: usize, f: usize) -> u64
-    requires { (f < 8) × (i * 8 + f < length row.now) }
-    ensures { result ≡ field row.now i f }
+// What a leaf's record says, by its row and its index and not as methods of a leaf: so a contract names the field of that row which it reads, and asks that the
+// row has it. Contracts speak of a row as `numbers row.now`: the eight numbers of each leaf, one leaf after the other (specs/Leaves, specs/Rows).
+
+// The kind of the form at i, or none where its number is that of no kind.
+pub fn kind_of(row: &[Leaf], i: usize) -> Option<Kind>
+    requires { i < length row.now }
+    ensures { IsKind result (kind_at (numbers row.now) i) }
 {
-    row[i * STRIDE + f]
+    Kind::try_from(row[i].kind).ok()
 }
 
-// The kind of the record i, or none where its number is that of no kind.
-pub fn kind_of(row: &[u64], i: usize) -> Option<Kind>
-    requires { i * 8 < length row.now }
-    ensures { IsKind result (kind_at row.now i) }
+// 1 where the leaf i is a point, 0 where it is silent.
+pub fn point(row: &[Leaf], i: usize) -> u64
+    requires { i < length row.now }
+    ensures { result ≡ point_at (numbers row.now) i }
 {
-    match get(row, i, KIND) {
-        LEAF => Some(Kind::Leaf),
-        CALL => Some(Kind::Call),
-        LOOP => Some(Kind::Loop),
-        IF => Some(Kind::If),
-        _ => None,
-    }
+    row[i].point
 }
 
-// The same, as an index.
-pub fn index(row: &[u64], i: usize, f: usize) -> usize
-    requires { (f < 8) × (i * 8 + f < length row.now) }
-    ensures { result ≡ field row.now i f }
+// Its isolated cost.
+pub fn isolated(row: &[Leaf], i: usize) -> u64
+    requires { i < length row.now }
+    ensures { result ≡ isolated_at (numbers row.now) i }
 {
-    get(row, i, f) as usize
+    row[i].isolated
 }
 
-// The first leaf after the form at i. A leaf or call ends where it begins: a walk need not wait for the record to tell it where to go on.
-pub fn after(row: &[u64], i: usize) -> usize
-    requires { (i * 8 + 8 ≤ length row.now) × (kind_at row.now i < 2 → after_at row.now i ≡ i + 1) }
-    ensures { result ≡ after_at row.now i }
+// Its max-load cost.
+pub fn max_load(row: &[Leaf], i: usize) -> u64
+    requires { i < length row.now }
+    ensures { result ≡ max_load_at (numbers row.now) i }
 {
-    if get(row, i, KIND) < LOOP {
+    row[i].max_load
+}
+
+// The bound of a loop or the function that a call names, else 0.
+pub fn detail(row: &[Leaf], i: usize) -> u64
+    requires { i < length row.now }
+    ensures { result ≡ detail_at (numbers row.now) i }
+{
+    row[i].detail
+}
+
+// The function that a call names, as an index.
+pub fn target(row: &[Leaf], i: usize) -> usize
+    requires { i < length row.now }
+    ensures { result ≡ detail_at (numbers row.now) i }
+{
+    detail(row, i) as usize
+}
+
+// The first leaf of the else part of an if, else 0.
+pub fn other(row: &[Leaf], i: usize) -> usize
+    requires { i < length row.now }
+    ensures { result ≡ other_at (numbers row.now) i }
+{
+    row[i].other as usize
+}
+
+// The first leaf after the form, as its record has it.
+pub fn after(row: &[Leaf], i: usize) -> usize
+    requires { i < length row.now }
+    ensures { result ≡ after_at (numbers row.now) i }
+{
+    row[i].after as usize
+}
+
+// The same where a leaf or call is known to end where it begins: a walk need not wait for the record to tell it where to go on.
+pub fn next(row: &[Leaf], i: usize) -> usize
+    requires { (i < length row.now) × (kind_at (numbers row.now) i < 2 → after_at (numbers row.now) i ≡ i + 1) }
+    ensures { result ≡ after_at (numbers row.now) i }
+{
+    if row[i].kind < u64::from(Kind::Loop) {
         i + 1
     } else {
-        index(row, i, AFTER)
+        after(row, i)
     }
+}
+
+// The level of the leaf i in its own function.
+pub fn level(row: &[Leaf], i: usize) -> u64
+    requires { i < length row.now }
+    ensures { result ≡ level_at (numbers row.now) i }
+{
+    row[i].level
+}
+
+// Its turn, as it is lent.
+pub fn turn(row: &[Leaf], i: usize) -> u64
+    requires { i < length row.now }
+    ensures { result ≡ get_or (lent_turns row.now) i 0 }
+{
+    row[i].turn
+}
+
+// Its tail, as it is lent.
+pub fn tail(row: &[Leaf], i: usize) -> u64
+    requires { i < length row.now }
+    ensures { result ≡ get_or (lent_tails row.now) i 0 }
+{
+    row[i].tail
+}
+
+// Its stretch, as it is lent.
+pub fn stretch(row: &[Leaf], i: usize) -> u64
+    requires { i < length row.now }
+    ensures { result ≡ get_or (lent_stretches row.now) i 0 }
+{
+    row[i].stretch
 }

@@ -6,7 +6,7 @@ use mathlib.Core.Logic.{inl, inr, ⊎_elim}
 use Prim.Native.Nat.{ℕ, suc, ◌+◌, ◌≤◌, ◌<◌}
 use native.Mathlib.Omega.{arith}
 use native.Mathlib.Decide.{dec_le, dec_lt}
-use lib.ListN.{length, get_or, replicate, get_or-replicate}
+use lib.ListN.{length, get_or}
 use Rattle.model.specs.Plan.{Lines, close, leaf_line, call_line, loop_line, if_line}
 use Rattle.model.specs.Acceptance.{Names, Called}
 use Rattle.rows.specs.Rows.{kind_at, detail_at, other_at, after_at, Rep}
@@ -150,10 +150,6 @@ callers_called {w} {s} {n} p h f lt =
 pub record Marked (w : List ℕ) (named : List Bool) (i : ℕ) : Type 0 where
   pub count : length named ≡ 16
   pub marks : (f : ℕ) → f < 16 → Says (get_or named f false) (Caller w f 0 i)
-
-pub marked_none : {w : List ℕ} → Marked w (replicate 16 false) 0
-marked_none {w} =
-    record { count = refl; marks = λ f lt. rw (get_or-replicate 16 f false false lt) (λ c. omega (arith, c.high)) }
 
 -- What a flag says once all records before e are read.
 pub marked_yes : {w : List ℕ} {named : List Bool} {i e : ℕ} (f : ℕ) → Marked w named i → f < 16 → i ≡ e → get_or named f false ≡ true → Caller w f 0 e

@@ -1,8 +1,8 @@
 -- The height of lines is the greatest reach of their records. Assumes nothing.
-use mathlib.Core.Path.{◌≡◌, refl, ap}
-use mathlib.Core.List.{List}
+use mathlib.Core.Path.{◌≡◌, refl, sym, ap, ◌∙◌}
+use mathlib.Core.List.{List, map}
 use mathlib.Core.Logic.{◌⊎◌, inl, inr, ⊎_elim}
-use Prim.Native.Nat.{ℕ, suc, ◌+◌, ◌≤◌, ◌<◌, max}
+use Prim.Native.Nat.{ℕ, zero, suc, ◌+◌, ◌-◌, ◌≤◌, ◌<◌, max}
 use native.Mathlib.Omega.{arith}
 use native.Mathlib.Decide.{dec_le, dec_lt}
 use lib.ListN.{get_or}
@@ -11,6 +11,11 @@ use Rattle.model.specs.Plan.{Lines, close, leaf_line, call_line, loop_line, if_l
 use Rattle.model.specs.Levels.{height}
 use Rattle.rows.specs.Rows.{kind_at, detail_at, other_at, after_at, level_at, Rep, Part}
 use Rattle.rows.proofs.Shape.{rep_le}
+use Rattle.std.specs.List.{fold, reduce, range_with_len}
+use Rattle.std.specs.Option.{option_map, unwrap_or}
+use Rattle.std.proofs.lemmas.Iterator.Adapters.{option_map_id}
+use Rattle.std.proofs.lemmas.List.Folds.{fold-map}
+use Rattle.std.specs.Prelude.{Option}
 use Rattle.structure.specs.Private.{top, Readable}
 use Rattle.structure.proofs.Found.{found, found_sound}
 
@@ -103,23 +108,6 @@ pub record Highest (w hs : List ℕ) (i e h : ℕ) : Type 0 where
   pub all : (j : ℕ) → i ≤ j → j < e → top w hs j ≤ h
   pub some : (h ≡ 0) ⊎ ((j : ℕ) × (i ≤ j) × (j < e) × (top w hs j ≡ h))
 
-pub highest_none : {w hs : List ℕ} {i : ℕ} → Highest w hs i i 0
-highest_none = record { all = λ j a b. absurd (omega arith); some = inl refl }
-
-pub highest_more : {w hs : List ℕ} {i e h t r : ℕ} → i ≤ e → Highest w hs i e h → t ≡ top w hs e → r ≡ max h t → Highest w hs i (e + 1) r
-highest_more {w} {hs} {i} {e} {h} {t} {r} le g q m =
-    record {
-      all = λ j a b.
-          elim (dec_lt j e) [
-            | yes z ↦ omega (arith, g.all j a z)
-            | no z ↦ let y : j ≡ e = omega arith in omega (arith, ap (top w hs) y)
-          ];
-      some = elim (dec_le h t) [
-        | yes z ↦ inr (e, le, omega arith, omega arith)
-        | no z ↦ ⊎_elim (λ x. inl (omega arith)) (λ x. inr (x.0, x.1, omega arith, omega arith)) g.some
-      ];
-    }
-
 -- The greatest reach is the height of a function's lines.
 pub height_reached : {w hs : List ℕ} {i e h : ℕ} (ls : Lines) → Rep w 1 i e ls → Highest w hs i e h → h ≡ height hs ls
 height_reached {w} {hs} {i} {e} {h} ls r g =
@@ -132,3 +120,52 @@ readable p j a b =
     let f = found p j a b in
     let s = found_sound f in
     record { low = omega (arith, s.placed.level, s.placed.low); known = λ x. (s.call x).before; levels = λ x. rw s.placed.level (s.call x).levels }
+
+-- The greatest of h and of the reaches of n records from i on.
+module _ (w hs : List ℕ) where
+  most : ℕ → ℕ → ℕ → ℕ
+  most n i h = fold (λ a x. max a (top w hs x)) h (range_with_len i n)
+
+  most_keeps : (n i h : ℕ) → h ≤ most n i h
+  unfolding most
+  most_keeps zero i h = omega arith
+  most_keeps (suc n) i h = omega (arith, most_keeps n (i + 1) (max h (top w hs i)))
+
+  most_all : (n i h j : ℕ) → i ≤ j → j < i + n → top w hs j ≤ most n i h
+  unfolding most
+  most_all zero i h j a b = absurd (omega arith)
+  most_all (suc n) i h j a b =
+      elim (dec_le j i) [
+        | yes l ↦ let e : j ≡ i = omega arith in rw e (omega (arith, most_keeps n (i + 1) (max h (top w hs i))))
+        | no l ↦ most_all n (i + 1) (max h (top w hs i)) j (omega arith) (omega arith)
+      ]
+
+  most_some : (n i h : ℕ) → (most n i h ≡ h) ⊎ ((j : ℕ) × (i ≤ j) × (j < i + n) × (top w hs j ≡ most n i h))
+  unfolding most
+  most_some zero i h = inl refl
+  most_some (suc n) i h =
+      elim (most_some n (i + 1) (max h (top w hs i))) [
+        | inl e ↦
+            elim (dec_le (top w hs i) h) [
+              | yes l ↦ inl (omega (arith, e))
+              | no l ↦ inr (i, omega arith, omega arith, omega (arith, e))
+            ]
+        | inr q ↦ inr (q.0, omega (arith, q.1), omega (arith, q.2), q.3)
+      ]
+
+  reduced : (n i : ℕ) → unwrap_or (reduce max (map (λ j. top w hs j) (range_with_len i n))) 0 ≡ most n i 0
+  unfolding most
+  reduced zero i = refl
+  reduced (suc n) i =
+      let z : top w hs i ≡ max 0 (top w hs i) = omega arith in
+      let xs = range_with_len (i + 1) n in
+      fold-map max (λ j. top w hs j) (top w hs i) xs ∙ ap (λ (h : ℕ). fold (λ a x. max a (top w hs x)) h xs) z
+
+  -- The greatest reach of the records from i up to e, or 0 where there is none.
+  pub highest_found : (i e : ℕ) → i ≤ e → (r : Option ℕ) → option_map (λ x. x) r ≡ reduce max (map (λ j. top w hs j) (range_with_len i (e - i))) → Highest w hs i e (unwrap_or r 0)
+  highest_found i e le r h =
+      rw (sym (option_map_id r) ∙ h, reduced (e - i) i)
+      (record {
+        all = λ j a b. most_all (e - i) i 0 j a (omega arith);
+        some = elim (most_some (e - i) i 0) [ inl z ↦ inl z | inr q ↦ inr (q.0, q.1, omega (arith, q.2), q.3) ];
+      })

@@ -1,5 +1,6 @@
 pub mod Deciding
 pub mod Found
+pub mod Ranges
 pub mod Levels
 pub mod Functions
 pub mod Callers

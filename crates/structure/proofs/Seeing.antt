@@ -192,14 +192,6 @@ pub record SeenSoFar (w : List ℕ) (has : List Bool) (i j until : ℕ) : Type 0
   pub all : (k : ℕ) → i ≤ k → k < j → silent_end w k ≤ until
   pub some : (until ≡ 0) ⊎ ((k : ℕ) × (i ≤ k) × (k < j) × (silent_end w k ≡ until))
 
-pub so_far_none : {w : List ℕ} {has : List Bool} {i : ℕ} → SeenSoFar w has i i 0
-so_far_none =
-    record {
-      kept = record { points = λ j a b. absurd (omega arith); loops = λ k j a b c. absurd (omega arith) };
-      all = λ k a b. absurd (omega arith);
-      some = inl refl;
-    }
-
 module _ {w : List ℕ} {has : List Bool} {i j until : ℕ} (q : SeenSoFar w has i j until) where
   -- One record more.
   pub so_far_more : {r : ℕ} → i ≤ j → Allowed w has until j → r ≡ max until (silent_end w j) → SeenSoFar w has i (j + 1) r

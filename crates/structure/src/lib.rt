@@ -1,87 +1,88 @@
-// Whether a row of numbers is the raw row of a plan that keeps rules 3 to 9 and 19.
+// Whether a row of leaf records, with the bounds of its functions, is that of a plan that keeps rules 3 to 9 and 19.
 #![tactic(auto)]
 
-ghost use Rattle.std.specs.Prelude.{◌≡◌, true, false, List, [], length, get_or, take};
-ghost use Prim.Native.Nat.{ℕ, ◌+◌, ◌*◌, ◌≤◌, ◌<◌};
+ghost use Rattle.std.specs.Prelude.{◌≡◌, List, [], length, get_or, take, is_some, IfSome};
+ghost use Prim.Native.Nat.{ℕ, ◌≤◌, ◌<◌};
 ghost use Rattle.model.specs.Acceptance.{Called, Seen, SeenAll};
 ghost use Rattle.model.specs.Forms.{Forms, forms};
 ghost use Rattle.model.specs.Levels.{height, heights};
 ghost use Rattle.rows.specs.Rows.{kind_at, detail_at, Part};
 ghost use Rattle.rows.specs.Answers.{Says};
-ghost use Rattle.rows.specs.Plans.{Bounds, PlanOf};
-ghost use Rattle.structure.specs.Plans.{Structured};
+ghost use Rattle.rows.specs.Leaves.{numbers};
+ghost use Rattle.rows.specs.Plans.{Bounds, CodePlan};
+ghost use Rattle.structure.specs.Plans.{CodeStructured};
 ghost use Rattle.structure.specs.Private.{Text, Pointed, Flags, HasPoint, silent_end, Allowed, BlockRight, PlaceRight, LeafRight};
 ghost use Rattle.structure.specs.Private.{CallRight, LoopRight, IfRight, Sound, WholeForm, Readable, top};
 
 use rows::{
-    AFTER, BOUNDS, DETAIL, INNER_BRACKETS, ISOLATED, Kind, LEVEL, MAX_COST, MAX_FUNCTIONS,
-    MAX_LEAVES, MAX_LEVEL, MAX_LOAD, MAX_LOOP_BOUND, OTHER, POINT, STRIDE, after, get, index,
-    kind_of,
+    Code, INNER_BRACKETS, Kind, Leaf, MAX_COST, MAX_FUNCTIONS, MAX_LEAVES, MAX_LEVEL,
+    MAX_LOOP_BOUND, after, detail, isolated, kind_of, level, max_load, next, other, point, target,
 };
+use std::ops::Range;
 
 // Whether the record i is a point or a silent one, and its costs keep rules 3, 5 and 19: a point costs 1 at least.
-fn priced(row: &[u64], i: usize) -> bool
-    requires { i * 8 + 8 ≤ length row.now }
-    ensures { Says result (BlockRight row.now i) }
+fn priced(row: &[Leaf], i: usize) -> bool
+    requires { i < length row.now }
+    ensures { Says result (BlockRight (numbers row.now) i) }
 {
-    let c = get(row, i, ISOLATED);
-    let m = get(row, i, MAX_LOAD);
-    let mark = get(row, i, POINT);
+    let c = isolated(row, i);
+    let m = max_load(row, i);
+    let mark = point(row, i);
     mark <= 1 && c <= MAX_COST && m <= MAX_COST && c <= m && mark <= c
 }
 
 // Whether the record i stands at level l, which is not too high, and its form ends after it begins and by `to`.
-fn placed(row: &[u64], i: usize, to: usize, l: u64) -> bool
-    requires { i * 8 + 8 ≤ length row.now }
-    ensures { Says result (PlaceRight row.now l i to) }
+fn placed(row: &[Leaf], i: usize, to: usize, l: u64) -> bool
+    requires { i < length row.now }
+    ensures { Says result (PlaceRight (numbers row.now) l i to) }
 {
-    let after = index(row, i, AFTER);
-    get(row, i, LEVEL) == l && l <= MAX_LEVEL && i < after && after <= to
+    let after = after(row, i);
+    level(row, i) == l && l <= MAX_LEVEL && i < after && after <= to
 }
 
 // Whether the record i has the fields of a leaf.
-fn leaf_right(row: &[u64], i: usize) -> bool
-    requires { i * 8 + 8 ≤ length row.now }
-    ensures { Says result (LeafRight row.now i) }
+fn leaf_right(row: &[Leaf], i: usize) -> bool
+    requires { i < length row.now }
+    ensures { Says result (LeafRight (numbers row.now) i) }
 {
-    get(row, i, DETAIL) == 0 && get(row, i, OTHER) == 0 && index(row, i, AFTER) == i + 1
+    detail(row, i) == 0 && other(row, i) == 0 && after(row, i) == i + 1
 }
 
 // Whether the record i has the fields of a call at level l, where `hs` are the heights of the functions before.
-fn call_right(row: &[u64], i: usize, l: u64, hs: &[u64]) -> bool
-    requires { (i * 8 + 8 ≤ length row.now) × (l ≤ 32) }
-    ensures { Says result (CallRight row.now hs.now l i) }
+fn call_right(row: &[Leaf], i: usize, l: u64, hs: &[u64]) -> bool
+    requires { (i < length row.now) × (l ≤ 32) }
+    ensures { Says result (CallRight (numbers row.now) hs.now l i) }
 {
-    let f = index(row, i, DETAIL);
+    let f = target(row, i);
     f < MAX_FUNCTIONS
         && f < hs.len()
         && hs[f] <= MAX_LEVEL - l
-        && get(row, i, OTHER) == 0
-        && index(row, i, AFTER) == i + 1
+        && other(row, i) == 0
+        && after(row, i) == i + 1
 }
 
 // Whether the record i has the fields of a loop, where `left` brackets may still open.
-fn loop_right(row: &[u64], i: usize, left: usize) -> bool
-    requires { i * 8 + 8 ≤ length row.now }
-    ensures { Says result (LoopRight row.now left i) }
+fn loop_right(row: &[Leaf], i: usize, left: usize) -> bool
+    requires { i < length row.now }
+    ensures { Says result (LoopRight (numbers row.now) left i) }
 {
-    let n = get(row, i, DETAIL);
-    1 <= n && n <= MAX_LOOP_BOUND && 1 <= left && get(row, i, OTHER) == 0
+    let n = detail(row, i);
+    1 <= n && n <= MAX_LOOP_BOUND && 1 <= left && other(row, i) == 0
 }
 
 // Whether the record i has the fields of an if, where `left` brackets may still open.
-fn if_right(row: &[u64], i: usize, left: usize) -> bool
-    requires { i * 8 + 8 ≤ length row.now }
-    ensures { Says result (IfRight row.now left i) }
+fn if_right(row: &[Leaf], i: usize, left: usize) -> bool
+    requires { i < length row.now }
+    ensures { Says result (IfRight (numbers row.now) left i) }
 {
-    let other = index(row, i, OTHER);
-    get(row, i, DETAIL) == 0 && 2 <= left && i < other && other <= index(row, i, AFTER)
+    let other = other(row, i);
+    detail(row, i) == 0 && 2 <= left && i < other && other <= after(row, i)
 }
 
 // Whether the record i is what one of its kind must be, apart from the forms inside it.
-fn sound(row: &[u64], i: usize, to: usize, left: usize, l: u64, hs: &[u64]) -> bool
-    requires { (i < to) × (to * 8 ≤ length row.now) }
-    ensures { Says result (Sound row.now hs.now left l i to) }
+fn sound(row: &[Leaf], i: usize, to: usize, left: usize, l: u64, hs: &[u64]) -> bool
+    requires { (i < to) × (to ≤ length row.now) }
+    ensures { Says result (Sound (numbers row.now) hs.now left l i to) }
 {
     priced(row, i)
         && placed(row, i, to, l)
@@ -96,18 +97,18 @@ fn sound(row: &[u64], i: usize, to: usize, left: usize, l: u64, hs: &[u64]) -> b
 
 // Whether one whole form begins at i, and ends by `to`.
 #[cycle(valid_whole)]
-fn whole(row: &[u64], i: usize, to: usize, left: usize, l: u64, hs: &[u64]) -> bool
-    requires { (i < to) × (to * 8 ≤ length row.now) }
-    ensures { Says result (WholeForm row.now hs.now left l i to) }
+fn whole(row: &[Leaf], i: usize, to: usize, left: usize, l: u64, hs: &[u64]) -> bool
+    requires { (i < to) × (to ≤ length row.now) }
+    ensures { Says result (WholeForm (numbers row.now) hs.now left l i to) }
 {
     if !sound(row, i, to, left, l, hs) {
         return false;
     }
-    let after = index(row, i, AFTER);
+    let after = after(row, i);
     match kind_of(row, i) {
         Some(Kind::Loop) => valid(row, i + 1, after, left - 1, l + 1, hs),
         Some(Kind::If) => {
-            let other = index(row, i, OTHER);
+            let other = other(row, i);
             valid(row, i + 1, other, left - 2, l, hs) && valid(row, other, after, left - 2, l, hs)
         }
         _ => true,
@@ -117,150 +118,141 @@ fn whole(row: &[u64], i: usize, to: usize, left: usize, l: u64, hs: &[u64]) -> b
 // Whether the records from `from` up to `to` are lines at level l that keep rules 3, 5, 19, 6 and 7, where `left` brackets may still open and
 // `hs` are the heights of the functions before.
 #[cycle(valid_whole)]
-fn valid(row: &[u64], from: usize, to: usize, left: usize, l: u64, hs: &[u64]) -> bool
-    requires { to * 8 ≤ length row.now }
-    ensures { Says result (Part row.now hs.now left l from to) }
+fn valid(row: &[Leaf], from: usize, to: usize, left: usize, l: u64, hs: &[u64]) -> bool
+    requires { to ≤ length row.now }
+    ensures { Says result (Part (numbers row.now) hs.now left l from to) }
 {
     let mut i = from;
+    // A `while`: each form says where the next one begins, so no range has these steps.
     while i < to {
         if !whole(row, i, to, left, l, hs) {
             return false;
         }
-        i = after(row, i);
+        i = next(row, i);
     }
     i == to
 }
 
 // The level of the record i and, where it is a call, of what it calls.
 #[tactic(auto, unfolding(crate::specs::Private::top))]
-fn reach(row: &[u64], i: usize, hs: &[u64]) -> u64
-    requires { (i * 8 + 8 ≤ length row.now) × Readable row.now hs.now i }
-    ensures { result ≡ top row.now hs.now i }
+fn reach(row: &[Leaf], i: usize, hs: &[u64]) -> u64
+    requires { (i < length row.now) × Readable (numbers row.now) hs.now i }
+    ensures { result ≡ top (numbers row.now) hs.now i }
 {
-    let l = get(row, i, LEVEL);
+    let l = level(row, i);
     match kind_of(row, i) {
-        Some(Kind::Call) => l + hs[index(row, i, DETAIL)],
+        Some(Kind::Call) => l + hs[target(row, i)],
         _ => l,
     }
 }
 
 // The height of the function whose lines are the records from `from` up to `to`.
-fn tall(row: &[u64], from: usize, to: usize, hs: &[u64]) -> u64
-    requires to_in_bounds { to * 8 ≤ length row.now }
-    requires part { Part row.now hs.now 62 1 from to }
-    ensures { (p : Part row.now hs.now 62 1 from to) → result ≡ height hs.now p.lines }
+fn tall(row: &[Leaf], from: usize, to: usize, hs: &[u64]) -> u64
+    requires to_in_bounds { to ≤ length row.now }
+    requires part { Part (numbers row.now) hs.now 62 1 from to }
+    ensures { (p : Part (numbers row.now) hs.now 62 1 from to) → result ≡ height hs.now p.lines }
 {
-    let mut h = 0;
-    for i in from..to {
-        h = h.max(reach(row, i, hs));
+    (from..to).map(|i| reach(row, i, hs)).max().unwrap_or(0)
+}
+
+// Whether the bounds behind the last function's end are 0.
+fn unused(code: &Code) -> bool
+    requires all_bounds { length code.now.bounds.now ≡ 17 }
+    requires few { code.now.functions ≤ 16 }
+    ensures { Says result ((f : ℕ) → code.now.functions < f → f ≤ 16 → get_or code.now.bounds.now f 0 ≡ 0) }
+{
+    code.bounds[code.functions + 1..]
+        .iter()
+        .all(|bound| *bound == 0)
+}
+
+// Whether the bounds of the code's functions are right, apart from what lies between them.
+#[tactic(auto, using(rows::proofs::Leaves::numbers_length))]
+fn bounded(code: &Code) -> bool
+    requires all_bounds { length code.now.bounds.now ≡ 17 }
+    ensures { Says result (Bounds (numbers code.now.row.now) code.now.bounds.now code.now.functions) }
+{
+    1 <= code.functions
+        && code.functions <= MAX_FUNCTIONS
+        && code.bounds[0] == 0
+        && code.bounds[code.functions] as usize <= MAX_LEAVES
+        && code.bounds[code.functions] as usize <= code.row.len()
+        && unused(code)
+}
+
+// The heights of the functions of a code that is that of a plan that keeps rules 3 to 7 and 19, or none.
+#[tactic(auto, using(rows::proofs::Leaves::numbers_length))]
+pub fn formed(code: &Code) -> Option<[u64; MAX_FUNCTIONS]>
+    requires all_bounds { length code.now.bounds.now ≡ 17 }
+    ensures says { Says (is_some result) (CodePlan code.now) }
+    ensures tall { IfSome result (λ hs. (p : CodePlan code.now) → take code.now.functions hs ≡ heights [] p.functions) }
+{
+    if !bounded(code) {
+        return None;
     }
-    h
-}
-
-// The first leaf of the function f.
-fn start(starts: &[u64; BOUNDS], f: usize) -> usize
-    requires { f ≤ 16 }
-    ensures { result ≡ get_or starts.now f 0 }
-{
-    starts[f] as usize
-}
-
-// Whether the bounds behind the last of n functions are 0.
-fn unused(starts: &[u64; BOUNDS], n: usize) -> bool
-    requires { n ≤ 16 }
-    ensures { Says result ((f : ℕ) → n < f → f ≤ 16 → get_or starts.now f 0 ≡ 0) }
-{
-    starts[n + 1..].iter().all(|bound| *bound == 0)
-}
-
-// Whether the bounds of n functions are right, apart from what lies between them.
-fn bounded(row: &[u64], starts: &[u64; BOUNDS], n: usize) -> bool
-    ensures { Says result (Bounds row.now starts.now n) }
-{
-    1 <= n
-        && n <= MAX_FUNCTIONS
-        && start(starts, 0) == 0
-        && start(starts, n) <= MAX_LEAVES
-        && start(starts, n) * STRIDE <= row.len()
-        && unused(starts, n)
-}
-
-// Whether the row, with these bounds of n functions, is that of a plan that keeps rules 3 to 7 and 19. The heights of its functions stand in `hs`.
-fn formed(row: &[u64], starts: &[u64; BOUNDS], n: usize, hs: &mut [u64]) -> bool
-    requires { 16 ≤ length hs.old }
-    ensures says { Says result (PlanOf row.now starts.now n) }
-    ensures hs_after { (p : PlanOf row.now starts.now n) → take n hs.new ≡ heights [] p.functions }
-{
-    if !bounded(row, starts, n) {
-        return false;
-    }
-    let leaves = start(starts, n);
-    for f in 0..n {
-        let from = start(starts, f);
-        let to = start(starts, f + 1);
-        if leaves < to || !valid(row, from, to, INNER_BRACKETS, 1, &hs[..f]) {
-            return false;
+    let leaves = code.bounds[code.functions] as usize;
+    let mut hs = [0; MAX_FUNCTIONS];
+    for f in 0..code.functions {
+        let Range { start, end } = code.function(f);
+        if leaves < end || !valid(code.row, start, end, INNER_BRACKETS, 1, &hs[..f]) {
+            return None;
         }
-        hs[f] = tall(row, from, to, &hs[..f]);
+        hs[f] = tall(code.row, start, end, &hs[..f]);
     }
-    true
+    Some(hs)
 }
 
 // Whether every function of a plan but the last is named by a call: rule 9.
-pub fn called(row: &[u64], starts: &[u64; BOUNDS], n: usize) -> bool
-    requires { PlanOf row.now starts.now n }
-    ensures { (p : PlanOf row.now starts.now n) → Says result (Called p.functions) }
+#[tactic(auto, using(rows::proofs::Leaves::numbers_length))]
+pub fn called(code: &Code) -> bool
+    requires all_bounds { length code.now.bounds.now ≡ 17 }
+    requires plan { CodePlan code.now }
+    ensures { (p : CodePlan code.now) → Says result (Called p.functions) }
 {
     let mut named = [false; MAX_FUNCTIONS];
-    for i in 0..start(starts, n) {
-        if let Some(Kind::Call) = kind_of(row, i) {
-            named[index(row, i, DETAIL)] = true;
+    for i in 0..code.bounds[code.functions] as usize {
+        if let Some(Kind::Call) = kind_of(code.row, i) {
+            named[target(code.row, i)] = true;
         }
     }
-    named[..n - 1].iter().all(|call| *call)
+    named[..code.functions - 1].iter().all(|call| *call)
 }
 
 // Whether the record i is a point, or calls a function that has one.
-fn has_point(row: &[u64], i: usize, has: &[bool]) -> bool
-    requires i_in_bounds { i * 8 + 8 ≤ length row.now }
-    requires i_in_bounds_2 { kind_at row.now i ≡ 1 → detail_at row.now i < length has.now }
-    ensures { Says result (HasPoint row.now has.now i) }
+fn has_point(row: &[Leaf], i: usize, has: &[bool]) -> bool
+    requires i_in_bounds { i < length row.now }
+    requires i_in_bounds_2 { kind_at (numbers row.now) i ≡ 1 → detail_at (numbers row.now) i < length has.now }
+    ensures { Says result (HasPoint (numbers row.now) has.now i) }
 {
-    if get(row, i, POINT) == 1 {
-        return true;
-    }
-    match kind_of(row, i) {
-        Some(Kind::Call) => has[index(row, i, DETAIL)],
-        _ => false,
-    }
+    point(row, i) == 1 || matches!(kind_of(row, i), Some(Kind::Call)) && has[target(row, i)]
 }
 
 // Whether the record i may stand where silent loops reach up to `until`.
-fn allowed(row: &[u64], i: usize, until: usize, has: &[bool]) -> bool
-    requires i_in_bounds { i * 8 + 8 ≤ length row.now }
-    requires i_in_bounds_2 { kind_at row.now i ≡ 1 → detail_at row.now i < length has.now }
-    ensures { Says result (Allowed row.now has.now until i) }
+fn allowed(row: &[Leaf], i: usize, until: usize, has: &[bool]) -> bool
+    requires i_in_bounds { i < length row.now }
+    requires i_in_bounds_2 { kind_at (numbers row.now) i ≡ 1 → detail_at (numbers row.now) i < length has.now }
+    ensures { Says result (Allowed (numbers row.now) has.now until i) }
 {
-    !has_point(row, i, has) || until <= i && get(row, i, POINT) == 1
+    !has_point(row, i, has) || until <= i && point(row, i) == 1
 }
 
 // How far silent loops reach, the record i among them.
 #[tactic(auto, unfolding(crate::specs::Private::silent_end))]
-fn silent_until(row: &[u64], i: usize, until: usize) -> usize
-    requires { i * 8 + 8 ≤ length row.now }
-    ensures { result ≡ Prim.Native.Nat.max until (silent_end row.now i) }
+fn silent_until(row: &[Leaf], i: usize, until: usize) -> usize
+    requires { i < length row.now }
+    ensures { result ≡ Prim.Native.Nat.max until (silent_end (numbers row.now) i) }
 {
     match kind_of(row, i) {
-        Some(Kind::Loop) if get(row, i, POINT) == 0 => until.max(index(row, i, AFTER)),
+        Some(Kind::Loop) if point(row, i) == 0 => until.max(after(row, i)),
         _ => until,
     }
 }
 
 // Whether a function keeps rule 8, where `has` says which functions before it have a point.
-fn seen(row: &[u64], from: usize, to: usize, has: &[bool]) -> bool
-    requires to_in_bounds { to * 8 ≤ length row.now }
-    requires text { Text row.now (length has.now) from to }
-    ensures { (fs : List Forms) → Flags has.now fs → (t : Text row.now (length has.now) from to)
+fn seen(row: &[Leaf], from: usize, to: usize, has: &[bool]) -> bool
+    requires to_in_bounds { to ≤ length row.now }
+    requires text { Text (numbers row.now) (length has.now) from to }
+    ensures { (fs : List Forms) → Flags has.now fs → (t : Text (numbers row.now) (length has.now) from to)
         → Says result (Seen (forms fs t.lines)) }
 {
     let mut until = 0;
@@ -274,45 +266,38 @@ fn seen(row: &[u64], from: usize, to: usize, has: &[bool]) -> bool
 }
 
 // Whether a function has a point, inside it or in what it calls.
-fn pointed(row: &[u64], from: usize, to: usize, has: &[bool]) -> bool
-    requires to_in_bounds { to * 8 ≤ length row.now }
-    requires text { Text row.now (length has.now) from to }
-    ensures { (fs : List Forms) → Flags has.now fs → (t : Text row.now (length has.now) from to)
+fn pointed(row: &[Leaf], from: usize, to: usize, has: &[bool]) -> bool
+    requires to_in_bounds { to ≤ length row.now }
+    requires text { Text (numbers row.now) (length has.now) from to }
+    ensures { (fs : List Forms) → Flags has.now fs → (t : Text (numbers row.now) (length has.now) from to)
         → Says result (Pointed (forms fs t.lines)) }
 {
-    for i in from..to {
-        if has_point(row, i, has) {
-            return true;
-        }
-    }
-    false
+    (from..to).any(|i| has_point(row, i, has))
 }
 
 // Whether no silent loop or call of a plan has a point inside it or in what it calls: rule 8.
-pub fn seen_all(row: &[u64], starts: &[u64; BOUNDS], n: usize) -> bool
-    requires { PlanOf row.now starts.now n }
-    ensures { (p : PlanOf row.now starts.now n) → Says result (SeenAll [] p.functions) }
+pub fn seen_all(code: &Code) -> bool
+    requires all_bounds { length code.now.bounds.now ≡ 17 }
+    requires plan { CodePlan code.now }
+    ensures { (p : CodePlan code.now) → Says result (SeenAll [] p.functions) }
 {
     let mut has = [false; MAX_FUNCTIONS];
-    for f in 0..n {
-        let from = start(starts, f);
-        let to = start(starts, f + 1);
-        if !seen(row, from, to, &has[..f]) {
+    for f in 0..code.functions {
+        let Range { start, end } = code.function(f);
+        if !seen(code.row, start, end, &has[..f]) {
             return false;
         }
-        has[f] = pointed(row, from, to, &has[..f]);
+        has[f] = pointed(code.row, start, end, &has[..f]);
     }
     true
 }
 
-// Whether the row, with these bounds of n functions, is that of a plan that keeps rules 3 to 9 and 19. The heights of its functions stand in `hs`.
-pub fn structured(row: &[u64], starts: &[u64; BOUNDS], n: usize, hs: &mut [u64]) -> bool
-    requires { 16 ≤ length hs.old }
-    ensures says { Says result (Structured row.now starts.now n) }
-    ensures hs_after { (p : PlanOf row.now starts.now n) → take n hs.new ≡ heights [] p.functions }
+// The heights of the functions of a code that is that of a plan that keeps rules 3 to 9 and 19, or none.
+pub fn structured(code: &Code) -> Option<[u64; MAX_FUNCTIONS]>
+    requires all_bounds { length code.now.bounds.now ≡ 17 }
+    ensures says { Says (is_some result) (CodeStructured code.now) }
+    ensures tall { IfSome result (λ hs. (p : CodePlan code.now) → take code.now.functions hs ≡ heights [] p.functions) }
 {
-    if !formed(row, starts, n, hs) {
-        return false;
-    }
-    seen_all(row, starts, n) && called(row, starts, n)
+    let hs = formed(code)?;
+    (seen_all(code) && called(code)).then_some(hs)
 }

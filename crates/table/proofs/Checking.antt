@@ -3,9 +3,10 @@ use mathlib.Core.Bool.{Bool, true, false}
 use mathlib.Core.List.{List}
 use mathlib.Core.Option.{Option, none, some}
 use mathlib.Core.Path.{◌≡◌, refl, ap, sym, ◌∙◌, subst}
-use Prim.Native.Nat.{ℕ, ◌*◌, ◌^◌}
+use Prim.Native.Nat.{◌*◌, ◌^◌}
 use native.Mathlib.Omega.{arith}
 use lib.ListN.{length, get_or, take, length-take}
+use lib.Seq.{take_all}
 use Rattle.model.specs.Plan.{C, M, Lines, Plan}
 use Rattle.model.specs.Forms.{main}
 use Rattle.model.specs.Total.{total}
@@ -15,12 +16,18 @@ use Rattle.reader.proofs.Theorems.{row_length}
 use Rattle.rows.specs.Answers.{Says}
 use Rattle.structure.specs.Plans.{Structured}
 use Rattle.rows.proofs.Plans.{plan_leaves, plan_unique}
+use Rattle.rows.proofs.Answers.{same_answer}
+use Rattle.rows.specs.declared.Leaf.{Leaf}
+use Rattle.rows.specs.Leaves.{numbers}
+use Rattle.rows.proofs.Leaves.{numbers_length, numbers_take}
 use Rattle.table.specs.declared.Head.{Head}
-use Rattle.table.specs.Table.{Table, table_of, head_of, table_at, plan_of, found, good}
+use Rattle.table.specs.Table.{Table, table_of, head_of, plan_of, found, good}
+use Rattle.table.specs.Lent.{table_with}
 use Rattle.table.specs.Private.{HeadRanged, Agrees}
 use Rattle.table.proofs.Tests.{leb_exactly, both}
 use Rattle.table.proofs.Plans.{head_whole, same_whole, plan_of_exactly}
 use Rattle.rows.proofs.Storing.{plan_row}
+use Rattle.table.proofs.Lent.{table_of_own}
 use Rattle.table.proofs.Bridge.{plan_bounds, accepted_structured, structured_accepted}
 
 -- A table of an accepted plan.
@@ -36,15 +43,13 @@ good_exactly false t h = none_found (plan_of t) (λ p e. h (p, ((plan_of_exactly
     none_found none k = refl
     none_found (some p) k = absurd (k p refl)
 
-module _ (row turns tails stretches : List ℕ) (h : Head) where
-  abbrev lent : Table
-  lent = table_at row turns tails stretches h
-
-  abbrev used : List ℕ
-  used = take (h.leaves * 8) row
+module _ (ls : List Leaf) (h : Head) where
+  -- The leaves that the head says are used.
+  abbrev used : List Leaf
+  used = take h.leaves ls
 
   -- The table of an accepted plan is in range,
-  pub plan_ranged : OfPlan lent → HeadRanged (length row) h
+  pub plan_ranged : OfPlan (table_with ls h) → HeadRanged (length ls) h
   plan_ranged (p, a, e) =
       let k = ap (λ t. t.head) e in
       let f = a.formed in
@@ -54,27 +59,28 @@ module _ (row turns tails stretches : List ℕ) (h : Head) where
         deadline_high = omega (arith, ap (λ (x : Head). x.deadline) k, f.deadline_high);
         switch = omega (arith, ap (λ (x : Head). x.switch) k, f.switch_range);
         few = omega (arith, n, f.few_leaves);
-        held = omega (arith, n, length-take (h.leaves * 8) row, ap (λ t. length t.row) e, row_length p);
+        held = omega (arith, n, numbers_length ls, length-take (h.leaves * 8) (numbers ls), ap (λ t. length t.row) e, row_length p);
       }
 
   -- keeps rules 3 to 9 and 19,
-  pub plan_structured : (t : OfPlan lent) → (q : Structured used h.bounds h.functions) × (q.plan.functions ≡ t.0.functions)
+  pub plan_structured : (t : OfPlan (table_with ls h)) → (q : Structured (numbers used) h.bounds h.functions) × (q.plan.functions ≡ t.0.functions)
   plan_structured (p, a, e) =
-      subst (λ (t : Table). (q : Structured t.row t.head.bounds t.head.functions) × (q.plan.functions ≡ p.functions)) (sym e) (accepted_structured p a)
+      rw (← numbers_take h.leaves ls) at
+      (subst (λ (t : Table). (q : Structured t.row t.head.bounds t.head.functions) × (q.plan.functions ≡ p.functions)) (sym e) (accepted_structured p a))
 
   -- has its last bound at the number of leaves,
-  pub plan_end : OfPlan lent → get_or h.bounds h.functions 0 ≡ h.leaves
+  pub plan_end : OfPlan (table_with ls h) → get_or h.bounds h.functions 0 ≡ h.leaves
   plan_end t =
       let (q, z) = plan_structured t in
       plan_leaves q.plan ∙ (ap (λ (ls : List Lines). sizes ls) z ∙ sym (ap (λ (u : Table). u.head.leaves) t.2))
 
-  -- Consider a lent row that keeps rules 3 to 9 and 19, with the plan that it stands for.
-  module _ (q : Structured used h.bounds h.functions) where
+  -- Consider used leaves that keep rules 3 to 9 and 19, with the plan that they stand for.
+  module _ (q : Structured (numbers used) h.bounds h.functions) where
     abbrev pub stands_for : Plan
     stands_for = record { deadline = h.deadline; switch = h.switch; functions = q.plan.functions }
 
     -- A plan that has this table is that one.
-    only_plan : (t : OfPlan lent) → t.0 ≡ stands_for
+    only_plan : (t : OfPlan (table_with ls h)) → t.0 ≡ stands_for
     only_plan t =
         let (q', z) = plan_structured t in
         let k = ap (λ (u : Table). u.head) t.2 in
@@ -84,10 +90,10 @@ module _ (row turns tails stretches : List ℕ) (h : Head) where
         λ i. record { deadline = d i; switch = w i; functions = f i }
 
     -- The derived numbers of the table of an accepted plan agree,
-    pub plan_agrees : OfPlan lent → Agrees stands_for turns tails stretches h
+    pub plan_agrees : OfPlan (table_with ls h) → Agrees stands_for used h
     plan_agrees t =
         let a : Accepted stands_for = subst Accepted (only_plan t) t.1 in
-        let e : lent ≡ table_of stands_for = t.2 ∙ ap (λ (p : Plan). table_of p) (only_plan t) in
+        let e : table_with used h ≡ table_of stands_for = table_of_own ls h ∙ (t.2 ∙ ap (λ (p : Plan). table_of p) (only_plan t)) in
         let k = ap (λ (u : Table). u.head) e in
         record {
           fits = (both _ _ (leb_exactly _ _) (leb_exactly _ _)).1 ((short_total C (main stands_for) (2 ^ 40)).0 a.short, (short_total M (main stands_for) (2 ^ 40)).0 a.short_loaded);
@@ -101,14 +107,14 @@ module _ (row turns tails stretches : List ℕ) (h : Head) where
         }
 
     -- and where all of this holds, it is one.
-    pub agrees_plan : HeadRanged (length row) h → length h.bounds ≡ 17 → get_or h.bounds h.functions 0 ≡ h.leaves → Agrees stands_for turns tails stretches h → OfPlan lent
+    pub agrees_plan : HeadRanged (length ls) h → length h.bounds ≡ 17 → get_or h.bounds h.functions 0 ≡ h.leaves → Agrees stands_for used h → OfPlan (table_with ls h)
     agrees_plan r wide end g =
         let (c, m) = (both _ _ (leb_exactly (total C (main stands_for)) _) (leb_exactly (total M (main stands_for)) _)).0 g.fits in
-        let held : length used ≡ get_or h.bounds h.functions 0 * 8 = omega (arith, length-take (h.leaves * 8) row, r.held, end) in (
+        let held : length (numbers used) ≡ h.leaves * 8 = omega (arith, numbers_length used, length-take h.leaves ls, r.held) in (
           stands_for,
           structured_accepted q stands_for refl r.deadline_low r.deadline_high r.switch c m,
-          same_whole lent (table_of stands_for) (
-            plan_row q.plan held,
+          sym (table_of_own ls h) ∙ same_whole (table_with used h) (table_of stands_for) (
+            take_all (h.leaves * 8) (numbers used) (omega (arith, held)) ∙ plan_row q.plan (omega (arith, held, end)),
             g.turns_are,
             g.tails_are,
             g.stretches_are,
@@ -118,3 +124,12 @@ module _ (row turns tails stretches : List ℕ) (h : Head) where
             ),
           ),
         )
+
+    -- Where the last bound is there, a test of the derived numbers says whether it is one.
+    pub tested :
+        {r : Bool} → HeadRanged (length ls) h → length h.bounds ≡ 17 → get_or h.bounds h.functions 0 ≡ h.leaves
+        → ((p : Plan) (v : Structured (numbers used) h.bounds h.functions) → p.functions ≡ v.plan.functions → sizes p.functions ≡ h.leaves → Says r (Agrees p used h))
+        → r ≡ good (table_with ls h)
+    tested {r} ranged wide end says =
+        good_exactly r (table_with ls h)
+        (same_answer r (agrees_plan ranged wide end) plan_agrees (says stands_for q refl (sym (plan_leaves q.plan) ∙ end)))

@@ -42,10 +42,9 @@ use Rattle.columns.proofs.Meaning.{measured_totals, totals_summed, cs_known, tai
 use Rattle.table.specs.declared.Derived.{Derived}
 use Rattle.table.specs.Table.{all_turns, all_tails, stretch_of}
 use Rattle.table.specs.Accepting.{short?}
-use Rattle.table.specs.Reading.{Wide}
 use Rattle.table.specs.Private.{DerivedNumbers, Derives}
 use Rattle.table.proofs.Tests.{no_truth}
-use Rattle.reader.proofs.Tasks.{padded_same}
+use Rattle.reader.proofs.Tasks.{length_padded, padded_same}
 use Rattle.table.proofs.Holding.{leaves_size, Marks, leaves_hold, marks_of, Joins, joined_take}
 
 -- TURNS
@@ -140,12 +139,6 @@ pub tallies_length : (k : Block → ℕ) (ts : List ℕ) (ls : List Lines) → l
 unfolding tallies
 tallies_length k ts [] = omega arith
 tallies_length k ts (l ∷ ls) = omega (arith, tallies_length k (ts ++ (tally k ts l ∷ [])) ls, length-append ts (tally k ts l ∷ []))
-
--- A list filled up to k numbers has k, and one that is longer is cut there.
-length_padded : (k : ℕ) (xs : List ℕ) → length (padded k xs) ≡ k
-length_padded zero xs = refl
-length_padded (suc k) [] = ap suc (length_padded k [])
-length_padded (suc k) (x ∷ xs) = ap suc (length_padded k xs)
 
 -- Consider a row that keeps rules 3 to 9 and 19.
 module _ {w s : List ℕ} {n : ℕ} (q : Structured w s n) where
@@ -314,30 +307,15 @@ pub record Room (n : ℕ) (cs o t₀ u₀ : List ℕ) : Type 0 where
   pub tails : length t₀ ≡ 512
   pub stretches : length u₀ ≡ 512
 
--- The columns stay as long as they were.
-pub still_wide : {w starts cs o ms b t₀ u₀ t u : List ℕ} {n r : ℕ} → SummedBoth w starts n cs o ms b → Room n cs o t₀ u₀ → Gave w starts n cs o ms b t₀ u₀ r t u → Wide o t u
-still_wide {starts = starts} {cs = cs} {ms = ms} {t₀ = t₀} {u₀ = u₀} {n = n} v z g =
-    record {
-      turns_wide = z.turns;
-      tails_wide = ap length (g.tails v) ∙ (length_tails cs (lines_of v.plan) starts n t₀ ∙ z.tails);
-      stretches_wide =
-          ap length (g.stretches v) ∙
-          (length_stretches M ms (λ f x. line_silence M ms (lines_of v.plan f) x) (lines_of v.plan) starts n n u₀ ∙ z.stretches);
-    }
-
 -- The derived numbers of n functions whose totals are cs and ms; r is the stretch of the release.
 abbrev pub derived : List ℕ → List ℕ → ℕ → ℕ → Derived
 derived cs ms r n = record { total = get_or cs (n - 1) 0; max_load_total = get_or ms (n - 1) 0; stretch = r; totals = cs }
 
--- The row's functions, where the bounds are handed in as indexes.
-pub row_plan : {w s starts : List ℕ} {n : ℕ} → starts ≡ s → Structured w s n → PlanOf w starts n
-row_plan e q = rw e q.plan
-
 -- Consider a row that keeps rules 3 to 9 and 19, and what `measure` and `derive` give for it.
 module _ {w s : List ℕ} {n : ℕ} (q : Structured w s n) where
-  -- What holds of the bounds and of the number of the functions holds of the indexes and of n.
-  pub moved : (K : List ℕ → ℕ → Type 0) → K s (length (ls q)) → {starts : List ℕ} → starts ≡ s → K starts n
-  moved K x e = subst (λ (t : List ℕ). K t n) (sym e) (subst (λ (m : ℕ). K s m) q.plan.count x)
+  -- What holds of the number of the functions holds of n.
+  pub counted : (K : ℕ → Type 0) → K (length (ls q)) → K n
+  counted K x = subst K q.plan.count x
 
   -- All functions of the row.
   abbrev row : PlanOf w s (length (ls q))
@@ -346,28 +324,25 @@ module _ {w s : List ℕ} {n : ℕ} (q : Structured w s n) where
   module _ {cs o ms b : List ℕ} where
     -- What `derive` asks.
     pub row_summed :
-        {starts : List ℕ} → starts ≡ s → Gives C w starts n cs o → Gives M w starts n ms b → get_or cs (n - 1) 0 ≤ limit → get_or ms (n - 1) 0 ≤ limit
-        → SummedBoth w starts n cs o ms b
+        Gives C w s n cs o → Gives M w s n ms b → get_or cs (n - 1) 0 ≤ limit → get_or ms (n - 1) 0 ≤ limit → SummedBoth w s n cs o ms b
     row_summed =
-        moved (λ t m. Gives C w t m cs o → Gives M w t m ms b → get_or cs (m - 1) 0 ≤ limit → get_or ms (m - 1) 0 ≤ limit → SummedBoth w t m cs o ms b)
+        counted (λ m. Gives C w s m cs o → Gives M w s m ms b → get_or cs (m - 1) 0 ≤ limit → get_or ms (m - 1) 0 ≤ limit → SummedBoth w s m cs o ms b)
         (λ x y h k. summed q (x row) (y row) h k)
 
     module _ (p : Plan) (same : p.functions ≡ ls q) where
       -- A total over the limit breaks rule 10.
-      pub row_long_isolated :
-          {starts : List ℕ} → starts ≡ s → Gives C w starts n cs o → Gives M w starts n ms b → limit < get_or cs (n - 1) 0 → short? p ≡ false
+      pub row_long_isolated : Gives C w s n cs o → Gives M w s n ms b → limit < get_or cs (n - 1) 0 → short? p ≡ false
       row_long_isolated =
-          moved (λ t m. Gives C w t m cs o → Gives M w t m ms b → limit < get_or cs (m - 1) 0 → short? p ≡ false)
+          counted (λ m. Gives C w s m cs o → Gives M w s m ms b → limit < get_or cs (m - 1) 0 → short? p ≡ false)
           (λ x y h. rw same (long_isolated q (x row) (y row) h))
 
-      pub row_long_loaded :
-          {starts : List ℕ} → starts ≡ s → Gives C w starts n cs o → Gives M w starts n ms b → limit < get_or ms (n - 1) 0 → short? p ≡ false
+      pub row_long_loaded : Gives C w s n cs o → Gives M w s n ms b → limit < get_or ms (n - 1) 0 → short? p ≡ false
       row_long_loaded =
-          moved (λ t m. Gives C w t m cs o → Gives M w t m ms b → limit < get_or ms (m - 1) 0 → short? p ≡ false)
+          counted (λ m. Gives C w s m cs o → Gives M w s m ms b → limit < get_or ms (m - 1) 0 → short? p ≡ false)
           (λ x y h. rw same (long_loaded q (x row) (y row) h))
 
       module _ {t₀ u₀ t u : List ℕ} {r : ℕ} where
-        -- The numbers, where the bounds are the row's own.
+        -- The numbers, of all functions of the row.
         numbers :
             (x : Measured C (line q) s (length (ls q)) cs o) (y : Measured M (line q) s (length (ls q)) ms b)
             → get_or cs (length (ls q) - 1) 0 ≤ limit → get_or ms (length (ls q) - 1) 0 ≤ limit → Room (length (ls q)) cs o t₀ u₀
@@ -387,9 +362,9 @@ module _ {w s : List ℕ} {n : ℕ} (q : Structured w s n) where
 
         -- Totals within the limit keep rule 10, and the numbers are those of the plan's table.
         pub row_derives :
-            {starts : List ℕ} → starts ≡ s → Gives C w starts n cs o → Gives M w starts n ms b → get_or cs (n - 1) 0 ≤ limit → get_or ms (n - 1) 0 ≤ limit
-            → Room n cs o t₀ u₀ → Gave w starts n cs o ms b t₀ u₀ r t u → Derives p (Some (derived cs ms r n)) o t u
+            Gives C w s n cs o → Gives M w s n ms b → get_or cs (n - 1) 0 ≤ limit → get_or ms (n - 1) 0 ≤ limit
+            → Room n cs o t₀ u₀ → Gave w s n cs o ms b t₀ u₀ r t u → Derives p (Some (derived cs ms r n)) o t u
         row_derives =
-            moved (λ i m. Gives C w i m cs o → Gives M w i m ms b → get_or cs (m - 1) 0 ≤ limit → get_or ms (m - 1) 0 ≤ limit
-            → Room m cs o t₀ u₀ → Gave w i m cs o ms b t₀ u₀ r t u → Derives p (Some (derived cs ms r m)) o t u)
+            counted (λ m. Gives C w s m cs o → Gives M w s m ms b → get_or cs (m - 1) 0 ≤ limit → get_or ms (m - 1) 0 ≤ limit
+            → Room m cs o t₀ u₀ → Gave w s m cs o ms b t₀ u₀ r t u → Derives p (Some (derived cs ms r m)) o t u)
             (λ x y h k z g. (rw same (short q (x row) (y row) h k), numbers (x row) (y row) h k z g))

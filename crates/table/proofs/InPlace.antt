@@ -19,6 +19,8 @@ use Rattle.model.proofs.Leaves.{leaf_range}
 use Rattle.model.proofs.Targets.{plan_turning}
 use Rattle.reader.specs.Raw.{padded}
 use Rattle.reader.proofs.Tasks.{padded_same}
+use Rattle.rows.specs.declared.Leaf.{Leaf}
+use Rattle.rows.specs.Leaves.{lent_turns, lent_tails}
 use Rattle.rows.specs.Rows.{Rep}
 use Rattle.structure.specs.Plans.{Structured}
 use Rattle.rows.proofs.Measures.{rep_size}
@@ -33,7 +35,7 @@ use Rattle.columns.proofs.Functions.{tally_same, turns_same, known_at, fun_below
 use Rattle.columns.proofs.Written.{below_more, max_load_of}
 use Rattle.columns.proofs.Known.{Agree, tail_same, exact_known, exact_measured, known_tallies, main_most}
 use Rattle.columns.proofs.Looking.{fill_of, contains_look, tail_look}
-use Rattle.columns.proofs.Reading.{rep_spans, length_stretches}
+use Rattle.columns.proofs.Reading.{rep_spans}
 use Rattle.table.specs.declared.Head.{Head}
 use Rattle.table.specs.Table.{all_turns, all_tails, table_of}
 use Rattle.table.specs.Accepting.{short?}
@@ -41,7 +43,7 @@ use Rattle.table.specs.Private.{DerivedNumbers, Derives, Agrees}
 use Rattle.table.proofs.Tests.{leb_exactly, both}
 use Rattle.table.proofs.Holding.{leaves_size, Marks, leaves_hold, holds_one, joined_take, joined_part, joined_long}
 use Rattle.table.proofs.Deriving as derived_numbers
-use Rattle.table.proofs.Deriving.{turns_exact, turns_join, tails_join, tallies_length, Gives, derived, moved, row_plan, row_summed}
+use Rattle.table.proofs.Deriving.{turns_exact, turns_join, tails_join, tallies_length, Gives, derived, counted, row_summed}
 
 -- A column of tails has the tail of each leaf, in text order.
 tails_listed : (ts w : List ℕ) (v i e : ℕ) (l : Lines) → Rep w v i e l → column_of (tail_rule ts) l 0 ≡ map (λ b. tail ts b.number l 0) (leaves l)
@@ -186,57 +188,49 @@ module _ {w s : List ℕ} {n : ℕ} (q : Structured w s n) where
           tails_long = omega (arith, ends, joined_long (tails_join ts) t ls tails_are);
         }
 
--- WHAT THE CHECK GIVES, where the bounds are handed in as indexes
+-- WHAT THE CHECK GIVES
 
 -- Lent numbers that fit.
 abbrev pub Fitting : List ℕ → List ℕ → ℕ → List ℕ → List ℕ → List ℕ → Type 0
-Fitting w starts n cs o t = (v : PlanOf w starts n) → AllDerived (lines_of v) starts n cs o t
+Fitting w s n cs o t = (v : PlanOf w s n) → AllDerived (lines_of v) s n cs o t
 
 -- They are as `measure` gives them.
-pub as_measured : {w starts cs o t : List ℕ} {n : ℕ} → Fitting w starts n cs o t → Gives C w starts n cs o
+pub as_measured : {w s cs o t : List ℕ} {n : ℕ} → Fitting w s n cs o t → Gives C w s n cs o
 as_measured x v = exact_measured v (x v).exact
 
--- The column of stretches stays as long as it was.
-pub written_wide :
-    (u₀ : List ℕ) {w starts ms b u : List ℕ} {n : ℕ} → length u₀ ≡ 512
-    → ((v : Summed M w starts n ms b) → u ≡ stretches_written M ms (λ f z. line_silence M ms (lines_of v.plan f) z) (lines_of v.plan) starts n n u₀)
-    → Summed M w starts n ms b → length u ≡ 512
-written_wide u₀ {starts = starts} {ms = ms} {n = n} wide h v =
-    ap length (h v) ∙ (length_stretches M ms (λ f z. line_silence M ms (lines_of v.plan f) z) (lines_of v.plan) starts n n u₀ ∙ wide)
-
-module _ {w s : List ℕ} {n : ℕ} (q : Structured w s n) {starts : List ℕ} (e : starts ≡ s) where
+module _ {w s : List ℕ} {n : ℕ} (q : Structured w s n) where
   -- The total of the plan is within the limit.
-  pub fitting_low : {cs o t : List ℕ} → Fitting w starts n cs o t → get_or cs (n - 1) 0 ≤ limit
-  fitting_low x = (x (row_plan e q)).exact.small (n - 1) (omega (arith, q.plan.bounds.some))
+  pub fitting_low : {cs o t : List ℕ} → Fitting w s n cs o t → get_or cs (n - 1) 0 ≤ limit
+  fitting_low x = (x q.plan).exact.small (n - 1) (omega (arith, q.plan.bounds.some))
 
   -- What `stretches` asks.
-  pub fitting_costed : {cs o t ms b : List ℕ} → Fitting w starts n cs o t → Gives M w starts n ms b → get_or ms (n - 1) 0 ≤ limit → Summed M w starts n ms b
-  fitting_costed x y k = max_load_of (row_summed q e (as_measured x) y (fitting_low x) k)
+  pub fitting_costed : {cs o t ms b : List ℕ} → Fitting w s n cs o t → Gives M w s n ms b → get_or ms (n - 1) 0 ≤ limit → Summed M w s n ms b
+  fitting_costed x y k = max_load_of (row_summed q (as_measured x) y (fitting_low x) k)
 
   module _ (p : Plan) (same : p.functions ≡ q.plan.functions) where
     -- The numbers of the plan's table fit.
-    pub table_fits : {o t u : List ℕ} (h : Head) → sizes p.functions ≡ h.leaves → Agrees p o t u h → ((v : PlanOf w starts n) → AllDerived (lines_of v) starts n h.totals o t → ⊥) → ⊥
-    table_fits {o} {t} {u} h few g =
+    pub table_fits : (us : List Leaf) (h : Head) → sizes p.functions ≡ h.leaves → Agrees p us h → AllDerived (line q) s n h.totals (lent_turns us) (lent_tails us)
+    table_fits us h few g =
         let cut : (l : List ℕ) → take (sizes q.plan.functions) l ≡ take h.leaves l = λ l. ap (λ (m : ℕ). take m l) (sym (ap sizes same) ∙ few) in
-        let turned : take (sizes q.plan.functions) o ≡ (table_of p).turns = cut o ∙ g.turns_are in
-        let held : take (sizes q.plan.functions) t ≡ (table_of p).tails = cut t ∙ g.tails_are in
-        let x = fitting q (rw same at g.totals) o t (rw same at g.fits) (rw same at turned) (rw same at held) in
-        moved q (λ i m. ((v : PlanOf w i m) → AllDerived (lines_of v) i m h.totals o t → ⊥) → ⊥) (λ no. no (own q) x) e
+        let turned : take (sizes q.plan.functions) (lent_turns us) ≡ (table_of p).turns = cut (lent_turns us) ∙ g.turns_are in
+        let held : take (sizes q.plan.functions) (lent_tails us) ≡ (table_of p).tails = cut (lent_tails us) ∙ g.tails_are in
+        counted q (λ m. AllDerived (line q) s m h.totals (lent_turns us) (lent_tails us))
+        (fitting q (rw same at g.totals) (lent_turns us) (lent_tails us) (rw same at g.fits) (rw same at turned) (rw same at held))
 
     -- Lent numbers that fit, and derived stretches, are those of the plan's table.
     pub fitting_derives :
-        (u₀ : List ℕ) {cs o t ms b u : List ℕ} {r : ℕ} → Fitting w starts n cs o t → Gives M w starts n ms b → get_or ms (n - 1) 0 ≤ limit → length cs ≡ 16 → length u₀ ≡ 512
-        → ((v : Summed M w starts n ms b) → r ≡ line_silence M ms (lines_of v.plan (n - 1)) 0)
-        → ((v : Summed M w starts n ms b) → u ≡ stretches_written M ms (λ f z. line_silence M ms (lines_of v.plan f) z) (lines_of v.plan) starts n n u₀)
+        (u₀ : List ℕ) {cs o t ms b u : List ℕ} {r : ℕ} → Fitting w s n cs o t → Gives M w s n ms b → get_or ms (n - 1) 0 ≤ limit → length cs ≡ 16 → length u₀ ≡ 512
+        → ((v : Summed M w s n ms b) → r ≡ line_silence M ms (lines_of v.plan (n - 1)) 0)
+        → ((v : Summed M w s n ms b) → u ≡ stretches_written M ms (λ f z. line_silence M ms (lines_of v.plan f) z) (lines_of v.plan) s n n u₀)
         → Derives p (Some (derived cs ms r n)) o t u
     fitting_derives u₀ {cs} {o} {t} {ms} {b} {u} {r} x y k long wide release stretches =
-        moved q (λ i m. Fitting w i m cs o t → Gives M w i m ms b → get_or ms (m - 1) 0 ≤ limit
-        → ((v : Summed M w i m ms b) → r ≡ line_silence M ms (lines_of v.plan (m - 1)) 0)
-        → ((v : Summed M w i m ms b) → u ≡ stretches_written M ms (λ f z. line_silence M ms (lines_of v.plan f) z) (lines_of v.plan) i m m u₀)
+        counted q (λ m. Fitting w s m cs o t → Gives M w s m ms b → get_or ms (m - 1) 0 ≤ limit
+        → ((v : Summed M w s m ms b) → r ≡ line_silence M ms (lines_of v.plan (m - 1)) 0)
+        → ((v : Summed M w s m ms b) → u ≡ stretches_written M ms (λ f z. line_silence M ms (lines_of v.plan f) z) (lines_of v.plan) s m m u₀)
         → Derives p (Some (derived cs ms r m)) o t u)
         (λ x y k release stretches.
         let v = own q in
         let c = max_load_of (derived_numbers.summed q (measured q (x v)) (y v) (low q (x v)) k) in (
           rw same (derived_numbers.short q (measured q (x v)) (y v) (low q (x v)) k),
           numbers q (x v) (y v) k u₀ p same long wide (release c) (stretches c),
-        )) e x y k release stretches
+        )) x y k release stretches

@@ -4,7 +4,8 @@ use mathlib.Core.List.{List, []}
 use mathlib.Core.Logic.{◌↔◌}
 use mathlib.Core.Path.{◌≡◌, refl, ap, sym, ◌∙◌, subst}
 use Prim.Native.Nat.{ℕ, ◌-◌, ◌*◌, ◌≤◌}
-use lib.ListN.{length, take}
+use native.Mathlib.Omega.{arith}
+use lib.ListN.{length, take, length-take}
 use Rattle.std.specs.Prelude.{Ok, Err}
 use Rattle.model.specs.declared.Refusal.{Refusal}
 use Rattle.model.specs.declared.Refusal.TheVariants.{Unseen, Uncalled, Long}
@@ -13,7 +14,11 @@ use Rattle.model.specs.Acceptance.{sizes, SeenAll, Called}
 use Rattle.reader.specs.declared.Raw.{Raw}
 use Rattle.reader.specs.declared.RefusedAt.{RefusedAt}
 use Rattle.reader.specs.Outcome.{Outcome, plan, refused}
+use Rattle.rows.specs.declared.Leaf.{Leaf}
+use Rattle.rows.specs.Leaves.{numbers}
 use Rattle.rows.specs.Records.{row_of, bounds_of}
+use Rattle.rows.proofs.Leaves.{numbers_length, numbers_take}
+use Rattle.reader.proofs.Theorems.{row_length}
 use Rattle.reader.specs.Raw.{raw_of, raw_with, padded}
 use Rattle.reader.specs.Records.{heights_of}
 use Rattle.rows.specs.Plans.{PlanOf}
@@ -50,39 +55,43 @@ judged_accepted p s c e = rw ((seen_all_exactly [] p.functions).1 s, (called_exa
 -- THE PLAN THAT THE LINES GAVE
 
 -- The row and the bounds of the plan that the lines gave are those at hand.
-pub record Given (p : Plan) (raw : Raw) (row : List ℕ) : Type 0 where
-  pub read : PlanOf (take (raw.leaves * 8) row) raw.bounds raw.functions
+pub record Given (p : Plan) (raw : Raw) (row : List Leaf) : Type 0 where
+  pub read : PlanOf (numbers (take raw.leaves row)) raw.bounds raw.functions
   pub same : p.functions ≡ read.functions
   pub count : raw.leaves ≡ sizes p.functions
-  pub begins : take (raw.leaves * 8) row ≡ row_of p
-  pub few : sizes p.functions ≤ 512
+  pub held : raw.leaves ≤ length row
 
 -- The numbers of the plan.
 pub raw_numbers : (p : Plan) {raw : Raw} → Ok raw ≡ raw_of (plan p) →
     raw ≡ raw_with p.deadline p.switch (sizes p.functions) (length p.functions) (padded 17 (bounds_of p)) (padded 16 (heights_of p))
 raw_numbers p e = cc
 
-pub given : {p : Plan} {raw : Raw} {row : List ℕ} → RawOf p raw row → Given p raw row
+pub given : {p : Plan} {raw : Raw} {row : List Leaf} → RawOf p raw row → Given p raw row
 given {p} {raw} {row} c =
     let e = raw_numbers p c.raw_is in
     let n = ap (λ (r : Raw). r.leaves) e in
-    let w : take (raw.leaves * 8) row ≡ row_of p = ap (λ (k : ℕ). take (k * 8) row) n ∙ c.row_is in
+    let w : numbers (take raw.leaves row) ≡ row_of p = numbers_take raw.leaves row ∙ (ap (λ (k : ℕ). take (k * 8) (numbers row)) n ∙ c.row_is) in
     let q = formed_plan p c.formed in
-    let read : (q : PlanOf (take (raw.leaves * 8) row) raw.bounds raw.functions) × (q.functions ≡ p.functions) =
+    let read : (q : PlanOf (numbers (take raw.leaves row)) raw.bounds raw.functions) × (q.functions ≡ p.functions) =
     rw (w, ap (λ (r : Raw). r.bounds) e, ap (λ (r : Raw). r.functions) e) q in
-    record { read = read.0; same = sym read.1; count = n; begins = w; few = c.formed.few_leaves }
+    record {
+      read = read.0;
+      same = sym read.1;
+      count = n;
+      held = omega (arith, n, ap length c.row_is, row_length p, length-take (sizes p.functions * 8) (numbers row), numbers_length row);
+    }
 
 -- The rules that a structured row keeps are kept by the plan that was read.
-pub plan_seen : {p : Plan} {raw : Raw} {row : List ℕ} (g : Given p raw row) → SeenAll [] g.read.functions → SeenAll [] p.functions
+pub plan_seen : {p : Plan} {raw : Raw} {row : List Leaf} (g : Given p raw row) → SeenAll [] g.read.functions → SeenAll [] p.functions
 plan_seen g s = subst (λ (ls : List Lines). SeenAll [] ls) (sym g.same) s
 
-pub plan_called : {p : Plan} {raw : Raw} {row : List ℕ} (g : Given p raw row) → Called g.read.functions → Called p.functions
+pub plan_called : {p : Plan} {raw : Raw} {row : List Leaf} (g : Given p raw row) → Called g.read.functions → Called p.functions
 plan_called g s = subst (λ (ls : List Lines). Called ls) (sym g.same) s
 
-pub seen_plan : {p : Plan} {raw : Raw} {row : List ℕ} (g : Given p raw row) → SeenAll [] p.functions → SeenAll [] g.read.functions
+pub seen_plan : {p : Plan} {raw : Raw} {row : List Leaf} (g : Given p raw row) → SeenAll [] p.functions → SeenAll [] g.read.functions
 seen_plan g s = subst (λ (ls : List Lines). SeenAll [] ls) g.same s
 
-pub called_plan : {p : Plan} {raw : Raw} {row : List ℕ} (g : Given p raw row) → Called p.functions → Called g.read.functions
+pub called_plan : {p : Plan} {raw : Raw} {row : List Leaf} (g : Given p raw row) → Called p.functions → Called g.read.functions
 called_plan g s = subst (λ (ls : List Lines). Called ls) g.same s
 
 -- WHAT IS ANSWERED
@@ -107,7 +116,7 @@ head_given p raw d c n =
       (n.stretch, ap (λ (r : Raw). r.leaves) e, ap (λ (r : Raw). r.functions) e, ap (λ (r : Raw). r.bounds) e, n.totals),
     )
 
-pub accepts : {p : Plan} {raw : Raw} {row : List ℕ} (c : RawOf p raw row) (k : Head) {d : Derived} {t u v : List ℕ} → judged p ≡ plan p
+pub accepts : {p : Plan} {raw : Raw} {row : List Leaf} (c : RawOf p raw row) (k : Head) {d : Derived} {t u v : List ℕ} → judged p ≡ plan p
     → DerivedNumbers p d t u v → k ≡ headed raw d → Ok k ≡ result_of (judged p)
 accepts {p} {raw} c k {d} e n x = ap (λ (y : Head). Ok y) (x ∙ head_given p raw d c.raw_is n) ∙ ap (λ (y : Outcome). result_of y) (sym e)
 

@@ -1,4 +1,5 @@
 pub mod Accepting
 pub mod Table
 pub mod Reading
+pub mod Lent
 pub mod Private

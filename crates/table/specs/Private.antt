@@ -1,21 +1,23 @@
 -- What the private functions promise. Nothing of this stands in the contracts of `read`, `judge` and `check`.
 -- Assumes nothing: these are definitions.
-use Rattle.std.specs.Prelude.{true, false, List, ◌≡◌, ℕ, ◌*◌, ◌^◌, ◌≤◌, take, Option, Some, None}
+use Rattle.std.specs.Prelude.{true, false, List, ◌≡◌, ℕ, zero, suc, ◌^◌, ◌≤◌, get_or, set, take, Option, Some, None}
 use Rattle.model.specs.Plan.{Plan}
 use Rattle.model.specs.Acceptance.{sizes}
+use Rattle.rows.specs.declared.Leaf.{Leaf}
+use Rattle.rows.specs.Leaves.{lent_turns, lent_tails, lent_stretches, no_leaf}
 use Rattle.reader.specs.declared.Raw.{Raw}
 use Rattle.table.specs.declared.Head.{Head}
 use Rattle.table.specs.declared.Derived.{Derived}
 use Rattle.table.specs.Accepting.{short?}
 use Rattle.table.specs.Table.{table_of, head_of}
 
--- Deadline and switch cost are in range, and a lent row of so many numbers holds the leaves, 512 at most.
+-- Deadline and switch cost are in range, and a lent row of so many leaves holds those of the plan, 512 at most.
 pub record HeadRanged (room : ℕ) (h : Head) : Type 0 where
   pub deadline_low : 1 ≤ h.deadline
   pub deadline_high : h.deadline ≤ 2 ^ 40
   pub switch : h.switch ≤ 2 ^ 20
   pub few : h.leaves ≤ 512
-  pub held : h.leaves * 8 ≤ room
+  pub held : h.leaves ≤ room
 
 -- The derived numbers, columns included, are those of the plan's table.
 pub record DerivedNumbers (p : Plan) (d : Derived) (turns tails stretches : List ℕ) : Type 0 where
@@ -32,16 +34,40 @@ abbrev pub Derives : Plan → Option Derived → List ℕ → List ℕ → List 
 Derives p (Some d) turns tails stretches = (short? p ≡ true) × DerivedNumbers p d turns tails stretches
 Derives p None turns tails stretches = short? p ≡ false
 
--- A lent table has the derived numbers of the plan, which keeps rule 10.
-pub record Agrees (p : Plan) (turns tails stretches : List ℕ) (h : Head) : Type 0 where
+-- A row of leaves and a head have the derived numbers of the plan, which keeps rule 10.
+pub record Agrees (p : Plan) (ls : List Leaf) (h : Head) : Type 0 where
   pub fits : short? p ≡ true
   pub total : h.total ≡ (head_of p).total
   pub max_load_total : h.max_load_total ≡ (head_of p).max_load_total
   pub stretch : h.stretch ≡ (head_of p).stretch
   pub totals : h.totals ≡ (head_of p).totals
-  pub turns_are : take h.leaves turns ≡ (table_of p).turns
-  pub tails_are : take h.leaves tails ≡ (table_of p).tails
-  pub stretches_are : take h.leaves stretches ≡ (table_of p).stretches
+  pub turns_are : take h.leaves (lent_turns ls) ≡ (table_of p).turns
+  pub tails_are : take h.leaves (lent_tails ls) ≡ (table_of p).tails
+  pub stretches_are : take h.leaves (lent_stretches ls) ≡ (table_of p).stretches
+
+-- A leaf with these derived numbers in place of its own.
+abbrev pub with_derived : Leaf → ℕ → ℕ → ℕ → Leaf
+with_derived l turn tail stretch =
+    record {
+      kind = l.kind;
+      point = l.point;
+      isolated = l.isolated;
+      max_load = l.max_load;
+      detail = l.detail;
+      other = l.other;
+      after = l.after;
+      level = l.level;
+      turn = turn;
+      tail = tail;
+      stretch = stretch;
+    }
+
+-- The leaves once the first n have the derived numbers of these columns.
+abbrev pub filled : List ℕ → List ℕ → List ℕ → ℕ → List Leaf → List Leaf
+filled turns tails stretches zero ls = ls
+filled turns tails stretches (suc i) ls =
+    let us = filled turns tails stretches i ls in
+    set us i (with_derived (get_or us i no_leaf) (get_or turns i 0) (get_or tails i 0) (get_or stretches i 0))
 
 -- The head made of raw and derived numbers.
 abbrev pub headed : Raw → Derived → Head

@@ -5,16 +5,17 @@ use Rattle.model.specs.declared.Refusal.TheVariants.{Unseen, Uncalled, Long}
 use Rattle.model.specs.Plan.{Plan}
 use Rattle.model.specs.Acceptance.{sizes, Formed}
 use Rattle.model.specs.Places.{pick}
-use Rattle.std.proofs.lemmas.List.Edits.{sets}
 use Rattle.reader.specs.declared.RefusedAt.{RefusedAt}
 use Rattle.reader.specs.declared.Raw.{Raw}
 use Rattle.reader.specs.Machine.{outcome}
 use Rattle.reader.specs.Outcome.{Outcome, plan, refused}
 use Rattle.reader.specs.Raw.{raw_of}
+use Rattle.rows.specs.declared.Leaf.{Leaf}
+use Rattle.rows.specs.Leaves.{numbers}
 use Rattle.rows.specs.Records.{row_of}
 use Rattle.table.specs.declared.Head.{Head}
 use Rattle.table.specs.Accepting.{seen_all?, called_from?, short?}
-use Rattle.table.specs.Table.{Table, head_of, table_of}
+use Rattle.table.specs.Table.{head_of, table_of}
 
 -- Unseen (8), uncalled (9), long (10), in this order, of a plan whose lines were read.
 abbrev pub judged : Plan → Outcome
@@ -43,24 +44,13 @@ abbrev pub head_after : Outcome → Head → Head
 head_after (plan p) h = head_of p
 head_after (refused k j) h = h
 
--- One of the lent lists afterwards: its part of the plan's table stands at its beginning, and what is behind it is kept; a refusal keeps all of it.
-abbrev pub stored : Outcome → (Table → List ℕ) → List ℕ → List ℕ
-stored (plan p) part o = sets o 0 (part (table_of p))
-stored (refused k j) part o = o
-
 -- BEHIND THE LINES
 
--- Each column has 512 numbers.
-pub record Wide (turns tails stretches : List ℕ) : Type 0 where
-  pub turns_wide : length turns ≡ 512
-  pub tails_wide : length tails ≡ 512
-  pub stretches_wide : length stretches ≡ 512
-
 -- The lines of a text were read as the plan p: the raw numbers are its, it keeps rules 3 to 7 and 19, and it begins the row.
-pub record RawOf (p : Plan) (raw : Raw) (row : List ℕ) : Type 0 where
+pub record RawOf (p : Plan) (raw : Raw) (row : List Leaf) : Type 0 where
   pub raw_is : Ok raw ≡ raw_of (plan p)
   pub formed : Formed p
-  pub row_is : take (sizes p.functions * 8) row ≡ row_of p
+  pub row_is : take (sizes p.functions * 8) (numbers row) ≡ row_of p
 
 -- The columns of an accepted plan begin these lists.
 pub record ColumnsWritten (o : Outcome) (turns tails stretches : List ℕ) : Type 0 where

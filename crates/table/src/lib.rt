@@ -1,24 +1,25 @@
 // The table of a plan: made from a text, and checked.
 #![tactic(auto)]
 
-ghost use Rattle.std.specs.Prelude.{◌≡◌, ◌*◌, ◌≤◌, ◌<◌, length, take};
-ghost use Rattle.std.proofs.lemmas.List.Edits.{sets};
+ghost use Rattle.std.specs.Prelude.{◌≡◌, ◌≤◌, length, take};
 ghost use Rattle.model.specs.Plan.{Plan};
 ghost use Rattle.model.specs.Acceptance.{sizes};
 ghost use Rattle.rows.specs.Answers.{Says};
-ghost use Rattle.structure.specs.Plans.{Structured};
-ghost use Rattle.table.specs.Table.{zero_head, table_at, good};
-ghost use Rattle.table.specs.Reading.{judged, verdict, result_of, stored, Wide, RawOf, ColumnsWritten};
-ghost use Rattle.table.specs.Private.{HeadRanged, Derives, Agrees, headed};
+ghost use Rattle.rows.specs.Leaves.{lent_stretches};
+ghost use Rattle.structure.specs.Plans.{CodeStructured};
+ghost use Rattle.table.specs.Table.{zero_head, good};
+ghost use Rattle.table.specs.Lent.{table_with, row_after};
+ghost use Rattle.table.specs.Reading.{judged, verdict, result_of, RawOf, ColumnsWritten};
+ghost use Rattle.table.specs.Private.{HeadRanged, Derives, Agrees, headed, filled};
 
 use columns::{Cost, derive, measure, tails_agree};
 use model::Refusal;
 use reader::{Raw, RefusedAt, read_lines};
-use rows::{BOUNDS, LIMIT, MAX_FUNCTIONS, MAX_LEAVES, MAX_SWITCH, ROW, STRIDE};
+use rows::{BOUNDS, Code, LIMIT, Leaf, MAX_FUNCTIONS, MAX_LEAVES, MAX_SWITCH};
 use structure::{called, seen_all, structured};
 
-// What stands beside the row of leaf records: deadline and switch cost, the total and the max-load total, the stretch of the release, how many leaves
-// and functions there are, the functions' bounds, and their isolated totals.
+// What stands beside the row of leaf records, numbers alone, as the C interface takes it: deadline and switch cost, the total and the max-load total, the
+// stretch of the release, how many leaves and functions there are, the functions' bounds, and their isolated totals.
 #[repr(C)]
 #[derive(Clone, Copy)]
 pub struct Head {
@@ -33,7 +34,23 @@ pub struct Head {
     pub totals: [u64; MAX_FUNCTIONS],
 }
 
-// A head of zeros.
+impl Head {
+    // The code of the table that this row and this head hold: the first leaves of the row, as many as the head says.
+    pub fn code<'a>(&'a self, row: &'a [Leaf]) -> Code<'a>
+        requires { self.now.leaves ≤ length row.now }
+        ensures row { result.row.now ≡ take self.now.leaves row.now }
+        ensures bounds { result.bounds.now ≡ self.now.bounds }
+        ensures functions { result.functions ≡ self.now.functions }
+    {
+        Code {
+            row: &row[..self.leaves],
+            bounds: &self.bounds,
+            functions: self.functions,
+        }
+    }
+}
+
+// A head of zeros. By hand (deriving it was tried): a derived `default` promises a zero in each field, one by one, and not this head.
 impl Default for Head {
     fn default() -> Head
         ensures { result ≡ zero_head }
@@ -52,6 +69,31 @@ impl Default for Head {
     }
 }
 
+// The derived numbers of each leaf: its turn, its tail and its stretch. They are arrays beside the row, since a walk lends the row while it writes them.
+#[derive(Clone, Copy, Default)]
+pub struct Columns {
+    pub turns: [u64; MAX_LEAVES],
+    pub tails: [u64; MAX_LEAVES],
+    pub stretches: [u64; MAX_LEAVES],
+}
+
+impl Columns {
+    // Writes the derived numbers of these columns into the leaves.
+    fn fill(&self, row: &mut [Leaf])
+        requires { length row.old ≤ 512 }
+        ensures { row.new ≡ filled self.now.turns self.now.tails self.now.stretches (length row.old) row.old }
+    {
+        for i in 0..row.len() {
+            row[i] = Leaf {
+                turn: self.turns[i],
+                tail: self.tails[i],
+                stretch: self.stretches[i],
+                ..row[i]
+            };
+        }
+    }
+}
+
 // The derived numbers beside the columns: both totals, the stretch of the release, and the functions' isolated totals.
 #[derive(Clone, Copy)]
 struct Derived {
@@ -61,40 +103,27 @@ struct Derived {
     totals: [u64; MAX_FUNCTIONS],
 }
 
-// The bounds as indexes.
-fn indexes(bounds: [u64; BOUNDS]) -> [usize; BOUNDS]
-    ensures { result ≡ bounds }
+// The derived numbers of a code that keeps rules 3 to 9 and 19, or none where it breaks rule 10; the columns are written.
+fn derive_all(code: &Code, columns: &mut Columns) -> Option<Derived>
+    requires structured { CodeStructured code.now }
+    requires all_bounds { length code.now.bounds.now ≡ 17 }
+    ensures { (p : Plan) (q : CodeStructured code.now) → p.functions ≡ q.plan.functions
+        → Derives p result columns.new.turns columns.new.tails columns.new.stretches }
 {
-    bounds.map(|bound| bound as usize)
-}
-
-// The derived numbers of a row that keeps rules 3 to 9 and 19, or none where it breaks rule 10; the columns are written.
-fn derive_all(
-    row: &[u64],
-    bounds: [u64; BOUNDS],
-    n: usize,
-    turns: &mut [u64; MAX_LEAVES],
-    tails: &mut [u64; MAX_LEAVES],
-    stretches: &mut [u64; MAX_LEAVES],
-) -> Option<Derived>
-    requires structured { Structured row.now bounds n }
-    requires wide { Wide turns.old tails.old stretches.old }
-    ensures derives { (p : Plan) (q : Structured row.now bounds n) → p.functions ≡ q.plan.functions
-        → Derives p result turns.new tails.new stretches.new }
-    ensures wide_2 { Wide turns.new tails.new stretches.new }
-{
-    let starts = indexes(bounds);
     let mut rounds: [u64; MAX_LEAVES] = [0; MAX_LEAVES];
-    let totals = measure(row, &starts, n, Cost::Isolated, turns);
-    let loads = measure(row, &starts, n, Cost::MaxLoad, &mut rounds);
-    let total = totals[n - 1];
-    let max_load_total = loads[n - 1];
+    let totals = measure(code, Cost::Isolated, &mut columns.turns);
+    let loads = measure(code, Cost::MaxLoad, &mut rounds);
+    let total = totals[code.functions - 1];
+    let max_load_total = loads[code.functions - 1];
     if LIMIT < total || LIMIT < max_load_total {
         return None;
     }
-    let stretch = derive(
-        row, &starts, n, &totals, turns, &loads, &rounds, tails, stretches,
-    );
+    let Columns {
+        turns,
+        tails,
+        stretches,
+    } = columns;
+    let stretch = derive(code, &totals, turns, &loads, &rounds, tails, stretches);
     Some(Derived {
         total,
         max_load_total,
@@ -103,78 +132,74 @@ fn derive_all(
     })
 }
 
-// Whether the first n numbers of both are the same.
-fn same(lent: &[u64], derived: &[u64], n: usize) -> bool
-    requires { n ≤ length derived.now }
-    ensures { Says result (take n lent.now ≡ take n derived.now) }
+// Whether the first n leaves have these stretches.
+fn same(row: &[Leaf], derived: &[u64; MAX_LEAVES], n: usize) -> bool
+    requires { (n ≤ length row.now) × (n ≤ 512) }
+    ensures { Says result (take n (lent_stretches row.now) ≡ take n derived.now) }
 {
-    n <= lent.len() && lent[..n] == derived[..n]
+    row[..n]
+        .iter()
+        .zip(&derived[..n])
+        .all(|(leaf, number)| leaf.stretch == *number)
 }
 
-// Whether both totals and the stretch of the release stand in the head.
-fn stands(head: Head, total: u64, max_load_total: u64, stretch: u64) -> bool
-    ensures { Says result ((head.total ≡ total) × (head.max_load_total ≡ max_load_total) × (head.stretch ≡ stretch)) }
+// Whether both totals and the stretch of the release stand in the head. Three comparisons: to compare whole records, two would be made for this alone.
+fn stands(head: &Head, total: u64, max_load_total: u64, stretch: u64) -> bool
+    ensures { Says result ((head.now.total ≡ total) × (head.now.max_load_total ≡ max_load_total) × (head.now.stretch ≡ stretch)) }
 {
     head.total == total && head.max_load_total == max_load_total && head.stretch == stretch
 }
 
-// Whether deadline and switch cost are in range, and a lent row of so many numbers holds the leaves.
-fn ranged(head: Head, room: usize) -> bool
-    ensures { Says result (HeadRanged room head) }
+// Whether deadline and switch cost are in range, and a lent row of so many leaves holds those of the plan.
+fn ranged(head: &Head, room: usize) -> bool
+    ensures { Says result (HeadRanged room head.now) }
 {
     1 <= head.deadline
         && head.deadline <= LIMIT
         && head.switch <= MAX_SWITCH
         && head.leaves <= MAX_LEAVES
-        && head.leaves * STRIDE <= room
+        && head.leaves <= room
 }
 
-// Whether the lent columns and the head have the derived numbers of a row that keeps rules 3 to 9 and 19. Turns, tails and isolated totals are checked where
-// they stand; what max-load costs come to is derived anew.
-fn agrees(row: &[u64], turns: &[u64], tails: &[u64], stretches: &[u64], head: Head) -> bool
-    requires { Structured row.now head.bounds head.functions × (head.leaves ≤ 512) }
-    ensures { (p : Plan) (q : Structured row.now head.bounds head.functions) → p.functions ≡ q.plan.functions
-        → sizes p.functions ≡ head.leaves → Says result (Agrees p turns.now tails.now stretches.now head) }
+// Whether leaves and head have the derived numbers of a code that keeps rules 3 to 9 and 19. Turns, tails and isolated totals are checked where they
+// stand; what max-load costs come to is derived anew.
+fn agrees(code: &Code, head: &Head) -> bool
+    requires structured { CodeStructured code.now }
+    requires all_bounds { length code.now.bounds.now ≡ 17 }
+    requires all_leaves { (head.now.leaves ≡ length code.now.row.now) × (head.now.leaves ≤ 512) }
+    ensures { (p : Plan) (q : CodeStructured code.now) → p.functions ≡ q.plan.functions
+        → sizes p.functions ≡ head.now.leaves → Says result (Agrees p code.now.row.now head.now) }
 {
-    let n = head.functions;
-    let starts = indexes(head.bounds);
-    if !tails_agree(row, &starts, n, &head.totals, turns, tails) {
+    if !tails_agree(code, &head.totals) {
         return false;
     }
     let mut rounds: [u64; MAX_LEAVES] = [0; MAX_LEAVES];
-    let loads = measure(row, &starts, n, Cost::MaxLoad, &mut rounds);
-    let max_load_total = loads[n - 1];
+    let loads = measure(code, Cost::MaxLoad, &mut rounds);
+    let max_load_total = loads[code.functions - 1];
     if LIMIT < max_load_total {
         return false;
     }
     let mut derived: [u64; MAX_LEAVES] = [0; MAX_LEAVES];
-    let stretch = columns::stretches(
-        row,
-        &starts,
-        n,
-        Cost::MaxLoad,
-        &loads,
-        &rounds,
-        &mut derived,
-    );
-    stands(head, head.totals[n - 1], max_load_total, stretch)
-        && same(stretches, &derived, head.leaves)
+    let stretch = columns::stretches(code, Cost::MaxLoad, &loads, &rounds, &mut derived);
+    stands(
+        head,
+        head.totals[code.functions - 1],
+        max_load_total,
+        stretch,
+    ) && same(code.row, &derived, head.leaves)
 }
 
-// Whether the first records of these lists, as many as the head says, are with the head the table of an accepted plan.
-pub fn check(row: &[u64], turns: &[u64], tails: &[u64], stretches: &[u64], head: Head) -> bool
-    ensures { result ≡ good (table_at row.now turns.now tails.now stretches.now head) }
+// Whether the first leaves of the row, as many as the head says, are with the head the table of an accepted plan.
+pub fn check(row: &[Leaf], head: &Head) -> bool
+    ensures { result ≡ good (table_with row.now head.now) }
 {
     if !ranged(head, row.len()) {
         return false;
     }
-    let own = &row[..head.leaves * STRIDE];
-    let n = head.functions;
-    let mut heights: [u64; MAX_FUNCTIONS] = [0; MAX_FUNCTIONS];
-    if !structured(own, &head.bounds, n, &mut heights) {
-        return false;
-    }
-    head.bounds[n] as usize == head.leaves && agrees(own, turns, tails, stretches, head)
+    let code = head.code(row);
+    structured(&code).is_some()
+        && head.bounds[head.functions] as usize == head.leaves
+        && agrees(&code, head)
 }
 
 // A refusal of the plan as a whole, at line 0.
@@ -185,11 +210,9 @@ fn refused(refusal: Refusal) -> RefusedAt
 }
 
 // The head of an accepted plan, from what was read and what was derived.
-fn head_from(raw: Raw, d: Derived) -> Head
-    ensures { result ≡ headed raw d }
+fn head_from(raw: &Raw, d: &Derived) -> Head
+    ensures { result ≡ headed raw.now d.now }
 {
-    let bounds = raw.bounds;
-    let totals = d.totals;
     Head {
         deadline: raw.deadline,
         switch: raw.switch,
@@ -198,67 +221,48 @@ fn head_from(raw: Raw, d: Derived) -> Head
         stretch: d.stretch,
         leaves: raw.leaves,
         functions: raw.functions,
-        bounds,
-        totals,
+        bounds: raw.bounds,
+        totals: d.totals,
     }
 }
 
-// What to say of a plan whose lines gave these raw numbers and this row: rules 8 to 10. The columns are written; of a refused plan they hold nothing.
-pub fn judge(
-    raw: Raw,
-    row: &[u64],
-    turns: &mut [u64; MAX_LEAVES],
-    tails: &mut [u64; MAX_LEAVES],
-    stretches: &mut [u64; MAX_LEAVES],
-) -> Result<Head, RefusedAt>
-    requires { ((p : Plan) × RawOf p raw row.now) × Wide turns.old tails.old stretches.old }
-    ensures value { (p : Plan) → RawOf p raw row.now → result ≡ result_of (judged p) }
-    ensures columns_written { (p : Plan) → RawOf p raw row.now
-        → ColumnsWritten (judged p) turns.new tails.new stretches.new }
-    ensures wide { Wide turns.new tails.new stretches.new }
+// What to say of a plan whose lines gave these raw numbers and this row: rules 8 to 10. The columns are written; of a refused plan nothing is said of
+// them. (A text that the lines refuse has no raw numbers: `read_lines` gives its refusal, and `?` hands it on.)
+pub fn judge(raw: &Raw, row: &[Leaf], columns: &mut Columns) -> Result<Head, RefusedAt>
+    requires { (p : Plan) × RawOf p raw.now row.now }
+    ensures value { (p : Plan) → RawOf p raw.now row.now → result ≡ result_of (judged p) }
+    ensures columns_written { (p : Plan) → RawOf p raw.now row.now
+        → ColumnsWritten (judged p) columns.new.turns columns.new.tails columns.new.stretches }
 {
-    let n = raw.functions;
-    let bounds = raw.bounds;
-    let own = &row[..raw.leaves * STRIDE];
-    if !seen_all(own, &bounds, n) {
+    let code = Code {
+        row: &row[..raw.leaves],
+        bounds: &raw.bounds,
+        functions: raw.functions,
+    };
+    if !seen_all(&code) {
         return Err(refused(Refusal::Unseen));
     }
-    if !called(own, &bounds, n) {
+    if !called(&code) {
         return Err(refused(Refusal::Uncalled));
     }
-    match derive_all(own, bounds, n, turns, tails, stretches) {
-        Some(derived) => Ok(head_from(raw, derived)),
-        None => Err(refused(Refusal::Long)),
-    }
+    let derived = derive_all(&code, columns).ok_or(refused(Refusal::Long))?;
+    Ok(head_from(raw, &derived))
 }
 
-// Reads a plan: its table goes to the beginning of the lent lists, as many records as it has leaves and as the caller lends (`capacity`, of which 512
-// are used), and its head is given; or it is refused, at a line, and everything is as it was.
-pub fn read(
-    text: &[u8],
-    capacity: usize,
-    row: &mut [u64; ROW],
-    turns: &mut [u64; MAX_LEAVES],
-    tails: &mut [u64; MAX_LEAVES],
-    stretches: &mut [u64; MAX_LEAVES],
-) -> Result<Head, RefusedAt>
-    ensures answers { result ≡ result_of (verdict capacity text.now) }
-    ensures row { row.new ≡ stored (verdict capacity text.now) (λ t. t.row) row.old }
-    ensures turns { turns.new ≡ stored (verdict capacity text.now) (λ t. t.turns) turns.old }
-    ensures tails { tails.new ≡ stored (verdict capacity text.now) (λ t. t.tails) tails.old }
-    ensures stretches { stretches.new ≡ stored (verdict capacity text.now) (λ t. t.stretches) stretches.old }
+// Reads a plan: its leaves go to the beginning of the lent row, of which at most 512 are used, and its head is given; records past its last leaf keep their
+// values. Or it is refused, at a line, and the row is as it was.
+pub fn read(text: &[u8], row: &mut [Leaf]) -> Result<Head, RefusedAt>
+    ensures answers { result ≡ result_of (verdict (length row.old) text.now) }
+    ensures row { row.new ≡ row_after (verdict (length row.old) text.now) row.old }
 {
-    let mut w: [u64; ROW] = [0; ROW];
-    let mut t: [u64; MAX_LEAVES] = [0; MAX_LEAVES];
-    let mut u: [u64; MAX_LEAVES] = [0; MAX_LEAVES];
-    let mut v: [u64; MAX_LEAVES] = [0; MAX_LEAVES];
-    let raw = read_lines(text, capacity, &mut w)?;
+    let mut own = [Leaf::default(); MAX_LEAVES];
+    let mut columns = Columns::default();
+    let room = MAX_LEAVES.min(row.len());
+    let raw = read_lines(text, &mut own[..room])?;
     let n = raw.leaves;
-    let end = n * STRIDE;
-    let head = judge(raw, &w[..end], &mut t, &mut u, &mut v)?;
-    row[..end].copy_from_slice(&w[..end]);
-    turns[..n].copy_from_slice(&t[..n]);
-    tails[..n].copy_from_slice(&u[..n]);
-    stretches[..n].copy_from_slice(&v[..n]);
+    let head = judge(&raw, &own, &mut columns)?;
+    let leaves = &mut own[..n];
+    columns.fill(leaves);
+    row[..n].copy_from_slice(leaves);
     Ok(head)
 }

@@ -8,7 +8,7 @@ use mathlib.Core.Bool.{Bool, true, false, ◌||◌, cond as pick}
 use native.Mathlib.Omega.{arith}
 use native.Mathlib.Numerals.{add-one}
 use lib.ListN.{length, get_or, set, drop, drop_of_length-le, length-append, length-map, length-set}
-use lib.Seq.{drop-cons, sets, length-sets, get_or-set_same, get_or-set_other}
+use lib.Seq.{drop-cons, sets, get_or-set_same, get_or-set_other}
 use lib.Dec.{eqb, ltb}
 use borrow.Author.Tests.{eq-eqb, ne_eqb, eqb-true}
 use Rattle.text.specs.Text.{line_of, line_at, line_end}
@@ -120,12 +120,6 @@ pub record Reading (limit : ℕ) (s : List ℕ) (at v i : ℕ) : Type 0 where
 pub stop_at : {limit : ℕ} {s : List ℕ} {at v i : ℕ} (r : Reading limit s at v i) → digits v (line_at s i) ≡ some v (line_at s i)
     → NumberAt limit s at (Some (Some v, i))
 stop_at r e = (r.reads ∙ e, r.small, r.on)
-
--- One more digit, with which the number stays below the limit.
-pub one_digit : {limit : ℕ} {s : List ℕ} {at v i : ℕ} → Reading limit s at v i → i < length s → 48 ≤ get_or s i 0 → get_or s i 0 ≤ 57
-    → v * 10 + (get_or s i 0 - 48) ≤ limit → Reading limit s at (v * 10 + (get_or s i 0 - 48)) (i + 1)
-one_digit {limit} {s} {at} {v} {i} r h l u e =
-    record { on = on_on r.on (one_on s i h (λ z. omega arith)); small = e; reads = r.reads ∙ digits_step s i h v l u }
 
 -- A value over the limit stays over it, whatever digits follow.
 pub over_at : {limit : ℕ} {s : List ℕ} {at w i e : ℕ} → Onward s at i → number (line_at s at) ≡ digits w (line_at s i) → limit < w → DigitsTo s i e
@@ -378,10 +372,6 @@ module _ {limit : ℕ} {s : List ℕ} {at : ℕ} {p row : List ℕ} {f : Shown} 
         stored = m.stored;
         after = sym (m.same ∙ end_feed s i l e);
       }
-
-  -- The lent row keeps its length.
-  pub row_long : length row' ≡ length row
-  row_long = ap length m.stored ∙ length-sets row 0 (map (capped limit) m.taken)
 
 -- STORED NUMBERS
 

@@ -1,5 +1,5 @@
-// Lines and patterns: whether the line at a place of a text fits a pattern, with its kind and its numbers; and the lines of a plan text, by a table of
-// patterns (document 01, 'A plan, one form a line').
+// Lines and patterns: whether the line at a place of a text fits a pattern, with its kind and its numbers; and the lines of a plan text, each by its
+// pattern (document 01, 'A plan, one form a line').
 #![tactic(auto)]
 
 ghost use Rattle.std.specs.Prelude.{◌≡◌, true, false, ◌+◌, ◌*◌, ◌<◌, ◌≤◌, length, set, ltb};
@@ -21,7 +21,8 @@ pub enum Form {
     If(bool, u64, u64),
 }
 
-// What a line shows beside the numbers themselves: its kind; whether one of the numbers is over the limit; and how many there are.
+// What a line shows beside the numbers themselves: its kind; whether one of the numbers is over the limit; and how many there are. (A
+// number: a slice of the row would keep it lent.)
 #[derive(Clone, Copy, Debug, PartialEq, Eq)]
 pub struct Shown {
     pub kind: bool,
@@ -120,7 +121,7 @@ fn number(text: &[u8], at: usize, limit: u64) -> Option<(Option<u64>, usize)>
 }
 
 // Stores a number at a place of the lent row, if the row has that place.
-// By index: of what is written through `get_mut` a contract does not tell (c).
+// By index: of what is written through `get_mut` a contract does not tell (tried).
 fn store(row: &mut [u64], n: usize, v: u64)
     ensures { row.new ≡ set row.old n v }
 {

@@ -17,6 +17,8 @@ use Rattle.model.specs.Calls.{Reply}
 use Rattle.model.specs.Histories.{Exchange, ◌gets◌}
 use Rattle.table.specs.Table.{Table}
 use Rattle.control.specs.declared.State.{State}
+use Rattle.control.specs.declared.State.TheVariants.{Idle, Open}
+use Rattle.control.specs.declared.OpenRelease.{OpenRelease}
 use Rattle.print.specs.Lines.{answer_line}
 use Rattle.std.specs.Prelude.{Option, Some, None}
 use Rattle.flight_log.specs.Log.{entry_of, call_text, Small}
@@ -66,9 +68,9 @@ gap_counted xs x y =
 
 -- COUNTING
 
--- The accepted calls of an open release, where n ticks were counted as shared: the last of them tells the state's reading and what the others do, and both
--- sums together are the reading.
-pub record Counted (s : State) (xs : List Exchange) (n : ℕ) : Type 0 where
+-- The accepted calls of an open release, where n ticks were counted as shared: the last of them tells its reading and what the others do, and both sums
+-- together are the reading.
+pub record Counted (s : OpenRelease) (xs : List Exchange) (n : ℕ) : Type 0 where
   pub last : Exchange
   pub is_last : LastOf xs last
   pub reading_is : s.reading ≡ reading_of last.call
@@ -78,10 +80,11 @@ pub record Counted (s : State) (xs : List Exchange) (n : ℕ) : Type 0 where
 
 -- Where a release is open its calls were counted.
 abbrev pub CountedOpen : State → List Exchange → ℕ → Type 0
-CountedOpen s xs n = s.running ≡ true → Counted s xs n
+CountedOpen Idle xs n = Unit
+CountedOpen (Open s) xs n = Counted s xs n
 
 -- One gap more.
-module _ {s : State} {xs : List Exchange} {n : ℕ} (k : Counted s xs n) (y : Exchange) (onward : s.reading ≤ reading_of y.call) where
+module _ {s : OpenRelease} {xs : List Exchange} {n : ℕ} (k : Counted s xs n) (y : Exchange) (onward : s.reading ≤ reading_of y.call) where
   abbrev now_read : ℕ
   now_read = reading_of y.call
 
@@ -112,14 +115,14 @@ module _ {s : State} {xs : List Exchange} {n : ℕ} (k : Counted s xs n) (y : Ex
 -- ONE LINE MORE
 
 -- What is printed of a call, and what is counted then, by what it does to the state.
-counted_step : {s : State} {xs : List Exchange} {n : ℕ} {c : Call} {r : Reply State} → Effect s c r → CountedOpen s xs n →
+counted_step : {s : State} {c : Call} {r : Reply State} → Effect s c r → (xs : List Exchange) (n : ℕ) → CountedOpen s xs n →
     (answer_line r.answer ++ ticks_after r.answer (reading_of c) (shared_after s c r.answer n)
     ≡ answer_line r.answer ++ after_end r.answer (after_call xs c r.answer))
     × CountedOpen r.state (after_call xs c r.answer) (shared_after s c r.answer n)
-counted_step (kept c k h) counts = (refl, counts)
-counted_step (opens w r m l x z o) counts = (
+counted_step (kept s c k h) xs n counts = (refl, counts)
+counted_step (opens s w r m l x z o) xs n counts = (
   refl,
-  λ q. record {
+  record {
     last = Release gets Decided w r m l;
     is_last = only;
     reading_is = z;
@@ -128,30 +131,27 @@ counted_step (opens w r m l x z o) counts = (
     sum_is = unfold shared suspended in sym z;
   },
 )
-counted_step {xs} (goes i e w r m l x open_is onward z o) counts =
-    let k = counts open_is in
+counted_step (goes s i e w r m l x onward z o) xs n counts =
     let y : Exchange = Report i e gets Decided w r m l in (
       refl,
-      λ q. record {
+      record {
         last = y;
         is_last = last_more xs y;
         reading_is = z;
         others_are = o;
-        shared_is = gap_shared k y onward;
-        sum_is = gap_sum k y onward ∙ sym z;
+        shared_is = gap_shared counts y onward;
+        sum_is = gap_sum counts y onward ∙ sym z;
       },
     )
-counted_step (ends e w l open_is onward) counts =
-    let k = counts open_is in
-    let y : Exchange = End e gets Closed w l in
-    (ap (λ (t : List ℕ). answer_line (Closed w l) ++ t) (gap_ticks k y onward), λ q. let z : ◌≡◌ {A = ℕ} 0 1 = cc in absurd (omega arith))
+counted_step (ends s e w l onward) xs n counts =
+    (ap (λ (t : List ℕ). answer_line (Closed w l) ++ t) (gap_ticks counts (End e gets Closed w l) onward), tt)
 
 -- The same of any line of a log.
 pub counted_line : (t : Table) (s : State) (xs : List Exchange) (n : ℕ) (e : Option Call) → CountedOpen s xs n →
     (entry_told t s n e ≡ line_told t (record { state = s; accepted = xs }) e)
     × CountedOpen (next_progress t (record { state = s; accepted = xs }) e).state (next_progress t (record { state = s; accepted = xs }) e).accepted
     (entry_shared t s n e)
-counted_line t s xs n (Some c) counts = counted_step (effect t s c) counts
+counted_line t s xs n (Some c) counts = counted_step (effect t s c) xs n counts
 counted_line t s xs n None counts = (refl, counts)
 
 -- LINES OF A LOG
@@ -162,10 +162,10 @@ progress s xs = record { state = s; accepted = xs }
 
 kept_progress : {s : State} {c : Call} {r : Reply State} → Effect s c r → (xs : List Exchange) (k : Refusal) → r.answer ≡ Refused k →
     progress r.state (after_call xs c r.answer) ≡ progress s xs
-kept_progress (kept c n h) xs k q = refl
-kept_progress (opens w r m l x z o) xs k q = let z : ◌≡◌ {A = ℕ} 0 1 = cc in absurd (omega arith)
-kept_progress (goes i n w r m l x q h z o) xs k v = let z : ◌≡◌ {A = ℕ} 0 1 = cc in absurd (omega arith)
-kept_progress (ends n w l q h) xs k v = let z : ◌≡◌ {A = ℕ} 0 1 = cc in absurd (omega arith)
+kept_progress (kept s c n h) xs k q = refl
+kept_progress (opens s w r m l x z o) xs k q = let z : ◌≡◌ {A = ℕ} 0 1 = cc in absurd (omega arith)
+kept_progress (goes s i n w r m l x h z o) xs k v = let z : ◌≡◌ {A = ℕ} 0 1 = cc in absurd (omega arith)
+kept_progress (ends s n w l h) xs k v = let z : ◌≡◌ {A = ℕ} 0 1 = cc in absurd (omega arith)
 
 pub refused_moves_nothing : (t : Table) (x : Progress) (e : Option Call) (k : Refusal) → (reply_to t x.state e).answer ≡ Refused k → next_progress t x e ≡ x
 refused_moves_nothing t x (Some c) k q = kept_progress (effect t x.state c) x.accepted k q
@@ -173,10 +173,10 @@ refused_moves_nothing t x None k q = refl
 
 -- A call is never refused by 18.
 below_garbled : {s : State} {c : Call} {r : Reply State} → Effect s c r → r.answer ≡ Refused Garbled → ⊥
-below_garbled (kept c k h) e = let z : number_of k ≡ 18 = ap number_of {y = Garbled} cc in omega arith
-below_garbled (opens w r m l x z o) e = let z : ◌≡◌ {A = ℕ} 0 1 = cc in omega arith
-below_garbled (goes i n w r m l x q h z o) e = let z : ◌≡◌ {A = ℕ} 0 1 = cc in omega arith
-below_garbled (ends n w l q h) e = let z : ◌≡◌ {A = ℕ} 0 1 = cc in omega arith
+below_garbled (kept s c k h) e = let z : number_of k ≡ 18 = ap number_of {y = Garbled} cc in omega arith
+below_garbled (opens s w r m l x z o) e = let z : ◌≡◌ {A = ℕ} 0 1 = cc in omega arith
+below_garbled (goes s i n w r m l x h z o) e = let z : ◌≡◌ {A = ℕ} 0 1 = cc in omega arith
+below_garbled (ends s n w l h) e = let z : ◌≡◌ {A = ℕ} 0 1 = cc in omega arith
 
 garbled_other : (t : Table) (s : State) (e : Option Call) → ((reply_to t s e).answer ≡ Refused Garbled) ↔ (e ≡ None)
 garbled_other t s (Some c) = (λ h. absurd (below_garbled (effect t s c) h), λ h. let z : ◌≡◌ {A = ℕ} 0 1 = cc in absurd (omega arith))
@@ -196,13 +196,10 @@ counted_after t [] x n k = (n, k)
 counted_after t (e ∷ es) x n k = counted_after t es (next_progress t x e) (entry_shared t x.state n e) (counted_line t x.state x.accepted n e k).1
 
 -- At an accepted end both sums together are its reading.
-end_sum : {s : State} {xs : List Exchange} {n e : ℕ} {r : Reply State} → Effect s (End e) r → CountedOpen s xs n → {w : Ending} {late : Bool} →
+end_sum : {s : State} {e : ℕ} {r : Reply State} → Effect s (End e) r → (xs : List Exchange) (n : ℕ) → CountedOpen s xs n → {w : Ending} {late : Bool} →
     r.answer ≡ Closed w late → shared (after_call xs (End e) r.answer) + suspended (after_call xs (End e) r.answer) ≡ e
-end_sum (kept c k h) counts q = let z : ◌≡◌ {A = ℕ} 0 1 = cc in absurd (omega arith)
-end_sum (ends e w l open_is onward) counts q = gap_sum (counts open_is) (End e gets Closed w l) onward
-
-pub idle_counted : CountedOpen at_first.state at_first.accepted 0
-idle_counted q = let z : ◌≡◌ {A = ℕ} 0 1 = cc in absurd (omega arith)
+end_sum (kept s c k h) xs n counts q = let z : ◌≡◌ {A = ℕ} 0 1 = cc in absurd (omega arith)
+end_sum (ends s e w l onward) xs n counts q = gap_sum counts (End e gets Closed w l) onward
 
 pub sum_is_end_reading : (t : Table) (es : List (Option Call)) (e : ℕ) (w : Ending) (late : Bool) →
     let x = progress_after t at_first es in
@@ -210,5 +207,5 @@ pub sum_is_end_reading : (t : Table) (es : List (Option Call)) (e : ℕ) (w : En
     (reply_to t x.state (Some (End e))).answer ≡ Closed w late → shared xs + suspended xs ≡ e
 sum_is_end_reading t es e w late q =
     let x = progress_after t at_first es in
-    let (n, k) = counted_after t es at_first 0 idle_counted in
-    end_sum (effect t x.state (End e)) k q
+    let (n, k) = counted_after t es at_first 0 tt in
+    end_sum (effect t x.state (End e)) x.accepted n k q

@@ -1,5 +1,5 @@
 -- A piece of a log, byte by byte: what is printed so far, and what is carried on. Assumes nothing.
-use Prim.Native.Nat.{ℕ, zero, suc, ◌+◌, ◌*◌, ◌≤◌, ◌<◌, min}
+use Prim.Native.Nat.{ℕ, ◌+◌, ◌*◌, ◌≤◌, ◌<◌, min}
 use mathlib.Core.Bool.{Bool, true, false}
 use mathlib.Core.Path.{◌≡◌, refl, sym, ap, ◌∙◌, subst}
 use mathlib.Core.List.{List, [], ◌∷◌, ◌++◌, append_assoc, append-nil}
@@ -10,19 +10,15 @@ use borrow.Author.Tests.{leb-true, leb-false}
 use lib.ListN.{length, take, get_or, length-take}
 use lib.Seq.{sets, take_all, take-suc}
 use Rattle.text.specs.Text.{line_of}
-use Rattle.model.specs.declared.Refusal.TheVariants.{Garbled}
-use Rattle.model.specs.declared.Answer.TheVariants.{Refused}
 use Rattle.table.specs.Table.{Table}
-use Rattle.print.specs.Lines.{answer_line}
 use Rattle.print.specs.Printed.{PrintedWithin}
 use Rattle.print.proofs.Laws.{joined, wider}
 use Rattle.model.specs.declared.Call.{Call}
 use Rattle.std.specs.Prelude.{Option}
 use Rattle.flight_log.specs.Log.{entry_of}
 use Rattle.transcript.specs.declared.Told.{Told}
-use Rattle.transcript.specs.declared.Replay.{Replay}
-use Rattle.transcript.specs.Pieces.{Carried, carried_of, held_with, entry_told, byte_told, byte_after, piece_told, piece_after, cut_told}
-use Rattle.transcript.specs.Pieces.{FedPiece, ClosedLog}
+use Rattle.transcript.specs.Pieces.{Carried, held_with, entry_told, byte_told, byte_after, piece_told, piece_after}
+use Rattle.transcript.specs.Pieces.{FedPiece}
 use Rattle.transcript.specs.Private.{HeldLine, Tells, fed_of}
 
 -- PIECES IN A ROW
@@ -142,28 +138,4 @@ fed_all {t} {c} {piece} {i = i} {m = m} f k all =
       told = rw used at (wider {more = 524288} (omega arith) f.printed);
       fits = omega (arith, f.printed.printed.after, f.printed.short);
       carried = f.carried ∙ ap (piece_after t c) used;
-    }
-
--- THE END
-
--- A line that was begun is refused.
-pub closed_cut : (replay : Replay) {old new : List ℕ} {n : ℕ} → 1 ≤ length replay.line → 1 ≤ replay.held →
-    PrintedWithin 53 old 0 (answer_line (Refused Garbled)) new n → ClosedLog old (carried_of replay) new n
-closed_cut replay long begun p = record {
-  told = rw (cut_is replay.line replay.held long begun) (wider (omega arith) p);
-  fits = omega (arith, p.printed.after, p.short);
-}
-  where
-    cut_is : (l : List ℕ) (held : ℕ) → 1 ≤ length l → 1 ≤ held → cut_told (take held l) ≡ answer_line (Refused Garbled)
-    cut_is [] held a h = absurd (omega arith)
-    cut_is (b ∷ l) zero a h = absurd (omega arith)
-    cut_is (b ∷ l) (suc held) a h = refl
-
--- Where none was begun there is nothing to say.
-pub closed_whole : (replay : Replay) (old : List ℕ) → replay.held ≡ 0 → ClosedLog old (carried_of replay) old 0
-closed_whole replay old e =
-    let none : take replay.held replay.line ≡ [] = ap (λ n. take n replay.line) e in
-    record {
-      told = rw none (record { printed = record { stored = refl; after = omega arith }; short = omega arith });
-      fits = omega arith;
     }

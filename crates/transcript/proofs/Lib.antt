@@ -1,5 +1,3 @@
-pub mod Holding
-pub mod Telling
 pub mod Feeding
 pub mod Effects
 pub mod Counting

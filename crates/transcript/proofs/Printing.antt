@@ -1,25 +1,24 @@
 -- What is printed of a log that comes in pieces, on the table that reading a plan leaves in memory. Assumes nothing.
-use Prim.Native.Nat.{ℕ, ◌+◌, ◌*◌, ◌≤◌}
+use Prim.Native.Nat.{ℕ, ◌+◌}
 use mathlib.Core.Path.{◌≡◌, refl, sym, ap, ◌∙◌}
 use mathlib.Core.List.{List, [], ◌∷◌, ◌++◌, append_assoc, append-nil}
 use native.Mathlib.Omega.{arith}
 use lib.ListN.{length, take}
-use lib.Seq.{sets, take_all}
+use lib.Seq.{take_all}
 use Rattle.text.specs.Text.{lines}
 use Rattle.model.specs.Refusals.{number_of}
 use Rattle.model.specs.declared.Refusal.{Refusal}
 use Rattle.model.specs.Plan.{Plan}
-use Rattle.model.specs.Acceptance.{sizes}
 use Rattle.model.specs.declared.Answer.{Answer}
 use Rattle.model.specs.declared.Answer.TheVariants.{Refused, Decided, Closed}
 use Rattle.model.specs.Histories.{Exchange}
-use Rattle.rows.proofs.Records.{records_all_length}
+use Rattle.rows.specs.declared.Leaf.{Leaf}
 use Rattle.reader.specs.Outcome.{plan, refused}
 use Rattle.table.specs.declared.Head.{Head}
-use Rattle.table.specs.Table.{Table, table_of, table_at}
-use Rattle.table.specs.Reading.{verdict, head_after, stored}
-use Rattle.table.proofs.Theorems.{read_as_plan}
-use Rattle.table.proofs.Written.{turns_size, tails_size, stretches_size}
+use Rattle.table.specs.Table.{Table, head_of}
+use Rattle.table.specs.Reading.{verdict, head_after}
+use Rattle.table.specs.Lent.{table_with, row_after}
+use Rattle.table.proofs.Theorems.{read_back}
 use Rattle.print.specs.Printed.{PrintedWithin}
 use Rattle.print.specs.Lines.{answer_line, refused_plan_line}
 use Rattle.print.proofs.Laws.{all_of}
@@ -31,7 +30,6 @@ use Rattle.transcript.specs.Transcript.{reply_to, shared, suspended, ticks, afte
 use Rattle.transcript.specs.Transcript.{transcript, replayed, replay}
 use Rattle.transcript.specs.Pieces.{Carried, begin, piece_told, piece_after, close_told, PrintedOf, ended, piece, whole_log}
 use Rattle.transcript.proofs.Feeding.{told_join, after_join}
-use Rattle.transcript.proofs.Counting.{idle_counted}
 use Rattle.transcript.proofs.Replaying.{spoken}
 
 -- PIECES
@@ -64,41 +62,19 @@ of_whole {t} {c} (piece {p} {new} {f} {ps} {text} short room h rest) =
 -- It is the replay on that table.
 pub printed_transcript : (t : Table) (ps : List (List ℕ)) (out : List ℕ) → PrintedOf t begin ps out → out ≡ transcript t (whole_log ps)
 unfolding transcript
-printed_transcript t ps out p = of_whole p ∙ spoken t (whole_log ps) [] at_first.state at_first.accepted 0 tt idle_counted
+printed_transcript t ps out p = of_whole p ∙ spoken t (whole_log ps) [] at_first.state at_first.accepted 0 tt tt
 
 -- THE TABLE OF A PLAN THAT WAS READ
 
-module _ (p : Plan) (few : sizes p.functions ≤ 512) (row turns tails stretches : List ℕ) (row_long : length row ≡ 4096) (turns_long : length turns ≡ 512)
-    (tails_long : length tails ≡ 512) (stretches_long : length stretches ≡ 512) where
-  abbrev t : Table
-  t = table_of p
-
-  -- One of the lists begins with its part of the table.
-  part : (list o : List ℕ) (n : ℕ) → length list ≡ n → n ≤ length o → take n (sets o 0 list) ≡ list
-  part list o n e h = ap (λ m. take m (sets o 0 list)) (sym e) ∙ begins list o (omega arith)
-
-  pub read_table : table_at (sets row 0 t.row) (sets turns 0 t.turns) (sets tails 0 t.tails) (sets stretches 0 t.stretches) t.head ≡ t
-  read_table =
-      let a = part t.row row (sizes p.functions * 8) (omega (arith, records_all_length 0 p.functions)) (omega arith) in
-      let b = part t.turns turns (sizes p.functions) (turns_size p) (omega arith) in
-      let c = part t.tails tails (sizes p.functions) (tails_size p) (omega arith) in
-      let d = part t.stretches stretches (sizes p.functions) (stretches_size p) (omega arith) in
-      rw (a, b, c, d) refl
-
 -- So what is printed is the replay.
-pub printed_replay : (text : List ℕ) (p : Plan) → verdict 512 text ≡ plan p →
-    (row turns tails stretches : List ℕ) (h : Head) → length row ≡ 4096 → length turns ≡ 512 → length tails ≡ 512 → length stretches ≡ 512 →
+pub printed_replay : (text : List ℕ) (p : Plan) → verdict 512 text ≡ plan p → (row : List Leaf) (h : Head) → length row ≡ 512 →
     let v = verdict 512 text in
-    let t = table_at (stored v (λ x. x.row) row) (stored v (λ x. x.turns) turns) (stored v (λ x. x.tails) tails)
-    (stored v (λ x. x.stretches) stretches) (head_after v h) in
+    let t = table_with (row_after v row) (head_after v h) in
     (pieces : List (List ℕ)) (out : List ℕ) → PrintedOf t begin pieces out → out ≡ replay text (whole_log pieces)
-printed_replay text p e row turns tails stretches h a b c d ps out k =
-    let few = ((read_as_plan 512 text p).0 e).1.formed.few_leaves in
-    let t = table_at (stored (plan p) (λ x. x.row) row) (stored (plan p) (λ x. x.turns) turns) (stored (plan p) (λ x. x.tails) tails)
-    (stored (plan p) (λ x. x.stretches) stretches) (head_after (plan p) h) in
-    let q : PrintedOf t begin ps out = rw e at k in
-    printed_transcript t ps out q ∙
-    (ap (λ x. transcript x (whole_log ps)) (read_table p few row turns tails stretches a b c d) ∙
+printed_replay text p e row h long ps out k =
+    let q : PrintedOf (table_with (row_after (plan p) row) (head_of p)) begin ps out = rw e at k in
+    printed_transcript _ ps out q ∙
+    (ap (λ x. transcript x (whole_log ps)) (read_back p row) ∙
     sym (ap (λ o. replayed o (whole_log ps)) e))
 
 pub refused_replay : (text log : List ℕ) (k : Refusal) (j : ℕ) → verdict 512 text ≡ refused k j → replay text log ≡ refused_plan_line (number_of k) j

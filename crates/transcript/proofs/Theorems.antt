@@ -20,11 +20,13 @@ use Rattle.model.specs.declared.Ending.{Ending}
 use Rattle.model.specs.declared.Answer.TheVariants.{Refused, Closed}
 use Rattle.model.specs.Histories.{Exchange, Answered}
 use Rattle.model.specs.Worked.{plan_A}
+use Rattle.rows.specs.declared.Leaf.{Leaf}
 use Rattle.reader.specs.Outcome.{plan, refused}
 use Rattle.reader.specs.Print.{print}
 use Rattle.table.specs.declared.Head.{Head}
-use Rattle.table.specs.Table.{Table, table_of, table_at}
-use Rattle.table.specs.Reading.{verdict, head_after, stored}
+use Rattle.table.specs.Table.{Table, table_of}
+use Rattle.table.specs.Reading.{verdict, head_after}
+use Rattle.table.specs.Lent.{table_with, row_after}
 use Rattle.table.proofs.Theorems.{read_as_plan}
 use Rattle.control.specs.declared.State.{State}
 use Rattle.control.specs.State.{fresh}
@@ -46,10 +48,9 @@ use Rattle.transcript.proofs.Examples as examples
 -- Consider any plan text that is accepted, and memory as `read` leaves it, whatever stood there before. Consider any log, in pieces of at most 4,096 bytes,
 -- however it was cut. What is printed by `start`, `feed` for each piece and `close` is the replay of the log on the plan.
 pub printed_is_replay : (text : List ℕ) (p : Plan) → verdict 512 text ≡ plan p →
-    (row turns tails stretches : List ℕ) (h : Head) → length row ≡ 4096 → length turns ≡ 512 → length tails ≡ 512 → length stretches ≡ 512 →
+    (row : List Leaf) (h : Head) → length row ≡ 512 →
     let v = verdict 512 text in
-    let t = table_at (stored v (λ x. x.row) row) (stored v (λ x. x.turns) turns) (stored v (λ x. x.tails) tails)
-    (stored v (λ x. x.stretches) stretches) (head_after v h) in
+    let t = table_with (row_after v row) (head_after v h) in
     (pieces : List (List ℕ)) (out : List ℕ) → PrintedOf t begin pieces out → out ≡ replay text (whole_log pieces)
 printed_is_replay = printing.printed_replay
 

@@ -12,6 +12,7 @@ use Rattle.model.specs.declared.Others.{Others}
 use Rattle.model.specs.declared.Others.TheVariants.{Running, Suspended}
 use Rattle.table.specs.Table.{Table}
 use Rattle.control.specs.declared.State.{State}
+use Rattle.control.specs.declared.State.TheVariants.{Idle, Open}
 use Rattle.control.specs.State.{fresh}
 use Rattle.print.specs.Lines.{answer_line, ticks_line}
 use Rattle.print.specs.Printed.{PrintedWithin}
@@ -39,11 +40,16 @@ abbrev pub shared_to : Others → ℕ → ℕ → ℕ → ℕ
 shared_to Running last e shared = e - (last - shared)
 shared_to Suspended last e shared = shared
 
+-- The same from a state, where a release is open; where none is, no ticks are shared.
+abbrev pub shared_on : State → ℕ → ℕ → ℕ
+shared_on Idle e shared = shared
+shared_on (Open s) e shared = shared_to s.others s.reading e shared
+
 -- After an accepted call.
 abbrev pub shared_by : State → Call → ℕ → ℕ
 shared_by s Release shared = 0
-shared_by s (Report n e) shared = shared_to s.others s.reading e shared
-shared_by s (End e) shared = shared_to s.others s.reading e shared
+shared_by s (Report n e) shared = shared_on s e shared
+shared_by s (End e) shared = shared_on s e shared
 
 -- After any call: a refused one moves nothing.
 abbrev pub shared_after : State → Call → Answer → ℕ → ℕ

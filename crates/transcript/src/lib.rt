@@ -2,22 +2,23 @@
 #![tactic(auto)]
 
 ghost use Rattle.std.specs.Prelude.{◌≡◌, ◌++◌};
-ghost use Rattle.table.specs.Table.{table_at, good};
+ghost use Rattle.table.specs.Table.{good};
+ghost use Rattle.table.specs.Lent.{table_with};
 ghost use Rattle.print.specs.Printed.{PrintedWithin};
 ghost use Rattle.print.specs.Lines.{answer_line};
 ghost use Rattle.transcript.specs.Transcript.{reading_of};
-ghost use Rattle.transcript.specs.Pieces.{carried_of, begin, shared_to, shared_by, shared_after, ticks_to, ticks_after, FedPiece, ClosedLog};
+ghost use Rattle.transcript.specs.Pieces.{carried_of, begin, shared_to, shared_on, shared_by, shared_after, ticks_to, ticks_after, FedPiece, ClosedLog};
 ghost use Rattle.transcript.specs.Private.{HeldLine, Tells, fed_of};
 
-use control::{State, checked_call, fresh};
+use control::{State, checked_call};
 use flight_log::read_entry;
 use model::{Answer, Call, Others, Refusal};
 use print::{answer_line, ticks_line};
-use rows::{MAX_LEAVES, ROW};
+use rows::Leaf;
 use table::{Head, check};
 
-// What is carried from piece to piece: the first bytes of the line being read and how many they are, the controller's state, and the ticks shared since the
-// release.
+// What is carried from piece to piece: the first bytes of the line being read and how many they are (an array, since there is no heap), the controller's state,
+// and the ticks shared since the release.
 #[derive(Clone, Copy)]
 pub struct Replay {
     pub line: [u8; HELD],
@@ -26,7 +27,7 @@ pub struct Replay {
     pub shared: u64,
 }
 
-// How many bytes of the buffer are answers, and what is carried on.
+// How many bytes of the buffer are answers, and what is carried on. (A number: a slice would keep the buffer lent.)
 #[derive(Clone, Copy)]
 pub struct Fed {
     pub size: usize,
@@ -60,7 +61,7 @@ pub fn start() -> Replay
     Replay {
         line: [0; HELD],
         held: 0,
-        state: fresh(),
+        state: State::Idle,
         shared: 0,
     }
 }
@@ -97,15 +98,23 @@ fn shared_to(others: Others, last: u64, reading: u64, shared: u64) -> u64
     }
 }
 
+// The ticks shared up to a reading, where a release is open.
+fn shared_on(state: State, reading: u64, shared: u64) -> u64
+    ensures { result ≡ shared_on state reading shared }
+{
+    match state {
+        State::Idle => shared,
+        State::Open(open) => shared_to(open.others, open.reading, reading, shared),
+    }
+}
+
 // The ticks shared after an accepted call.
 fn shared_by(state: State, call: Call, shared: u64) -> u64
     ensures { result ≡ shared_by state call shared }
 {
     match call {
         Call::Release => 0,
-        Call::Report(_, reading) | Call::End(reading) => {
-            shared_to(state.others, state.reading, reading, shared)
-        }
+        Call::Report(_, reading) | Call::End(reading) => shared_on(state, reading, shared),
     }
 }
 
@@ -142,21 +151,16 @@ fn put_told(out: &mut [u8; ANSWERS], at: usize, answer: Answer, reading: u64, sh
 fn tell_call(
     out: &mut [u8; ANSWERS],
     checked: bool,
-    row: &[u64; ROW],
-    turns: &[u64; MAX_LEAVES],
-    tails: &[u64; MAX_LEAVES],
-    stretches: &[u64; MAX_LEAVES],
-    head: Head,
+    row: &[Leaf],
+    head: &Head,
     told: Told,
     asked: Call,
 ) -> Told
-    requires { checked ≡ good (table_at row.now turns.now tails.now stretches.now head) }
-    ensures { Tells out.old (table_at row.now turns.now tails.now stretches.now head) told
+    requires { checked ≡ good (table_with row.now head.now) }
+    ensures { Tells out.old (table_with row.now head.now) told
         (Some asked) out.new result }
 {
-    let step = checked_call(
-        checked, row, turns, tails, stretches, head, told.state, asked,
-    );
+    let step = checked_call(checked, row, head, told.state, asked);
     let shared = shared_after(told.state, asked, step.answer, told.shared);
     Told {
         next: put_told(out, told.next, step.answer, reading_of(asked), shared),
@@ -169,22 +173,17 @@ fn tell_call(
 fn tell(
     out: &mut [u8; ANSWERS],
     checked: bool,
-    row: &[u64; ROW],
-    turns: &[u64; MAX_LEAVES],
-    tails: &[u64; MAX_LEAVES],
-    stretches: &[u64; MAX_LEAVES],
-    head: Head,
+    row: &[Leaf],
+    head: &Head,
     told: Told,
     entry: Option<Call>,
 ) -> Told
-    requires { checked ≡ good (table_at row.now turns.now tails.now stretches.now head) }
-    ensures { Tells out.old (table_at row.now turns.now tails.now stretches.now head) told entry
+    requires { checked ≡ good (table_with row.now head.now) }
+    ensures { Tells out.old (table_with row.now head.now) told entry
         out.new result }
 {
     match entry {
-        Some(asked) => tell_call(
-            out, checked, row, turns, tails, stretches, head, told, asked,
-        ),
+        Some(asked) => tell_call(out, checked, row, head, told, asked),
         None => {
             let next = answer_line(out, told.next, Answer::Refused(Refusal::Garbled));
             Told { next, ..told }
@@ -209,20 +208,11 @@ fn handed_back(line: [u8; HELD], held: usize, told: Told) -> Fed
 
 // Takes a piece of the log, of which it uses at most 4,096 bytes, writes the answers to the lines that end in it at the start of the buffer, and gives their
 // length and what is carried on. The table is checked once for all lines of the piece.
-pub fn feed(
-    out: &mut [u8; ANSWERS],
-    piece: &[u8],
-    row: &[u64; ROW],
-    turns: &[u64; MAX_LEAVES],
-    tails: &[u64; MAX_LEAVES],
-    stretches: &[u64; MAX_LEAVES],
-    head: Head,
-    replay: Replay,
-) -> Fed
-    ensures { FedPiece out.old (table_at row.now turns.now tails.now stretches.now head)
+pub fn feed(out: &mut [u8; ANSWERS], piece: &[u8], row: &[Leaf], head: &Head, replay: Replay) -> Fed
+    ensures { FedPiece out.old (table_with row.now head.now)
         (carried_of replay) piece.now out.new result }
 {
-    let checked = check(row, turns, tails, stretches, head);
+    let checked = check(row, head);
     let mut line = replay.line;
     let mut held = replay.held;
     let mut told = Told {
@@ -234,9 +224,7 @@ pub fn feed(
         held = hold(&mut line, held, b);
         if b == b'\n' {
             let entry = read_entry(&line[..held]);
-            told = tell(
-                out, checked, row, turns, tails, stretches, head, told, entry,
-            );
+            told = tell(out, checked, row, head, told, entry);
             held = 0;
         }
     }

@@ -1,26 +1,16 @@
 -- `columns::measure` meets its contract. Assumes nothing.
-use Rattle.rows.proofs.Plans.{plan_inside}
-use Rattle.columns.proofs.Functions.{fun_part, measure_next, measured}
-use native.Mathlib.Omega.{arith}
+use Rattle.columns.proofs.Functions.{fun_forms, measure_next, measured}
 use Rattle.columns.proofs.measure.Goals as goal
 
-pub sum_block-requires : goal.sum_block-requires
-sum_block-requires c =
-    let a = c.loop-f in
-    let lt = c.loop-f-test.true in
-    let v = c.requires.plan_of in record {
-      to_in_bounds = ((plan_inside v a.f lt).0, (plan_inside v a.f lt).1, a.invariant.under);
-      piece = fun_part v a.f lt;
-    }
+pub sum_block-requires-clause-forms : goal.sum_block-requires-clause-forms
+sum_block-requires-clause-forms c =
+    rw (c.function-leaves.ensures.0, c.function-leaves.ensures.1) (fun_forms c.requires.plan_of c.loop-f.f c.loop-f-test.true)
 
 pub loop-f-preserved : goal.loop-f-preserved
 loop-f-preserved c =
+    let e = c.function-leaves.ensures in
     let x = c.sum_block.ensures in
-    measure_next c.loop-f-test.true c.requires.n_in_bounds.1 c.requires.plan_of x.upper_bound x.value x.turn_after c.loop-f.invariant
+    measure_next c.loop-f-test.true c.requires.plan_of.bounds.few c.requires.plan_of x.upper_bound (rw (e.0, e.1) at x.value) (rw (e.0, e.1) at x.turn_after) c.loop-f.invariant
 
-pub returns : goal.returns
-returns c =
-    let q = c.loop-f.invariant in record {
-      measured = (λ v. measured c.loop-f-test.false q v);
-      by_index = ((λ f h. q.behind f (omega (arith, c.loop-f.auto.f-end, h))), q.wide);
-    }
+pub returns-clause-measured : goal.returns-clause-measured
+returns-clause-measured c = λ v. measured c.loop-f-test.false c.loop-f.invariant v

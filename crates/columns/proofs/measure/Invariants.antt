@@ -4,4 +4,4 @@ use Rattle.columns.specs.Sums.{cost_in}
 use Rattle.columns.proofs.measure.Given as goal
 
 abbrev pub invariant-loop-f : goal.invariant-loop-f
-invariant-loop-f l = Measuring (cost_in l.cost) l.row l.starts l.n l.f l.totals l.turn
+invariant-loop-f l = Measuring (cost_in l.cost) l.code.row.now l.code.bounds.now l.code.functions l.f l.totals l.turn

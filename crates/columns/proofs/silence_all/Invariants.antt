@@ -4,4 +4,4 @@ use Rattle.columns.specs.Sums.{cost_in}
 use Rattle.columns.proofs.silence_all.Given as goal
 
 abbrev pub invariant-loop-f : goal.invariant-loop-f
-invariant-loop-f l = Keeping (cost_in l.cost) l.walk.row.now l.starts l.walk.sums.now l.walk.turn.now l.n l.f l.heads
+invariant-loop-f l = Keeping (cost_in l.walk.cost) l.walk.code.row.now l.walk.code.bounds.now l.walk.sums.now l.walk.turn.now l.walk.code.functions l.f l.heads

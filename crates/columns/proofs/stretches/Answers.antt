@@ -14,4 +14,4 @@ returns-clause-stretch_after c =
     let ms = c.args.sums.now in
     let heads = c.silence_all-heads.result in
     λ v. c.stretch_all.ensures v ∙
-    written_same k ms (λ f x. silence_of (head_at heads f) x) (λ f x. line_silence k ms (lines_of v.plan f) x) v.plan (λ f x h. c.silence_all-heads.ensures.s_value v f x h) c.args.n (omega arith) c.args.stretch.now
+    written_same k ms (λ f x. silence_of (head_at heads f) x) (λ f x. line_silence k ms (lines_of v.plan f) x) v.plan (λ f x h. c.silence_all-heads.ensures.s_value v f x h) c.args.code.now.functions (omega arith) c.args.stretch.now

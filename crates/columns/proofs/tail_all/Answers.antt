@@ -5,16 +5,18 @@ use native.Mathlib.Omega.{arith}
 use Rattle.columns.proofs.tail_all.Goals as goal
 
 pub loop-f-init : goal.loop-f-init
-loop-f-init c = λ v. tails_start c.args.walk.now.sums.now (lines_of v.plan) c.args.starts.now c.args.out.now
+loop-f-init c = λ v. tails_start c.args.walk.now.sums.now (lines_of v.plan) c.args.walk.now.code.bounds.now c.args.out.now
 
-pub tail_block-requires : goal.tail_block-requires
-tail_block-requires c =
+pub tail_block-requires-clause-sized : goal.tail_block-requires-clause-sized
+tail_block-requires-clause-sized c =
     let lt = c.loop-f-test.true in
     let v = c.requires.summed in
-    record { sized = fun_sized v c.loop-f.f 0 lt (omega (arith, v.exact.small c.loop-f.f lt)) }
+    let e = c.function-leaves.ensures in
+    rw (e.0, e.1) (fun_sized v c.loop-f.f 0 lt (omega (arith, v.exact.small c.loop-f.f lt)))
 
 pub loop-f-preserved : goal.loop-f-preserved
 loop-f-preserved c =
     let a = c.loop-f in
     let lt = c.loop-f-test.true in
-    λ v. tails_next c.args.out.now v lt (c.tail_block.ensures.out_after (fun_sized v a.f 0 lt (omega (arith, v.exact.small a.f lt)))) (a.invariant v)
+    let e = c.function-leaves.ensures in
+    λ v. tails_next c.args.out.now v lt ((rw (e.0, e.1) at c.tail_block.ensures.out_after) (fun_sized v a.f 0 lt (omega (arith, v.exact.small a.f lt)))) (a.invariant v)

@@ -1,15 +1,23 @@
 -- `listing::collect` meets its contract: what is collected from memory after reading is what is listed of the plan, or nothing. Assumes nothing.
+use mathlib.Core.Path.{sym}
+use native.Mathlib.Omega.{arith}
+use lib.Seq.{length-take-le}
 use Rattle.listing.proofs.Points.{head_read, collected_summary, collected_points}
 use Rattle.listing.proofs.collect.Goals as goal
 
-pub collect_leaves-count-requires : goal.collect_leaves-count-requires
-collect_leaves-count-requires c = (head_read c.args.text.now c.in_ok-head.ensures.answers).few
+pub slice_bounds-row-end : goal.slice_bounds-row-end
+slice_bounds-row-end c = omega (arith, (head_read c.args.text.now c.in_ok-head.ensures.answers).few, c.read.auto.row)
+
+pub slice_bounds-collect_leaves-end : goal.slice_bounds-collect_leaves-end
+slice_bounds-collect_leaves-end c =
+    let r = head_read c.args.text.now c.in_ok-head.ensures.answers in
+    sym (length-take-le c.in_ok-head.head.leaves c.read.new.row (omega (arith, r.few, c.read.auto.row)))
 
 pub returns : goal.returns
 returns c =
     let r = head_read c.args.text.now c.in_ok-head.ensures.answers in
-    let e = c.in_ok-head.ensures in
-    let g = c.collect_leaves-count.ensures in record {
-      summary = collected_summary _ _ _ r.is r.formed r.head _ _ _ e.row e.tails e.stretches _ _ _ g;
-      numbers = collected_points _ _ _ r.is r.formed r.head _ _ _ e.row e.tails e.stretches _ _ _ g;
+    let e = c.in_ok-head.ensures.row in
+    record {
+      summary = collected_summary r _ e c.collect_leaves-count.ensures;
+      numbers = collected_points r _ e c.collect_leaves-count.ensures;
     }

@@ -2,11 +2,8 @@
 use Rattle.std.proofs.Common.{arith, rules}
 use Rattle.std.proofs.lemmas.List.{length_push}
 use Rattle.std.proofs.lemmas.Slice.Zip.{zip_turn, zip_end}
-use Rattle.pages.proofs.Lines.{line_begun, begun_more, line_ended}
+use Rattle.pages.proofs.Lines.{begun_more, line_ended}
 use Rattle.pages.proofs.put_line.Goals as goal
-
-pub loop-width-init : goal.loop-width-init
-loop-width-init c = line_begun c.args.widths.now c.args.numbers.now c.args.out.now c.args.at
 
 pub loop-width-preserved : goal.loop-width-preserved
 loop-width-preserved c =

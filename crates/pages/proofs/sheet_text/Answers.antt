@@ -1,8 +1,8 @@
 -- `pages::sheet_text` meets its contract, once for a refused text and once for a plan. Assumes nothing.
-use mathlib.Core.Path.{sym}
+use Prim.Native.Nat.{ℕ}
+use mathlib.Core.List.{List}
 use native.Mathlib.Omega.{arith}
-use lib.ListN.{replicate}
-use lib.Seq.{length-take-le}
+use lib.ListN.{replicate, length-take}
 use Rattle.listing.proofs.Lines.{listed}
 use Rattle.pages.proofs.Texts.{sheet_accepted}
 use Rattle.pages.proofs.sheet_text.Goals as goal
@@ -15,12 +15,7 @@ slice_bounds-points-end c =
 pub slice_bounds-put_pages-end-in-Ok-2 : goal.slice_bounds-put_pages-end-in-Ok-2
 slice_bounds-put_pages-end-in-Ok-2 c =
     let k = listed c.args.text.now (replicate 4 0) c.in-Ok.ensures.summary c.in-Ok.ensures.numbers in
-    sym (length-take-le c.in-Ok.summary.count c.collect.new.points (omega (arith, k.few, k.long)))
-
-pub put_pages-requires : goal.put_pages-requires
-put_pages-requires c =
-    let k = listed c.args.text.now (replicate 4 0) c.in-Ok.ensures.summary c.in-Ok.ensures.numbers in
-    omega (arith, k.few, length-take-le c.in-Ok.summary.count c.collect.new.points (omega (arith, k.few, k.long)))
+    omega (arith, k.few, k.long, length-take {A = List ℕ})
 
 pub returns-in-Ok : goal.returns-in-Ok
 returns-in-Ok c =

@@ -1,5 +1,6 @@
+use Rattle.rows.specs.Leaves.{numbers}
 use Rattle.place.proofs.Sights.{Walked}
-use Rattle.place.specs.Private.{sight_of}
+use Rattle.place.specs.Private.{Held, sight_of}
 use Rattle.rows.specs.Rows.{Piece}
 use Rattle.model.specs.Forms.{forms, Forms}
 use Prim.Native.Nat.{ℕ, ◌+◌, ◌-◌, ◌≤◌}
@@ -14,8 +15,8 @@ decreases-scan l = l.to - l.from + (l.to - l.from) + 1
 
 abbrev pub invariant-scan-loop-i : goal.invariant-scan-loop-i
 invariant-scan-loop-i l =
-    (l.from ≤ l.i) × ((left : ℕ) × Piece l.row left l.i l.to) ×
-    ((left : ℕ) (p : Piece l.row left l.from l.to) (G : List Forms) → Walked l.row left l.i l.to G l.x l.passed (sight_of (forms G p.part.lines) l.x))
+    (l.from ≤ l.i) × Held l.row l.i l.to ×
+    ((left : ℕ) (p : Piece (numbers l.row) left l.from l.to) (G : List Forms) → Walked (numbers l.row) left l.i l.to G l.x l.passed (sight_of (forms G p.part.lines) l.x))
 
 abbrev pub decreases-scan-loop-i : goal.decreases-scan-loop-i
 decreases-scan-loop-i l = l.to - l.i

@@ -1,10 +1,14 @@
--- `reader::put` meets its contract: the eight numbers stand where they were copied to. Assumes nothing.
+-- `reader::put` meets its contract: the eight numbers of the leaf are stored, and what is derived of it stays. Assumes nothing.
 use mathlib.Core.Bool.{Bool, true, false}
+use mathlib.Core.Path.{◌≡◌, refl, ap₂, ◌∙◌}
 use mir.Val.{bool_byte}
-use Rattle.std.proofs.Common.{◌≡◌, ◌*◌, ◌∷◌, [], arith, sym, ◌∙◌, ap, refl}
-use Rattle.std.proofs.lemmas.List.Edits.{sets, sets-eq}
-use Rattle.std.proofs.lemmas.Slice.{put_mid-paste}
+use Rattle.std.proofs.Common.{◌*◌, get_or, arith}
+use Rattle.std.proofs.lemmas.List.Edits.{sets}
+use Rattle.std.proofs.Math.Seq.{map-set_same}
 use Rattle.model.specs.Places.{bit}
+use Rattle.rows.specs.declared.Leaf.{Leaf}
+use Rattle.rows.specs.Leaves.{fields, numbers, no_leaf}
+use Rattle.rows.proofs.Leaves.{numbers_set}
 use Rattle.reader.specs.Private.{record_of}
 use Rattle.reader.proofs.put.Goals.{in-Leaf, in-Call, in-Loop, in-If}
 use Rattle.reader.proofs.put.Goals as goal
@@ -13,17 +17,45 @@ bool_is : (b : Bool) → bool_byte b ≡ bit b
 bool_is true = refl
 bool_is false = refl
 
-pub returns : goal.returns
-returns c =
+-- The leaf that is stored.
+abbrev stored : goal.After-from-2 → Leaf
+stored c =
     let a = c.args in
     let t = c.match-form.kind in
-    let vs = t.0 ∷ bit t.1 ∷ t.2 ∷ t.3 ∷ t.4 ∷ a.other ∷ a.after ∷ a.level ∷ [] in
-    let same : vs ≡ record_of a.number a.form a.other a.after a.level =
+    let l = get_or a.row.now a.number no_leaf in
+    record {
+      kind = c.from.result;
+      point = bit t.1;
+      isolated = t.2;
+      max_load = t.3;
+      detail = t.4;
+      other = a.other;
+      after = a.after;
+      level = a.level;
+      turn = l.turn;
+      tail = l.tail;
+      stretch = l.stretch;
+    }
+
+pub returns-clause-writes : goal.returns-clause-writes
+returns-clause-writes c =
+    let a = c.args in
+    let same : fields (stored c) ≡ record_of a.number a.form a.other a.after a.level =
     elim c.match-form.branch [
-      | in-Leaf w ↦ rw (w.in-Leaf.is, w.kind-is) refl
-      | in-Call w ↦ rw (w.in-Call.is, w.kind-is) refl
-      | in-Loop w ↦ rw (w.in-Loop.is, w.kind-is) refl
-      | in-If w ↦ rw (w.in-If.is, w.kind-is) refl
+      | in-Leaf w ↦ rw (w.in-Leaf.is, w.kind-is, (rw w.kind-is at c.from.ensures)) refl
+      | in-Call w ↦ rw (w.in-Call.is, w.kind-is, (rw w.kind-is at c.from.ensures)) refl
+      | in-Loop w ↦ rw (w.in-Loop.is, w.kind-is, (rw w.kind-is at c.from.ensures)) refl
+      | in-If w ↦ rw (w.in-If.is, w.kind-is, (rw w.kind-is at c.from.ensures)) refl
     ] in
-    put_mid-paste (8 * a.number) _ a.row.now _ vs 8 (c.copy_from_slice.ensures.after ∙ rw (c.from.ensures, bool_is t.1) refl) (omega arith) refl ∙
-    (sym (sets-eq vs a.row.now (8 * a.number) (omega arith)) ∙ ap (sets a.row.now (8 * a.number)) same)
+    let place : a.number * 8 ≡ 8 * a.number = omega arith in
+    rw (c.from-2.ensures, bool_is c.match-form.kind.1) (numbers_set a.row.now a.number (stored c) (omega arith) ∙ ap₂ (sets (numbers a.row.now)) place same)
+
+pub returns-clause-keeps : goal.returns-clause-keeps
+returns-clause-keeps c =
+    let row = c.args.row.now in
+    let i = c.args.number in
+    rw (c.from-2.ensures, bool_is c.match-form.kind.1) (λ j. (
+      map-set_same (λ (l : Leaf). l.turn) row i (stored c) no_leaf refl j,
+      map-set_same (λ (l : Leaf). l.tail) row i (stored c) no_leaf refl j,
+      map-set_same (λ (l : Leaf). l.stretch) row i (stored c) no_leaf refl j,
+    ))

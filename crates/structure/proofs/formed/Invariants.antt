@@ -1,7 +1,6 @@
 use Rattle.structure.proofs.Functions.{Read, Held}
-use lib.ListN.{length}
-use mathlib.Core.Path.{◌≡◌}
+use Rattle.rows.specs.Leaves.{numbers}
 use Rattle.structure.proofs.formed.Given as goal
 
 abbrev pub invariant-loop-f : goal.invariant-loop-f
-invariant-loop-f l = (length l.hs ≡ length l.initial.hs) × Read l.row l.starts l.hs l.f × Held l.row l.starts l.n l.hs l.f
+invariant-loop-f l = Read (numbers l.code.row.now) l.code.bounds.now l.hs l.f × Held (numbers l.code.row.now) l.code.bounds.now l.code.functions l.hs l.f

@@ -1,11 +1,8 @@
-use Rattle.structure.proofs.Seeing.{so_far_none, so_far_more, records_allowed, text_records, records_text, known_target}
+use Rattle.structure.proofs.Seeing.{so_far_more, records_allowed, text_records, records_text, known_target}
 use Rattle.rows.proofs.Shape.{rep_le}
 use mathlib.Core.Path.{◌≡◌}
 use native.Mathlib.Omega.{arith}
 use Rattle.structure.proofs.seen.Goals as goal
-
-pub loop-i-init : goal.loop-i-init
-loop-i-init c = so_far_none
 
 pub allowed-requires-clause-i_in_bounds_2 : goal.allowed-requires-clause-i_in_bounds_2
 allowed-requires-clause-i_in_bounds_2 c = known_target c.requires.text c.loop-i.i c.loop-i.auto.i c.loop-i-test.true

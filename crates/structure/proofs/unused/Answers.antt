@@ -11,15 +11,15 @@ use borrow.Author.Rules.{rules}
 use Rattle.structure.proofs.unused.Goals as goal
 
 -- The bounds behind the last function's end.
-behind : (s : List ℕ) (n k : ℕ) → k < 17 - (n + 1) → get_or (take (17 - (n + 1)) (drop (n + 1) s)) k 0 ≡ get_or s (n + 1 + k) 0
-behind s n k h = get_or-take (17 - (n + 1)) (drop (n + 1) s) k 0 h ∙ get_or-drop (n + 1) s k 0
+behind : (s : List ℕ) (n k : ℕ) → n + 1 + k < length s → get_or (take (length s - (n + 1)) (drop (n + 1) s)) k 0 ≡ get_or s (n + 1 + k) 0
+behind s n k h = get_or-take (length s - (n + 1)) (drop (n + 1) s) k 0 (omega arith) ∙ get_or-drop (n + 1) s k 0
 
 pub returns : goal.returns
 returns c =
-    let s = c.args.starts.now in
-    let n = c.args.n in
-    let xs : List ℕ = take (17 - (n + 1)) (drop (n + 1) s) in
-    let many : length xs ≡ 17 - (n + 1) = omega (arith, length-take (17 - (n + 1)) (drop (n + 1) s), length-drop (n + 1) s) in
+    let s = c.args.code.now.bounds.now in
+    let n = c.args.code.now.functions in
+    let xs : List ℕ = take (length s - (n + 1)) (drop (n + 1) s) in
+    let many : length xs ≡ length s - (n + 1) = omega (arith, length-take (length s - (n + 1)) (drop (n + 1) s), length-drop (n + 1) s) in
     let by_call = cases_from_all _ _ c.all.result (λ x. x ≡ 0) (λ x. x ≡ 0 → ⊥) c.all.ensures.ran (YieldsList-from_slice xs c.iter.ensures.rest) (λ x q k. search (rules, tests)) (λ x q k. search (rules, tests)) in
     says_by c.all.result by_call
     (λ all f lo hi.

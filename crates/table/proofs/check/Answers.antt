@@ -1,41 +1,43 @@
 -- `table::check` meets its contract: each test fails only where the table is that of no accepted plan. Assumes nothing.
-use mathlib.Core.Path.{◌≡◌, refl, sym, ◌∙◌}
+use mathlib.Core.Path.{◌≡◌, sym, ◌∙◌}
 use borrow.Author.Rules.{rules}
-use borrow.Author.Tests.{ne_eqb}
-use native.Mathlib.Omega.{arith}
-use lib.ListN.{length, get_or}
-use Rattle.rows.proofs.Plans.{plan_leaves}
-use Rattle.rows.proofs.Answers.{same_answer, said_false}
-use Rattle.table.specs.Table.{table_at}
-use Rattle.table.proofs.Checking.{good_exactly, plan_ranged, plan_structured, plan_end, stands_for, plan_agrees, agrees_plan}
+use borrow.Author.Tests.{eqb-true, eqb-false}
+use lib.ListN.{length, get_or, take}
+use Rattle.rows.specs.Leaves.{numbers}
+use Rattle.structure.specs.Plans.{Structured}
+use Rattle.rows.proofs.Answers.{said_true, said_false}
+use Rattle.table.specs.Lent.{table_with}
+use Rattle.table.proofs.Checking.{good_exactly, plan_ranged, plan_structured, plan_end, tested}
+use Rattle.table.proofs.check.Goals.{then-is_some, else-is_some}
 use Rattle.table.proofs.check.Goals as goal
 
 pub returns-then-not-ranged : goal.returns-then-not-ranged
 returns-then-not-ranged c =
-    let x = c.args in
-    good_exactly _ (table_at x.row.now x.turns.now x.tails.now x.stretches.now x.head)
-    (λ t. said_false c.ranged.result c.if-not-ranged.true c.ranged.ensures (plan_ranged x.row.now x.turns.now x.tails.now x.stretches.now x.head t))
+    let ls = c.args.row.now in
+    let h = c.args.head.now in
+    good_exactly _ (table_with ls h) (λ t. said_false c.ranged.result c.if-not-ranged.true c.ranged.ensures (plan_ranged ls h t))
 
-pub returns-then-not-structured : goal.returns-then-not-structured
-returns-then-not-structured c =
-    let x = c.args in
-    good_exactly _ (table_at x.row.now x.turns.now x.tails.now x.stretches.now x.head)
-    (λ t. c.if-not-structured.ensures.says (plan_structured x.row.now x.turns.now x.tails.now x.stretches.now x.head t).0)
+pub returns-then-head : goal.returns-then-head
+returns-then-head c =
+    let ls = c.args.row.now in
+    let h = c.args.head.now in
+    let k = c.code-code.ensures in
+    let bounds-long : length h.bounds ≡ 17 = search rules in
+    elim c.if-is_some.branch [
+      | then-is_some w ↦
+          let q : Structured (numbers (take h.leaves ls)) h.bounds h.functions =
+          rw (k.row, k.bounds, k.functions) at (said_true _ (sym w.if-is_some.ensures) c.structured.ensures.says) in
+          let end : get_or h.bounds h.functions 0 ≡ h.leaves = eqb-true _ _ (sym w.value-is ∙ c.if-head.true) in
+          tested ls h q c.if-not-ranged.ensures bounds-long end (rw (k.row, k.bounds, k.functions) at c.agrees.ensures)
+      | else-is_some w ↦ let z = sym w.if-is_some.false ∙ (sym w.value-is ∙ c.if-head.true) in cc
+    ]
 
-pub returns-then-head-n : goal.returns-then-head-n
-returns-then-head-n c =
-    let bounds-long : length c.args.head.bounds ≡ 17 = let g = c.well_formed.1.1.1.1.0.1.1.1.1.1.1.1.1.1.0 in search (rules, g) in
-    let x = c.args in
-    let q = c.if-not-structured.ensures.says in
-    let end : get_or x.head.bounds x.head.functions 0 ≡ x.head.leaves = omega (arith, c.if-head-n.true) in
-    good_exactly _ (table_at x.row.now x.turns.now x.tails.now x.stretches.now x.head)
-    (same_answer c.agrees.result
-    (agrees_plan x.row.now x.turns.now x.tails.now x.stretches.now x.head q c.if-not-ranged.ensures bounds-long end)
-    (plan_agrees x.row.now x.turns.now x.tails.now x.stretches.now x.head q)
-    (c.agrees.ensures (stands_for x.row.now x.turns.now x.tails.now x.stretches.now x.head q) q refl (sym (plan_leaves q.plan) ∙ end)))
-
-pub returns-else-head-n : goal.returns-else-head-n
-returns-else-head-n c =
-    let x = c.args in
-    good_exactly _ (table_at x.row.now x.turns.now x.tails.now x.stretches.now x.head)
-    (rw (ne_eqb _ _ c.if-head-n.false) (λ t. c.if-head-n.false (plan_end x.row.now x.turns.now x.tails.now x.stretches.now x.head t)))
+pub returns-else-head : goal.returns-else-head
+returns-else-head c =
+    let ls = c.args.row.now in
+    let h = c.args.head.now in
+    let k = c.code-code.ensures in
+    good_exactly _ (table_with ls h) (rw c.if-head.false (λ t. elim c.if-is_some.branch [
+      | then-is_some w ↦ eqb-false _ _ (sym w.value-is ∙ c.if-head.false) (plan_end ls h t)
+      | else-is_some w ↦ said_false _ (sym w.if-is_some.ensures) c.structured.ensures.says (rw (k.row, k.bounds, k.functions) (plan_structured ls h t).0)
+    ]))

@@ -1,0 +1,18 @@
+-- The numbers of a decision's word and of an end's word, as other languages take them (01, 'Calls').
+-- Assumes nothing: these are definitions.
+use Rattle.std.specs.Prelude.{ℕ}
+use Rattle.model.specs.declared.Word.{Word}
+use Rattle.model.specs.declared.Word.TheVariants.{Go, Suspend, Stay}
+use Rattle.model.specs.declared.Ending.{Ending}
+use Rattle.model.specs.declared.Ending.TheVariants.{Resume, Ended}
+
+-- The number of a word: 1 go, 2 suspend, 3 stay (0 says that the call was refused).
+abbrev pub word_number : Word → ℕ
+word_number Go = 1
+word_number Suspend = 2
+word_number Stay = 3
+
+-- The number of an ending: 4 resume, 5 ended.
+abbrev pub ending_number : Ending → ℕ
+ending_number Resume = 4
+ending_number Ended = 5

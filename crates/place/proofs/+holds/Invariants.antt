@@ -1,4 +1,0 @@
-use Rattle.place.proofs.+holds.Given as goal
-
-abbrev pub decreases-holds : goal.decreases-holds
-decreases-holds l = l.l
