@@ -23,7 +23,7 @@ use Rattle.rows.specs.First.{rest}
 use Rattle.rows.proofs.Shape.{LoopAt, IfAt, after, no_lines, body_in, then_in, else_in}
 use Rattle.columns.specs.Sums.{limit, lead}
 use Rattle.columns.specs.Columns.{column_of, held_turn, turn_rule, turns, rounds, tail_rule, Contains}
-use Rattle.columns.specs.Private.{front, Forms, AsDerived, AsDerivedFirst, Begins, LoopFits, IfFits, FunctionFits}
+use Rattle.columns.specs.Private.{front, FormsHeld, AsDerived, AsDerivedFirst, Begins, LoopFits, IfFits, FunctionFits}
 use Rattle.columns.specs.Local.{AllDerived}
 use Rattle.columns.proofs.Sizes.{tally_split, loop_lead, round_le, round_back}
 use Rattle.columns.proofs.Inner.{after_forms}
@@ -34,7 +34,7 @@ use Rattle.columns.proofs.Tailing.{loop_rounds, if_tail}
 
 -- The lines from i on are all that is left to walk of the lines l, which begin at `from`.
 pub record Walking (ts o u : List ℕ) (row : List Leaf) (from i e s : ℕ) (l : Lines) : Type 0 where
-  pub more : Forms row i e
+  pub more : FormsHeld row i e
   pub back : AsDerived ts o u more.part.lines i s → AsDerived ts o u l from s
   pub on : AsDerived ts o u l from s → AsDerived ts o u more.part.lines i s
 
@@ -110,7 +110,7 @@ module _ (ts o u : List ℕ) where
       subst (λ (l : Lines). AsDerived ts o u l i s) (sym (no_lines le p)) (record { turns_are = tt; tails_are = tt; small = omega arith })
 
   -- The walk over the forms.
-  pub walk_start : {row : List Leaf} {i e s : ℕ} (p : Forms row i e) → Walking ts o u row i i e s p.part.lines
+  pub walk_start : {row : List Leaf} {i e s : ℕ} (p : FormsHeld row i e) → Walking ts o u row i i e s p.part.lines
   walk_start p = record { more = p; back = λ f. f; on = λ f. f }
 
   module _ {row : List Leaf} {from i e en s x : ℕ} {l : Lines} (lt : i < e) (he : en ≡ after_at (numbers row) i) (b : Begins u en e s x)

@@ -18,7 +18,7 @@ use Rattle.rows.proofs.Shape.{rep_le}
 use Rattle.rows.specs.Plans.{PlanOf, lines_of}
 use Rattle.rows.proofs.Plans.{plan_rep, plan_rules, heights_before, heights_count, plan_inside}
 use Rattle.columns.specs.Sums.{limit, ceiling, cap}
-use Rattle.columns.specs.Private.{Under, Forms}
+use Rattle.columns.specs.Private.{Under, FormsHeld}
 use Rattle.columns.specs.Columns.{column_of, held_turn, turn_rule, turns, Contains}
 use Rattle.columns.specs.Whole.{known, Measured, Exact}
 use Rattle.columns.proofs.Capped.{cap_low, cap_both, cap_more, cap_rounds}
@@ -105,7 +105,7 @@ module _ {w starts : List ℕ} {n : ℕ} (v : PlanOf w starts n) where
   fun_order f g h l = in_order (g - f) f g (omega arith) h l
 
 -- The forms of a function.
-abbrev pub fun_forms : {row : List Leaf} {starts : List ℕ} {n : ℕ} → PlanOf (numbers row) starts n → (f : ℕ) → f < n → Forms row (get_or starts f 0) (get_or starts (f + 1) 0)
+abbrev pub fun_forms : {row : List Leaf} {starts : List ℕ} {n : ℕ} → PlanOf (numbers row) starts n → (f : ℕ) → f < n → FormsHeld row (get_or starts f 0) (get_or starts (f + 1) 0)
 fun_forms {row} v f lt =
     record {
       left = 62;
@@ -138,8 +138,8 @@ under_set m (x ∷ a) (suc f) v h k zero = k 0
 under_set m (x ∷ a) (suc f) v h k (suc j) = under_set m a f v h (λ i. k (suc i)) j
 
 pub measure_next : {k : Block → ℕ} {row : List Leaf} {starts : List ℕ} {n f t : ℕ} {ts o o' : List ℕ} → f < n → n ≤ 16 → PlanOf (numbers row) starts n → t ≤ ceiling
-    → ((p : Forms row (get_or starts f 0) (get_or starts (f + 1) 0)) → t ≡ cap (tally k ts p.part.lines))
-    → ((p : Forms row (get_or starts f 0) (get_or starts (f + 1) 0)) → o' ≡ sets o (get_or starts f 0) (turns k ts p.part.lines))
+    → ((p : FormsHeld row (get_or starts f 0) (get_or starts (f + 1) 0)) → t ≡ cap (tally k ts p.part.lines))
+    → ((p : FormsHeld row (get_or starts f 0) (get_or starts (f + 1) 0)) → o' ≡ sets o (get_or starts f 0) (turns k ts p.part.lines))
     → Measuring k row starts n f ts o → Measuring k row starts n (f + 1) (set ts f t) o'
 measure_next {k} {row} {starts} {n} {f} {t} {ts} {o} {o'} lt few v₀ le ht ho q =
     let s = get_or starts f 0 in

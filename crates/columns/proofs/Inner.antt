@@ -8,10 +8,10 @@ use Rattle.rows.specs.declared.Leaf.{Leaf}
 use Rattle.rows.specs.Leaves.{numbers}
 use Rattle.rows.specs.Rows.{kind_at, other_at, after_at}
 use Rattle.rows.proofs.Shape.{LeafAt, CallAt, LoopAt, IfAt, leaf_at, call_at, loop_at, if_at, ends, parts, after, body_in, then_in, else_in}
-use Rattle.columns.specs.Private.{Forms, Form}
+use Rattle.columns.specs.Private.{FormsHeld, FormHeld}
 use Rattle.columns.proofs.Sizes.{rep_kind}
 
-module _ {row : List Leaf} {i : ℕ} (z : Form row i) where
+module _ {row : List Leaf} {i : ℕ} (z : FormHeld row i) where
   abbrev w : List ℕ
   w = numbers row
 
@@ -42,7 +42,7 @@ module _ {row : List Leaf} {i : ℕ} (z : Form row i) where
       (d.0, d.1, (ends_at he).1)
 
   -- The forms inside.
-  abbrev pub body_forms : {hs : List ℕ} {left v en : ℕ} {l : Lines} → en ≡ after_at w i → LoopAt w hs left v i l → Forms row (i + 1) en
+  abbrev pub body_forms : {hs : List ℕ} {left v en : ℕ} {l : Lines} → en ≡ after_at w i → LoopAt w hs left v i l → FormsHeld row (i + 1) en
   body_forms {hs} {left} {v} he h =
       record {
         left = left - 1;
@@ -53,7 +53,7 @@ module _ {row : List Leaf} {i : ℕ} (z : Form row i) where
         few = omega (arith, ends_at he, z.few);
       }
 
-  abbrev pub then_forms : {hs : List ℕ} {left v mid : ℕ} {l : Lines} → mid ≡ other_at w i → IfAt w hs left v i l → Forms row (i + 1) mid
+  abbrev pub then_forms : {hs : List ℕ} {left v mid : ℕ} {l : Lines} → mid ≡ other_at w i → IfAt w hs left v i l → FormsHeld row (i + 1) mid
   then_forms {hs} {left} {v} hm h =
       record {
         left = left - 2;
@@ -64,7 +64,7 @@ module _ {row : List Leaf} {i : ℕ} (z : Form row i) where
         few = omega (arith, parts hm refl h, ends z.some z.part, z.few);
       }
 
-  abbrev pub else_forms : {hs : List ℕ} {left v mid en : ℕ} {l : Lines} → mid ≡ other_at w i → en ≡ after_at w i → IfAt w hs left v i l → Forms row mid en
+  abbrev pub else_forms : {hs : List ℕ} {left v mid en : ℕ} {l : Lines} → mid ≡ other_at w i → en ≡ after_at w i → IfAt w hs left v i l → FormsHeld row mid en
   else_forms {hs} {left} {v} hm he h =
       record {
         left = left - 2;
@@ -76,8 +76,8 @@ module _ {row : List Leaf} {i : ℕ} (z : Form row i) where
       }
 
 -- The first of forms, and those after it.
-module _ {row : List Leaf} {i e : ℕ} (lt : i < e) (p : Forms row i e) where
-  abbrev pub first_form : Form row i
+module _ {row : List Leaf} {i e : ℕ} (lt : i < e) (p : FormsHeld row i e) where
+  abbrev pub first_form : FormHeld row i
   first_form =
       record {
         left = p.left;
@@ -90,5 +90,5 @@ module _ {row : List Leaf} {i e : ℕ} (lt : i < e) (p : Forms row i e) where
         few = p.few;
       }
 
-  abbrev pub after_forms : {en : ℕ} → en ≡ after_at (numbers row) i → Forms row en e
+  abbrev pub after_forms : {en : ℕ} → en ≡ after_at (numbers row) i → FormsHeld row en e
   after_forms he = record { left = p.left; heights = p.heights; level = p.level; part = after lt p.part he; held = p.held; few = p.few }

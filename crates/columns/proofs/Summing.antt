@@ -14,7 +14,7 @@ use Rattle.rows.specs.First.{rest}
 use Rattle.rows.proofs.Shape.{LeafAt, CallAt, LoopAt, IfAt, no_lines}
 use Rattle.columns.specs.Sums.{ceiling, cap, lead}
 use Rattle.columns.specs.Columns.{column_of, held_turn, turn_rule, turns}
-use Rattle.columns.specs.Private.{front, Forms}
+use Rattle.columns.specs.Private.{front, FormsHeld}
 use Rattle.columns.proofs.Capped.{cap_loop}
 use Rattle.columns.proofs.Sizes.{tally_split, leaf_lead, call_lead, loop_lead, if_lead}
 use Rattle.columns.proofs.Inner.{after_forms}
@@ -71,7 +71,7 @@ module _ (k : Block → ℕ) (ts : List ℕ) where
 
 -- What a sum over the siblings has done: what it passed is in `acc` and in o, and the rest is still to come.
 pub record Passed (row : List Leaf) (k : Block → ℕ) (ts : List ℕ) (i e acc all : ℕ) (o o∞ : List ℕ) : Type 0 where
-  pub more : Forms row i e
+  pub more : FormsHeld row i e
   pub sum : cap all ≡ cap (acc + tally k ts more.part.lines)
   pub todo : sets o i (turns k ts more.part.lines) ≡ o∞
 

@@ -32,7 +32,7 @@ front u (loop_line b n body r) x = u.value (loop_line b n body r) x ∷ column_o
 front u (if_line b t e r) x = u.value (if_line b t e r) x ∷ (column_of u t x ++ column_of u e x)
 
 -- The leaves hold forms from i up to e, in which `left` brackets may open.
-pub record Forms (row : List Leaf) (i e : ℕ) : Type 0 where
+pub record FormsHeld (row : List Leaf) (i e : ℕ) : Type 0 where
   pub left : ℕ
   pub heights : List ℕ
   pub level : ℕ
@@ -41,7 +41,7 @@ pub record Forms (row : List Leaf) (i e : ℕ) : Type 0 where
   pub few : e ≤ 512
 
 -- They hold a form at i: the first of those up to `end`.
-pub record Form (row : List Leaf) (i : ℕ) : Type 0 where
+pub record FormHeld (row : List Leaf) (i : ℕ) : Type 0 where
   pub left : ℕ
   pub heights : List ℕ
   pub level : ℕ
@@ -53,13 +53,13 @@ pub record Form (row : List Leaf) (i : ℕ) : Type 0 where
 
 -- The total of forms, with the s that follows them, is within the limit, and the sums of their rounds stand in o.
 pub record Sized (k : Block → ℕ) (row : List Leaf) (ts o : List ℕ) (i e s : ℕ) : Type 0 where
-  pub forms : Forms row i e
+  pub forms : FormsHeld row i e
   pub small : tally k ts forms.part.lines + s ≤ limit
   pub noted : Contains o i (turns k ts forms.part.lines)
 
 -- The same of the form at i, which x follows.
 pub record Ready (k : Block → ℕ) (row : List Leaf) (ts o : List ℕ) (i x : ℕ) : Type 0 where
-  pub form : Form row i
+  pub form : FormHeld row i
   pub small : lead k ts form.part.lines + x ≤ limit
   pub noted : Contains o i (turns k ts form.part.lines)
 

@@ -13,7 +13,7 @@ ghost use Rattle.rows.specs.Leaves.{numbers, lent_turns, lent_tails};
 ghost use Rattle.rows.specs.Kinds.{IsKind};
 ghost use Rattle.columns.specs.declared.Cost.TheVariants.{Isolated};
 ghost use Rattle.columns.specs.Sums.{limit, ceiling, cap, cost_in, lead};
-ghost use Rattle.columns.specs.Private.{Under, front, Forms, Form, SizedIn, ReadyIn, Kept, Listed, silence_of, IsSilence, WithinLimit, first_silence};
+ghost use Rattle.columns.specs.Private.{Under, front, FormsHeld, FormHeld, SizedIn, ReadyIn, Kept, Listed, silence_of, IsSilence, WithinLimit, first_silence};
 ghost use Rattle.columns.specs.Private.{head_at, WithinLimits, SummedIn};
 ghost use Rattle.columns.specs.Private.{follow_first, DerivedIn, FirstIn, Begins, LoopFits, IfFits, FunctionAnswer};
 ghost use Rattle.columns.specs.Columns.{column_of, turn_rule, turns, tail_rule};
@@ -49,7 +49,7 @@ impl Cost {
 
 // The kind of the form at i.
 fn form_kind(row: &[Leaf], i: usize) -> Kind
-    requires { Form row.now i }
+    requires { FormHeld row.now i }
     ensures { IsKind (Some result) (kind_at (numbers row.now) i) }
 {
     kind_of(row, i).unwrap()
@@ -58,7 +58,7 @@ fn form_kind(row: &[Leaf], i: usize) -> Kind
 // The function that the call at i names.
 fn callee(row: &[Leaf], i: usize) -> usize
     requires call { kind_at (numbers row.now) i ≡ 1 }
-    requires form { Form row.now i }
+    requires form { FormHeld row.now i }
     ensures { (result ≡ detail_at (numbers row.now) i) × (result < 16) }
 {
     rows::target(row, i)
@@ -83,10 +83,10 @@ fn sum_form(
     turn: &mut [u64; MAX_LEAVES],
 ) -> u64
     requires under { Under ceiling sums.now }
-    requires form { Form row.now i }
+    requires form { FormHeld row.now i }
     ensures upper_bound { result ≤ ceiling }
-    ensures value { (p : Form row.now i) → result ≡ cap (lead (cost_in cost) sums.now p.part.lines) }
-    ensures turn_after { (p : Form row.now i)
+    ensures value { (p : FormHeld row.now i) → result ≡ cap (lead (cost_in cost) sums.now p.part.lines) }
+    ensures turn_after { (p : FormHeld row.now i)
         → turn.new ≡ sets turn.old i (front (turn_rule (cost_in cost) sums.now) p.part.lines 0) }
 {
     let c = cost.of(row, i);
@@ -121,10 +121,10 @@ fn sum_block(
     turn: &mut [u64; MAX_LEAVES],
 ) -> u64
     requires under { Under ceiling sums.now }
-    requires forms { Forms row.now from to }
+    requires forms { FormsHeld row.now from to }
     ensures upper_bound { result ≤ ceiling }
-    ensures value { (p : Forms row.now from to) → result ≡ cap (tally (cost_in cost) sums.now p.part.lines) }
-    ensures turn_after { (p : Forms row.now from to)
+    ensures value { (p : FormsHeld row.now from to) → result ≡ cap (tally (cost_in cost) sums.now p.part.lines) }
+    ensures turn_after { (p : FormsHeld row.now from to)
         → turn.new ≡ sets turn.old from (turns (cost_in cost) sums.now p.part.lines) }
 {
     let mut acc: u64 = 0;
@@ -140,7 +140,7 @@ fn sum_block(
 
 // Lists the first leaf of each form from `from` up to `to`, in text order, from seq[from] on, and returns how many there are.
 fn list(row: &[Leaf], from: usize, to: usize, seq: &mut [usize; MAX_LEAVES]) -> usize
-    requires { Forms row.now from to }
+    requires { FormsHeld row.now from to }
     ensures listed { Listed (numbers row.now) from to result seq.new }
     ensures kept { Kept from seq.old seq.new }
 {
@@ -378,10 +378,10 @@ fn stretch_flat(
 )
     requires kind { kind_at (numbers walk.now.code.row.now) i < 2 }
     requires under { WithinLimits heads.now × (s ≤ limit) }
-    requires form { Form walk.now.code.row.now i }
-    ensures out_after { (p : Form walk.now.code.row.now i) → out.new ≡ sets out.old i
+    requires form { FormHeld walk.now.code.row.now i }
+    ensures out_after { (p : FormHeld walk.now.code.row.now i) → out.new ≡ sets out.old i
         (front (stretch_rule (cost_in walk.now.cost) walk.now.sums.now (λ f x. silence_of (head_at heads.now f) x)) p.part.lines s) }
-    ensures follows_after { (p : Form walk.now.code.row.now i)
+    ensures follows_after { (p : FormHeld walk.now.code.row.now i)
         → follows.new ≡ follow_first (cost_in walk.now.cost) walk.now.sums.now p.part.lines s follows.old }
 {
     match form_kind(walk.code.row, i) {
@@ -650,8 +650,8 @@ fn start(row: &[Leaf], from: usize, to: usize, e: u64) -> u64
 // Whether d is the total of the leaf or call at i.
 fn flat_fits(lent: &Lent, i: usize, d: u64) -> bool
     requires kind { kind_at (numbers lent.now.code.row.now) i < 2 }
-    requires form { Form lent.now.code.row.now i }
-    ensures { (p : Form lent.now.code.row.now i) → Says result (d ≡ lead C lent.now.sums.now p.part.lines) }
+    requires form { FormHeld lent.now.code.row.now i }
+    ensures { (p : FormHeld lent.now.code.row.now i) → Says result (d ≡ lead C lent.now.sums.now p.part.lines) }
 {
     let c = rows::isolated(lent.code.row, i);
     match form_kind(lent.code.row, i) {
@@ -686,8 +686,8 @@ fn if_fits(row: &[Leaf], i: usize, other: usize, after: usize, t: u64, x: u64) -
 // Whether the lent numbers of the form at i are the derived ones, where x follows the form.
 #[cycle(block_fits_form_fits)]
 fn form_fits(lent: &Lent, i: usize, x: u64) -> bool
-    requires { Form lent.now.code.row.now i }
-    ensures { (p : Form lent.now.code.row.now i) → Says result (FirstIn lent.now p.part.lines i x) }
+    requires { FormHeld lent.now.code.row.now i }
+    ensures { (p : FormHeld lent.now.code.row.now i) → Says result (FirstIn lent.now p.part.lines i x) }
 {
     let row = lent.code.row;
     let t = rows::tail(row, i);
@@ -714,8 +714,8 @@ fn form_fits(lent: &Lent, i: usize, x: u64) -> bool
 #[cycle(block_fits_form_fits)]
 fn block_fits(lent: &Lent, from: usize, to: usize, e: u64) -> bool
     requires low { e ≤ limit }
-    requires forms { Forms lent.now.code.row.now from to }
-    ensures { (p : Forms lent.now.code.row.now from to)
+    requires forms { FormsHeld lent.now.code.row.now from to }
+    ensures { (p : FormsHeld lent.now.code.row.now from to)
         → Says result (DerivedIn lent.now p.part.lines from e) }
 {
     let mut i = from;

@@ -29,7 +29,7 @@ use Rattle.control.specs.declared.State.{State}
 use Rattle.control.specs.declared.Step.{Step}
 use Rattle.control.specs.State.{standing}
 use Rattle.control.specs.Calls.{read_state, on_state, on_plan, call_on, as_step}
-use Rattle.control.specs.Private.{WholeTable, GoodState, told}
+use Rattle.control.specs.Private.{WholeTable, GoodState, step_of}
 
 -- A release that does not stand anywhere stands at no levels.
 pub not_standing : (p : Plan) (o : OpenRelease) → (GoodState p o → ⊥) → standing p o ≡ none
@@ -39,10 +39,10 @@ not_standing p o h = by (standing p o) refl
     by none e = refl
     by (some ls) e = absurd (h (ls, e))
 
--- The step that is told of is what was given, or what the refusal is made.
-pub told_given : (s : State) (r : Result Step Refusal) {x : Step} {Q : Refusal → Type 0} → MatchResult r (λ y. x ≡ y) Q → ((k : Refusal) → Q k → x ≡ as_step (refuse s k)) → x ≡ told s r
-told_given s (Ok y) e u = e
-told_given s (Err k) e u = u k e
+-- The step is what was given, or what the refusal is made.
+pub step_given : (s : State) (r : Result Step Refusal) {x : Step} {Q : Refusal → Type 0} → MatchResult r (λ y. x ≡ y) Q → ((k : Refusal) → Q k → x ≡ as_step (refuse s k)) → x ≡ step_of s r
+step_given s (Ok y) e u = e
+step_given s (Err k) e u = u k e
 
 module _ (row : List Leaf) (h : Head) where
   abbrev t : Table

@@ -42,9 +42,9 @@ abbrev pub opened : ℕ → Others → OpenRelease
 opened total others = record { others = others; reading = 0; place = place_at_release; times = total ∷ replicate 32 0 }
 
 -- The step that a private function tells of: the one that it gives, or the refusal of the call, which keeps the state.
-abbrev pub told : State → Result Step Refusal → Step
-told s (Ok r) = r
-told s (Err k) = as_step (refuse s k)
+abbrev pub step_of : State → Result Step Refusal → Step
+step_of s (Ok r) = r
+step_of s (Err k) = as_step (refuse s k)
 
 -- The head is that of an accepted plan.
 pub record Headed (h : Head) : Type 0 where

@@ -19,7 +19,7 @@ ghost use Rattle.table.specs.Lent.{table_with};
 ghost use Rattle.control.specs.declared.State.TheVariants.{Idle, Open};
 ghost use Rattle.control.specs.State.{standing};
 ghost use Rattle.control.specs.Calls.{place_of, running_at, read_state, reply, on_state, call_on, as_step};
-ghost use Rattle.control.specs.Private.{terms, weighing, opened, arrived, told, Headed, Rowed, Coded, Costed, WholeTable, GoodState, GoodOnCode};
+ghost use Rattle.control.specs.Private.{terms, weighing, opened, arrived, step_of, Headed, Rowed, Coded, Costed, WholeTable, GoodState, GoodOnCode};
 ghost use Rattle.control.specs.Private.{GoodOnRow, GoodOnTable, Arriving};
 
 use model::{Answer, Call, Ending, Others, Outlook, Refusal, Word};
@@ -158,7 +158,7 @@ fn opened(total: u64, others: Others) -> OpenRelease
 // A release where none is open: unfit, or the decision.
 fn start(plan: &LentPlan) -> Result<Step, Refusal>
     requires { Rowed plan.now }
-    ensures { (q : Rowed plan.now) → told Idle result ≡ as_step (reply q.head.plan Idle idle Release) }
+    ensures { (q : Rowed plan.now) → step_of Idle result ≡ as_step (reply q.head.plan Idle idle Release) }
 {
     let head = plan.head;
     if head.deadline < head.total + head.switch {
@@ -251,7 +251,7 @@ fn reported_at(
 ) -> Result<Step, Refusal>
     requires { GoodOnTable plan.now release.now }
     ensures { (q : WholeTable plan.now) (ls : Levels) → standing q.costed.rowed.head.plan release.now ≡ some ls
-        → told (Open release.now) result
+        → step_of (Open release.now) result
         ≡ as_step (reply q.costed.rowed.head.plan (Open release.now) (running_at release.now ls) (Report point reading)) }
 {
     if !is_point(plan.code.row, point) {
@@ -284,7 +284,7 @@ fn may_close(code: &Code, release: &OpenRelease) -> bool
 fn closed_at(plan: &LentPlan, release: &OpenRelease, reading: u64) -> Result<Step, Refusal>
     requires { GoodOnRow plan.now release.now }
     ensures { (q : Rowed plan.now) (ls : Levels) → standing q.head.plan release.now ≡ some ls
-        → told (Open release.now) result
+        → step_of (Open release.now) result
         ≡ as_step (reply q.head.plan (Open release.now) (running_at release.now ls) (End reading)) }
 {
     if reading < release.reading {
@@ -303,7 +303,7 @@ fn closed_at(plan: &LentPlan, release: &OpenRelease, reading: u64) -> Result<Ste
 #[tactic(auto, unfolding(model::specs::Controller::respond))]
 fn idle_call(plan: &LentPlan, call: Call) -> Result<Step, Refusal>
     requires { Rowed plan.now }
-    ensures { (q : Rowed plan.now) → told Idle result ≡ as_step (reply q.head.plan Idle idle call) }
+    ensures { (q : Rowed plan.now) → step_of Idle result ≡ as_step (reply q.head.plan Idle idle call) }
 {
     match call {
         Call::Release => start(plan),
@@ -316,7 +316,7 @@ fn idle_call(plan: &LentPlan, call: Call) -> Result<Step, Refusal>
 fn running_call(plan: &LentPlan, release: &OpenRelease, call: Call) -> Result<Step, Refusal>
     requires { GoodOnTable plan.now release.now }
     ensures { (q : WholeTable plan.now) (ls : Levels) → standing q.costed.rowed.head.plan release.now ≡ some ls
-        → told (Open release.now) result
+        → step_of (Open release.now) result
         ≡ as_step (reply q.costed.rowed.head.plan (Open release.now) (running_at release.now ls) call) }
 {
     match call {
@@ -329,7 +329,7 @@ fn running_call(plan: &LentPlan, release: &OpenRelease, call: Call) -> Result<St
 // A call on the table of an accepted plan, by the state: broken where an open release is not good.
 fn good_call(plan: &LentPlan, state: &State, call: Call) -> Result<Step, Refusal>
     requires { WholeTable plan.now }
-    ensures { (q : WholeTable plan.now) → told state.now result
+    ensures { (q : WholeTable plan.now) → step_of state.now result
         ≡ as_step (on_state q.costed.rowed.head.plan state.now call (read_state q.costed.rowed.head.plan state.now)) }
 {
     match state {

@@ -8,7 +8,7 @@ use lib.ListN.{length, get_or, set, take, drop, length-append, length-take}
 use lib.Seq.{sets, sets-eq, take_at, take-suc}
 use borrow.Author.Tests.{eq-eqb, ne_eqb}
 use Rattle.rows.specs.declared.Leaf.{Leaf}
-use Rattle.rows.specs.Leaves.{no_leaf}
+use Rattle.rows.specs.Leaves.{blank_leaf}
 use Rattle.reader.proofs.Stores.{sets_behind}
 use Rattle.listing.specs.Private.{leaf_points, leaves_points, Collected}
 
@@ -39,7 +39,7 @@ first_none ls l = record { collected = record { stored = refl; counted = refl };
 -- A leaf more.
 module _ {ls : List Leaf} {l m : List (List ℕ)} {i count : ℕ} (f : First ls l i m count) (inside : i < length ls) where
   abbrev leaf : Leaf
-  leaf = get_or ls i no_leaf
+  leaf = get_or ls i blank_leaf
 
   first_next : (ys : List (List ℕ)) → leaf_points i leaf ≡ ys → length ys ≤ 1 → First ls l (i + 1) (sets m count ys) (count + length ys)
   first_next ys e one =
@@ -47,7 +47,7 @@ module _ {ls : List Leaf} {l m : List (List ℕ)} {i count : ℕ} (f : First ls 
       let before = leaves_points 0 us in
       let z : 0 + length us ≡ i = omega (arith, length-take i ls) in
       let more : leaves_points 0 (take (i + 1) ls) ≡ before ++ ys =
-      rw (add-one i, take-suc ls i no_leaf inside, points_append 0 us (leaf ∷ []), z) (unfold leaves_points in rw (append-nil, e) refl) in
+      rw (add-one i, take-suc ls i blank_leaf inside, points_append 0 us (leaf ∷ []), z) (unfold leaves_points in rw (append-nil, e) refl) in
       record {
         collected = record {
           stored = rw more (ap (λ (u : List (List ℕ)). sets u count ys) f.collected.stored ∙ sets_behind before ys l 0 count (omega (arith, f.collected.counted)));

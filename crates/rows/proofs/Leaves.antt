@@ -6,7 +6,7 @@ use native.Mathlib.Omega.{arith}
 use lib.ListN.{length, get_or, set, take}
 use lib.Seq.{sets}
 use Rattle.rows.specs.declared.Leaf.{Leaf}
-use Rattle.rows.specs.Leaves.{fields, numbers, lent_turns, lent_tails, lent_stretches, no_leaf}
+use Rattle.rows.specs.Leaves.{fields, numbers, lent_turns, lent_tails, lent_stretches, blank_leaf}
 use Rattle.rows.specs.Rows.{field}
 
 -- Every leaf has eight numbers.
@@ -31,7 +31,7 @@ field_first l ls (suc (suc (suc (suc (suc (suc zero)))))) h = refl
 field_first l ls (suc (suc (suc (suc (suc (suc (suc zero))))))) h = refl
 field_first l ls (suc (suc (suc (suc (suc (suc (suc (suc k)))))))) h = absurd (omega arith)
 
-field_none : (k : ℕ) → k < 8 → 0 ≡ get_or (fields no_leaf) k 0
+field_none : (k : ℕ) → k < 8 → 0 ≡ get_or (fields blank_leaf) k 0
 field_none zero h = refl
 field_none (suc zero) h = refl
 field_none (suc (suc zero)) h = refl
@@ -43,23 +43,23 @@ field_none (suc (suc (suc (suc (suc (suc (suc zero))))))) h = refl
 field_none (suc (suc (suc (suc (suc (suc (suc (suc k)))))))) h = absurd (omega arith)
 
 -- The field k of the leaf i is number k of its eight.
-pub field_of : (ls : List Leaf) (i k : ℕ) → k < 8 → field (numbers ls) i k ≡ get_or (fields (get_or ls i no_leaf)) k 0
+pub field_of : (ls : List Leaf) (i k : ℕ) → k < 8 → field (numbers ls) i k ≡ get_or (fields (get_or ls i blank_leaf)) k 0
 field_of [] i k h = field_none k h
 field_of (l ∷ ls) zero k h = let z : 0 * 8 + k ≡ k = omega arith in ap (λ (n : ℕ). get_or (numbers (l ∷ ls)) n 0) z ∙ field_first l ls k h
 field_of (l ∷ ls) (suc i) k h = field_behind l ls i k ∙ field_of ls i k h
 
 -- Its turn, tail and stretch.
-pub turn_of : (ls : List Leaf) (i : ℕ) → get_or (lent_turns ls) i 0 ≡ (get_or ls i no_leaf).turn
+pub turn_of : (ls : List Leaf) (i : ℕ) → get_or (lent_turns ls) i 0 ≡ (get_or ls i blank_leaf).turn
 turn_of [] i = refl
 turn_of (l ∷ ls) zero = refl
 turn_of (l ∷ ls) (suc i) = turn_of ls i
 
-pub tail_of : (ls : List Leaf) (i : ℕ) → get_or (lent_tails ls) i 0 ≡ (get_or ls i no_leaf).tail
+pub tail_of : (ls : List Leaf) (i : ℕ) → get_or (lent_tails ls) i 0 ≡ (get_or ls i blank_leaf).tail
 tail_of [] i = refl
 tail_of (l ∷ ls) zero = refl
 tail_of (l ∷ ls) (suc i) = tail_of ls i
 
-pub stretch_of : (ls : List Leaf) (i : ℕ) → get_or (lent_stretches ls) i 0 ≡ (get_or ls i no_leaf).stretch
+pub stretch_of : (ls : List Leaf) (i : ℕ) → get_or (lent_stretches ls) i 0 ≡ (get_or ls i blank_leaf).stretch
 stretch_of [] i = refl
 stretch_of (l ∷ ls) zero = refl
 stretch_of (l ∷ ls) (suc i) = stretch_of ls i

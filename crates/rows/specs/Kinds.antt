@@ -14,9 +14,9 @@ IsKind (Some If) n = n ≡ 3
 IsKind None n = 3 < n
 
 -- The kind that a number stands for; a number of no kind is handed back.
-abbrev pub Decodes : ℕ → Result Kind UnknownKind → Type 0
-Decodes n r = MatchResult r (λ kind. IsKind (Some kind) n) (λ e. (e.0 ≡ n) × IsKind None n)
+abbrev pub KindOfNumber : ℕ → Result Kind UnknownKind → Type 0
+KindOfNumber n r = MatchResult r (λ kind. IsKind (Some kind) n) (λ e. (e.0 ≡ n) × IsKind None n)
 
 -- The number that stands for a kind.
-abbrev pub Stands : Kind → ℕ → Type 0
-Stands kind n = IsKind (Some kind) n
+abbrev pub NumberOfKind : Kind → ℕ → Type 0
+NumberOfKind kind n = IsKind (Some kind) n

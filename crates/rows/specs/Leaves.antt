@@ -24,6 +24,6 @@ abbrev pub lent_stretches : List Leaf → List ℕ
 lent_stretches ls = map (λ (l : Leaf). l.stretch) ls
 
 -- What is taken for a leaf past the end of a row.
-abbrev pub no_leaf : Leaf
-no_leaf =
+abbrev pub blank_leaf : Leaf
+blank_leaf =
     record { kind = 0; point = 0; isolated = 0; max_load = 0; detail = 0; other = 0; after = 0; level = 0; turn = 0; tail = 0; stretch = 0 }

@@ -4,7 +4,7 @@
 ghost use Rattle.std.specs.Prelude.{◌≡◌, length, get_or};
 ghost use Prim.Native.Nat.{◌+◌, ◌<◌};
 ghost use Rattle.rows.specs.Rows.{kind_at, point_at, isolated_at, max_load_at, detail_at, other_at, after_at, level_at};
-ghost use Rattle.rows.specs.Kinds.{IsKind, Decodes, Stands};
+ghost use Rattle.rows.specs.Kinds.{IsKind, KindOfNumber, NumberOfKind};
 ghost use Rattle.rows.specs.Leaves.{numbers, lent_turns, lent_tails, lent_stretches};
 
 use std::ops::Range;
@@ -65,7 +65,7 @@ pub struct UnknownKind(pub u64);
 impl TryFrom<u64> for Kind {
     type Error = UnknownKind;
 
-    ghost try_from_gives = { Decodes };
+    ghost try_from_gives = { KindOfNumber };
 
     fn try_from(number: u64) -> Result<Self, UnknownKind> {
         match number {
@@ -80,7 +80,7 @@ impl TryFrom<u64> for Kind {
 
 // The number that stands for a kind in a record.
 impl From<Kind> for u64 {
-    ghost from_gives = { Stands };
+    ghost from_gives = { NumberOfKind };
 
     fn from(kind: Kind) -> Self {
         match kind {

@@ -12,7 +12,7 @@ use Rattle.model.specs.Plan.{Plan}
 use Rattle.model.specs.Acceptance.{sizes}
 use Rattle.reader.proofs.Theorems.{row_length}
 use Rattle.rows.specs.declared.Leaf.{Leaf}
-use Rattle.rows.specs.Leaves.{fields, numbers, no_leaf}
+use Rattle.rows.specs.Leaves.{fields, numbers, blank_leaf}
 use Rattle.rows.proofs.Leaves.{numbers_append, numbers_take}
 use Rattle.table.specs.declared.Head.{Head}
 use Rattle.table.specs.Table.{Table, head_of, table_of}
@@ -35,21 +35,21 @@ leaves_snoc t i (suc n) =
 
 -- Leaves with the derived numbers of these columns are a table's where each is.
 pub filled_is : (xs ys zs : List ℕ) (t : Table) (n : ℕ) (ls : List Leaf) → n ≤ length ls
-    → ((i : ℕ) → i < n → with_derived (get_or ls i no_leaf) (get_or xs i 0) (get_or ys i 0) (get_or zs i 0) ≡ leaf_of t i)
+    → ((i : ℕ) → i < n → with_derived (get_or ls i blank_leaf) (get_or xs i 0) (get_or ys i 0) (get_or zs i 0) ≡ leaf_of t i)
     → filled xs ys zs n ls ≡ leaves_from t 0 n ++ drop n ls
 filled_is xs ys zs t zero ls h f = refl
 filled_is xs ys zs t (suc n) ls h f =
     let before : List Leaf = leaves_from t 0 n in
     let after : List Leaf = drop (suc n) ls in
-    let x : Leaf = get_or ls n no_leaf in
+    let x : Leaf = get_or ls n blank_leaf in
     let more : Leaf → Leaf = λ (l : Leaf). with_derived l (get_or xs n 0) (get_or ys n 0) (get_or zs n 0) in
     let z : 0 + n ≡ n = omega arith in
     let w : length before ≡ n = length_leaves t 0 n in
     let us : filled xs ys zs n ls ≡ before ++ (x ∷ after) =
-    filled_is xs ys zs t n ls (le_of_lt h) (λ i k. f i (omega arith)) ∙ ap (λ (r : List Leaf). before ++ r) (drop-cons ls n no_leaf h) in
-    let here : get_or (before ++ (x ∷ after)) n no_leaf ≡ x =
-    ap (λ (k : ℕ). get_or (before ++ (x ∷ after)) k no_leaf) (sym w) ∙ get_or-append_seam before x after no_leaf in
-    ap (λ (r : List Leaf). set r n (more (get_or r n no_leaf))) us ∙
+    filled_is xs ys zs t n ls (le_of_lt h) (λ i k. f i (omega arith)) ∙ ap (λ (r : List Leaf). before ++ r) (drop-cons ls n blank_leaf h) in
+    let here : get_or (before ++ (x ∷ after)) n blank_leaf ≡ x =
+    ap (λ (k : ℕ). get_or (before ++ (x ∷ after)) k blank_leaf) (sym w) ∙ get_or-append_seam before x after blank_leaf in
+    ap (λ (r : List Leaf). set r n (more (get_or r n blank_leaf))) us ∙
     (ap (λ (l : Leaf). set (before ++ (x ∷ after)) n (more l)) here ∙
     (set_at before x after (more x) n w ∙
     (ap (λ (l : Leaf). before ++ (l ∷ after)) (f n (omega arith)) ∙

@@ -18,7 +18,7 @@ use Rattle.reader.specs.Raw.{raw_of, Written}
 use Rattle.reader.proofs.Theorems.{sound, row_length}
 use Rattle.reader.proofs.Parts.{read_behind}
 use Rattle.rows.specs.declared.Leaf.{Leaf}
-use Rattle.rows.specs.Leaves.{fields, numbers, no_leaf}
+use Rattle.rows.specs.Leaves.{fields, numbers, blank_leaf}
 use Rattle.rows.specs.Records.{row_of}
 use Rattle.rows.specs.Rows.{field}
 use Rattle.rows.proofs.Leaves.{numbers_length, numbers_take, field_of}
@@ -122,14 +122,14 @@ module _ {capacity : ℕ} {text : List ℕ} {raw : Raw} (ls : List Leaf) (c : Ca
   row_taken = numbers_take raw.leaves ls ∙ (ap (λ (n : ℕ). take (n * 8) (numbers ls)) c.leaves ∙ (c.left.row_is ∙ ap (λ (q : Plan). row_of q) of_is))
 
   -- A number of a leaf, and a number of a column, are the table's.
-  raw_at : (i k : ℕ) → k < 8 → get_or (fields (get_or own i no_leaf)) k 0 ≡ field (row_of p) i k
+  raw_at : (i k : ℕ) → k < 8 → get_or (fields (get_or own i blank_leaf)) k 0 ≡ field (row_of p) i k
   raw_at i k h = sym (field_of own i k h) ∙ ap (λ (w : List ℕ). field w i k) row_taken
 
   column_at : (part column : List ℕ) → take (sizes p.functions) column ≡ part → (i : ℕ) → i < raw.leaves → get_or column i 0 ≡ get_or part i 0
   column_at part column z i h = sym (get_or-take (sizes p.functions) column i 0 (omega (arith, leaves_are))) ∙ ap (λ (w : List ℕ). get_or w i 0) z
 
   -- So the leaf i is, once its derived numbers are written.
-  leaf_read : (i : ℕ) → i < raw.leaves → with_derived (get_or own i no_leaf) (get_or xs i 0) (get_or ys i 0) (get_or zs i 0) ≡ leaf_of (table_of p) i
+  leaf_read : (i : ℕ) → i < raw.leaves → with_derived (get_or own i blank_leaf) (get_or xs i 0) (get_or ys i 0) (get_or zs i 0) ≡ leaf_of (table_of p) i
   leaf_read i h =
       λ j. record {
         kind = raw_at i 0 (omega arith) j;

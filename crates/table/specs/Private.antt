@@ -4,7 +4,7 @@ use Rattle.std.specs.Prelude.{true, false, List, ◌≡◌, ℕ, zero, suc, ◌^
 use Rattle.model.specs.Plan.{Plan}
 use Rattle.model.specs.Acceptance.{sizes}
 use Rattle.rows.specs.declared.Leaf.{Leaf}
-use Rattle.rows.specs.Leaves.{lent_turns, lent_tails, lent_stretches, no_leaf}
+use Rattle.rows.specs.Leaves.{lent_turns, lent_tails, lent_stretches, blank_leaf}
 use Rattle.reader.specs.declared.Raw.{Raw}
 use Rattle.table.specs.declared.Head.{Head}
 use Rattle.table.specs.declared.Derived.{Derived}
@@ -67,7 +67,7 @@ abbrev pub filled : List ℕ → List ℕ → List ℕ → ℕ → List Leaf →
 filled turns tails stretches zero ls = ls
 filled turns tails stretches (suc i) ls =
     let us = filled turns tails stretches i ls in
-    set us i (with_derived (get_or us i no_leaf) (get_or turns i 0) (get_or tails i 0) (get_or stretches i 0))
+    set us i (with_derived (get_or us i blank_leaf) (get_or turns i 0) (get_or tails i 0) (get_or stretches i 0))
 
 -- The head made of raw and derived numbers.
 abbrev pub headed : Raw → Derived → Head

@@ -7,7 +7,7 @@ use Rattle.std.proofs.lemmas.List.Edits.{sets}
 use Rattle.std.proofs.Math.Seq.{map-set_same}
 use Rattle.model.specs.Places.{bit}
 use Rattle.rows.specs.declared.Leaf.{Leaf}
-use Rattle.rows.specs.Leaves.{fields, numbers, no_leaf}
+use Rattle.rows.specs.Leaves.{fields, numbers, blank_leaf}
 use Rattle.rows.proofs.Leaves.{numbers_set}
 use Rattle.reader.specs.Private.{record_of}
 use Rattle.reader.proofs.put.Goals.{in-Leaf, in-Call, in-Loop, in-If}
@@ -22,7 +22,7 @@ abbrev stored : goal.After-from-2 → Leaf
 stored c =
     let a = c.args in
     let t = c.match-form.kind in
-    let l = get_or a.row.now a.number no_leaf in
+    let l = get_or a.row.now a.number blank_leaf in
     record {
       kind = c.from.result;
       point = bit t.1;
@@ -55,7 +55,7 @@ returns-clause-keeps c =
     let row = c.args.row.now in
     let i = c.args.number in
     rw (c.from-2.ensures, bool_is c.match-form.kind.1) (λ j. (
-      map-set_same (λ (l : Leaf). l.turn) row i (stored c) no_leaf refl j,
-      map-set_same (λ (l : Leaf). l.tail) row i (stored c) no_leaf refl j,
-      map-set_same (λ (l : Leaf). l.stretch) row i (stored c) no_leaf refl j,
+      map-set_same (λ (l : Leaf). l.turn) row i (stored c) blank_leaf refl j,
+      map-set_same (λ (l : Leaf). l.tail) row i (stored c) blank_leaf refl j,
+      map-set_same (λ (l : Leaf). l.stretch) row i (stored c) blank_leaf refl j,
     ))

@@ -4,12 +4,12 @@ use Rattle.std.specs.Prelude.{ℕ, Result, Ok, Err}
 use Rattle.std.specs.Result.{result_ok}
 use Rattle.rows.specs.declared.Kind.{Kind}
 use Rattle.rows.specs.declared.UnknownKind.{UnknownKind}
-use Rattle.rows.specs.Kinds.{IsKind, Decodes}
+use Rattle.rows.specs.Kinds.{IsKind, KindOfNumber}
 use Rattle.rows.proofs.Leaves.{field_of}
 use Rattle.rows.proofs.kind_of.Goals as goal
 
 -- The kind, where there is one.
-known : (n : ℕ) (r : Result Kind UnknownKind) → Decodes n r → IsKind (result_ok r) n
+known : (n : ℕ) (r : Result Kind UnknownKind) → KindOfNumber n r → IsKind (result_ok r) n
 known n (Ok kind) d = d
 known n (Err e) d = d.1
 
