@@ -7,6 +7,7 @@ use crate::jobs::{jobs, Call};
 use crate::memory::{Head, Leaf, Reply, State, FUNCTIONS, LEVELS};
 use crate::plans::Plan;
 use crate::random::{random_text, spoil, Random};
+use crate::reference::place::Place;
 use crate::sides::{Side, PROVED, REFERENCE};
 
 const TEXTS: usize = 3_000;
@@ -25,6 +26,9 @@ pub struct Tally {
     words: [usize; 6],
     /// The words of decisions after which no point could come; go, suspend and stay are the first three behind that of refusals.
     final_words: [usize; 6],
+    /// The stretch of each point's last visit in a history, and how often it was another at the next.
+    stretches: BTreeMap<u64, u64>,
+    differing: usize,
 }
 
 impl Tally {
@@ -50,6 +54,7 @@ impl Tally {
         let head = Head {
             deadline: random.next(),
             totals: [random.next(); FUNCTIONS],
+            max_load_totals: [random.next(); FUNCTIONS],
             ..Head::default()
         };
         let (mut proved_row, mut proved_head) = (row.clone(), head);
@@ -83,12 +88,18 @@ impl Tally {
         (by_reference, reply)
     }
 
-    /// Counts a decision with this stretch, if it was a final one. Every plan here has a switch cost, so the margin of another is smaller.
-    fn note_final(&mut self, head: &Head, stretch: u64, reading: u64, reply: &Reply) {
-        let taken = i128::from(reading) + i128::from(stretch);
-        let is_final = i128::from(reply.margin) == i128::from(head.deadline) - taken;
-        if is_final && reply.word > 0 {
-            self.final_words[reply.word as usize] += 1;
+    /// Counts a decision that left this state, if it was a final one, and a visit whose stretch is another than that of the same point before.
+    fn note_decision(&mut self, row: &[Leaf], head: &Head, state: &State, reply: &Reply) {
+        if reply.word == 0 {
+            return;
+        }
+        let row = &row[..head.leaves];
+        let ahead = Place { row, head, state }.ahead();
+        self.final_words[reply.word as usize] += usize::from(ahead.is_final());
+        if state.level > 0 {
+            let point = state.leaves[state.level as usize];
+            let before = self.stretches.insert(point, ahead.stretch());
+            self.differing += usize::from(before.is_some_and(|before| before != ahead.stretch()));
         }
     }
 
@@ -96,7 +107,7 @@ impl Tally {
         let (after, reply) = self.call("release", state, |side, state| {
             (side.release)(row, head, state)
         });
-        self.note_final(head, head.stretch, 0, &reply);
+        self.note_decision(row, head, &after, &reply);
         after
     }
 
@@ -111,9 +122,7 @@ impl Tally {
         let (after, reply) = self.call("report", state, |side, state| {
             (side.report)(row, head, state, point, reading)
         });
-        if let Some(leaf) = row.get(point as usize) {
-            self.note_final(head, leaf.stretch, reading, &reply);
-        }
+        self.note_decision(row, head, &after, &reply);
         after
     }
 
@@ -135,7 +144,7 @@ fn junk_leaf(random: &mut Random) -> Leaf {
     Leaf {
         kind: random.next(),
         after: random.next(),
-        stretch: random.next(),
+        max_load_turn: random.next(),
         ..Leaf::default()
     }
 }
@@ -162,7 +171,7 @@ fn damage_leaf(random: &mut Random, leaf: &mut Leaf) {
         &mut leaf.level,
         &mut leaf.turn,
         &mut leaf.tail,
-        &mut leaf.stretch,
+        &mut leaf.max_load_turn,
     ];
     let at = random.index(fields.len());
     if let Some(field) = fields.into_iter().nth(at) {
@@ -177,7 +186,7 @@ fn damage_head(random: &mut Random, head: &mut Head) {
         1 => head.switching = moved(random, head.switching),
         2 => head.total = moved(random, head.total),
         3 => head.max_load_total = moved(random, head.max_load_total),
-        4 => head.stretch = moved(random, head.stretch),
+        4 => head.max_load_totals[at] = moved(random, head.max_load_totals[at]),
         5 => head.leaves = moved(random, head.leaves as u64) as usize,
         6 => head.functions = moved(random, head.functions as u64) as usize,
         7 => head.bounds[at + 1] = moved(random, head.bounds[at + 1]),
@@ -235,6 +244,7 @@ fn guess(random: &mut Random, row: &[Leaf], state: &State) -> u64 {
 }
 
 fn history(tally: &mut Tally, random: &mut Random, row: &[Leaf], head: &Head) {
+    tally.stretches.clear();
     let mut state = tally.release(row, head, &State::FRESH);
     tally.all_calls(row, head, &State::FRESH, 0);
     if state.running == 0 {
@@ -382,18 +392,24 @@ pub fn agree(plans: &[Plan]) -> Tally {
         refusals,
         words,
         final_words,
+        differing,
         ..
     } = &tally;
     println!("answers by refusal, 0 for none: {refusals:?}");
     println!("answers of calls by word, 0 for refused: {words:?}");
     println!("answers of final decisions by word: {final_words:?}");
+    println!("visits with another stretch than the last of the same point: {differing}");
     // 18 is for lines of logs.
     let mut numbers = (0..=17).chain([19]);
     let all_met = numbers.all(|number| refusals.contains_key(&number)) && !words.contains(&0);
     let finals_met = !final_words[1..=3].contains(&0);
+    let visits_met = *differing > 0;
     tally.note(all_met, || "not every refusal and word was met".to_string());
     tally.note(finals_met, || {
         "not every word of a final decision was met".to_string()
+    });
+    tally.note(visits_met, || {
+        "no point was met whose visits have different stretches".to_string()
     });
     tally
 }

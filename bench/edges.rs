@@ -240,10 +240,7 @@ fn costless_points() -> Vec<Passed> {
         table
     };
     let mut all: Vec<Passed> = (0..4).map(|at| reported(&text, at)).collect();
-    // What was the release's stretch is the point's.
-    let mut loaded = reported(&one(&["(leaf s 0 7)"]), 0);
-    (loaded.row[0].stretch, loaded.head.stretch) = (7, 0);
-    all.push(loaded);
+    all.push(reported(&one(&["(leaf s 0 7)"]), 0));
     all
 }
 

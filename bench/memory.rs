@@ -30,7 +30,7 @@ pub struct Leaf {
     pub level: u64,
     pub turn: u64,
     pub tail: u64,
-    pub stretch: u64,
+    pub max_load_turn: u64,
 }
 
 #[repr(C)]
@@ -40,11 +40,11 @@ pub struct Head {
     pub switching: u64,
     pub total: u64,
     pub max_load_total: u64,
-    pub stretch: u64,
     pub leaves: usize,
     pub functions: usize,
     pub bounds: [u64; FUNCTIONS + 1],
     pub totals: [u64; FUNCTIONS],
+    pub max_load_totals: [u64; FUNCTIONS],
 }
 
 #[repr(C)]

@@ -27,11 +27,11 @@ extern "C" {
 #endif
 
 /* The version of this header, to be compared by #if: 10000 * major + 100 * minor + patch. The library carries none: take both from one dist/. */
-#define ROLSIPAY_VERSION 10302            /* 1.3.2 */
+#define ROLSIPAY_VERSION 10400            /* 1.4.0 */
 
 /* The most stack that a call takes, in bytes, whatever it is given; docs/MEMORY.md tells how it was measured. */
-#define ROLSIPAY_STACK_READ 88064         /* rolsipay_read */
-#define ROLSIPAY_STACK_CALL 28672         /* rolsipay_release, rolsipay_report and rolsipay_end, each */
+#define ROLSIPAY_STACK_READ 83968         /* rolsipay_read */
+#define ROLSIPAY_STACK_CALL 14336         /* rolsipay_release, rolsipay_report and rolsipay_end, each */
 
 /* The limits. Of a longer row only the first ROLSIPAY_LEAVES records are used. */
 #define ROLSIPAY_TEXT 65536               /* bytes of a plan's text */
@@ -74,30 +74,30 @@ extern "C" {
 
 /* A leaf's record: 88 bytes. */
 typedef struct {
-    uint64_t kind;     /* 0 leaf, 1 call, 2 loop, 3 if */
-    uint64_t point;    /* 1 for a point, 0 for a silent leaf */
-    uint64_t isolated; /* cost of a visit alone */
-    uint64_t max_load; /* cost of a visit under load */
-    uint64_t detail;   /* bound of a loop, target of a call, else 0 */
-    uint64_t other;    /* first leaf of an if's else part, else 0 */
-    uint64_t after;    /* first leaf after the form */
-    uint64_t level;    /* level in its own function */
-    uint64_t turn;     /* of a loop: isolated cost of a round, else 0 */
-    uint64_t tail;     /* largest isolated cost from a first visit to the end of its own function */
-    uint64_t stretch;  /* of a point: largest cost under load up to the next point or the end, else 0 */
+    uint64_t kind;          /* 0 leaf, 1 call, 2 loop, 3 if */
+    uint64_t point;         /* 1 for a point, 0 for a silent leaf */
+    uint64_t isolated;      /* cost of a visit alone */
+    uint64_t max_load;      /* cost of a visit under load */
+    uint64_t detail;        /* bound of a loop, target of a call, else 0 */
+    uint64_t other;         /* first leaf of an if's else part, else 0 */
+    uint64_t after;         /* first leaf after the form */
+    uint64_t level;         /* level in its own function */
+    uint64_t turn;          /* of a loop: largest isolated cost of a round, its condition and one pass of its body, else 0 */
+    uint64_t tail;          /* largest isolated cost from a first visit to the end of its own function */
+    uint64_t max_load_turn; /* of a loop: largest cost of a round under load, else 0 */
 } rolsipay_leaf;
 
-/* What stands beside the row: 320 bytes. */
+/* What stands beside the row: 440 bytes. */
 typedef struct {
     uint64_t deadline;
     uint64_t switching;      /* switch cost */
     uint64_t total;          /* largest isolated cost of a run */
     uint64_t max_load_total; /* largest cost of a run under load */
-    uint64_t stretch;        /* of the release */
     size_t leaves;
     size_t functions;
-    uint64_t bounds[ROLSIPAY_FUNCTIONS + 1];
-    uint64_t totals[ROLSIPAY_FUNCTIONS];
+    uint64_t bounds[ROLSIPAY_FUNCTIONS + 1];      /* of each function the first leaf, then the leaf after the last one, 0 behind */
+    uint64_t totals[ROLSIPAY_FUNCTIONS];          /* largest isolated cost of each function, 0 behind */
+    uint64_t max_load_totals[ROLSIPAY_FUNCTIONS]; /* largest cost of each function under load, 0 behind */
 } rolsipay_head;
 
 /* The running state: 824 bytes. A fresh state is all zeros. In the first two numbers 0 says no, and any other number yes. */
@@ -119,8 +119,9 @@ typedef struct {
 
 /* What a call answers: the word, and a refusal's number, else 0; of an accepted release or report the remaining time and the margin; of every accepted call 1
  * if the reading exceeds the deadline, else 0. The margin is deadline - reading - remaining - stretch - switch cost. Where no run with these reports meets a
- * further point, the release or report is final, and the margin is deadline - reading - stretch; remaining is given there too. A margin below -2^62 is given as
- * -2^62. */
+ * further point, the release or report is final, and the margin is deadline - reading - stretch; remaining is given there too. The stretch is the largest cost
+ * under load up to the next point or the end, of a report from this visit on, over all runs with these reports, of a release from the start. A margin below
+ * -2^62 is given as -2^62. */
 typedef struct {
     uint64_t word;
     uint64_t number;
@@ -133,11 +134,12 @@ typedef struct {
  * what should hold. */
 typedef char rolsipay_leaf_has_88_bytes[sizeof(rolsipay_leaf) == 88 ? 1 : -1];
 typedef char rolsipay_leaf_after_is_at_48[offsetof(rolsipay_leaf, after) == 48 ? 1 : -1];
-typedef char rolsipay_leaf_stretch_is_at_80[offsetof(rolsipay_leaf, stretch) == 80 ? 1 : -1];
-typedef char rolsipay_head_has_320_bytes[sizeof(rolsipay_head) == 320 ? 1 : -1];
-typedef char rolsipay_head_leaves_is_at_40[offsetof(rolsipay_head, leaves) == 40 ? 1 : -1];
-typedef char rolsipay_head_bounds_is_at_56[offsetof(rolsipay_head, bounds) == 56 ? 1 : -1];
-typedef char rolsipay_head_totals_is_at_192[offsetof(rolsipay_head, totals) == 192 ? 1 : -1];
+typedef char rolsipay_leaf_max_load_turn_is_at_80[offsetof(rolsipay_leaf, max_load_turn) == 80 ? 1 : -1];
+typedef char rolsipay_head_has_440_bytes[sizeof(rolsipay_head) == 440 ? 1 : -1];
+typedef char rolsipay_head_leaves_is_at_32[offsetof(rolsipay_head, leaves) == 32 ? 1 : -1];
+typedef char rolsipay_head_bounds_is_at_48[offsetof(rolsipay_head, bounds) == 48 ? 1 : -1];
+typedef char rolsipay_head_totals_is_at_184[offsetof(rolsipay_head, totals) == 184 ? 1 : -1];
+typedef char rolsipay_head_max_load_totals_is_at_312[offsetof(rolsipay_head, max_load_totals) == 312 ? 1 : -1];
 typedef char rolsipay_state_has_824_bytes[sizeof(rolsipay_state) == 824 ? 1 : -1];
 typedef char rolsipay_state_leaves_is_at_32[offsetof(rolsipay_state, leaves) == 32 ? 1 : -1];
 typedef char rolsipay_state_times_is_at_560[offsetof(rolsipay_state, times) == 560 ? 1 : -1];

@@ -1,7 +1,7 @@
 //! Release, report and end. Each comes in two forms: one checks the lent table, the other is given what the check found.
 
 use super::check::table;
-use super::place::{Next, Place};
+use super::place::{Ahead, Next, Place};
 use crate::memory::{Head, Leaf, Reply, State};
 
 const BROKEN: u64 = 11;
@@ -32,23 +32,12 @@ fn refused(number: u64) -> Reply {
     }
 }
 
-/// What a decision weighs beside the reading.
-struct Weighed {
-    remaining: u64,
-    stretch: u64,
-    /// Whether no run meets a further point.
-    is_final: bool,
-}
-
-fn decide(head: &Head, weighed: &Weighed, reading: u64, suspended: bool) -> Reply {
-    let &Weighed {
-        remaining, stretch, ..
-    } = weighed;
-    let reserve = match weighed.is_final {
+fn decide(head: &Head, remaining: u64, ahead: Ahead, reading: u64, suspended: bool) -> Reply {
+    let reserve = match ahead.is_final() {
         true => 0,
         false => remaining + head.switching,
     };
-    let needed = stretch + reserve;
+    let needed = ahead.stretch() + reserve;
     let margin = i128::from(head.deadline) - i128::from(reading) - i128::from(needed);
     let word = match suspended {
         true => STAY,
@@ -79,12 +68,8 @@ pub fn release_on(row: Option<&[Leaf]>, head: &Head, state: &mut State) -> Reply
     if head.total + head.switching > head.deadline {
         return refused(UNFIT);
     }
-    let weighed = Weighed {
-        remaining: head.total,
-        stretch: head.stretch,
-        is_final: Place { row, head, state }.is_silent(),
-    };
-    let reply = decide(head, &weighed, 0, false);
+    let ahead = Place { row, head, state }.from_start();
+    let reply = decide(head, head.total, ahead, 0, false);
     *state = State::FRESH;
     state.running = 1;
     state.suspended = (reply.word == SUSPEND).into();
@@ -136,13 +121,10 @@ pub fn report_on(
     let Some(next) = place.next(leaf) else {
         return refused(ASTRAY);
     };
-    let weighed = Weighed {
-        remaining: place.time(next.level, leaf, next.earlier),
-        stretch: row[leaf].stretch,
-        is_final: place.is_final(&next, leaf),
-    };
-    let reply = decide(head, &weighed, reading, state.suspended != 0);
-    move_on(state, &next, point, weighed.remaining);
+    let remaining = place.time(next.level, leaf, next.earlier);
+    let ahead = place.from_visit(leaf, &next);
+    let reply = decide(head, remaining, ahead, reading, state.suspended != 0);
+    move_on(state, &next, point, remaining);
     state.suspended = (reply.word != GO).into();
     state.reading = reading;
     reply
@@ -173,7 +155,7 @@ pub fn end_on(row: Option<&[Leaf]>, head: &Head, state: &mut State, reading: u64
     if reading < state.reading {
         return refused(BACKWARD);
     }
-    if !place.can_end() {
+    if !place.ahead().can_end() {
         return refused(ASTRAY);
     }
     let word = if state.suspended != 0 { RESUME } else { ENDED };

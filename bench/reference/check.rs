@@ -117,8 +117,8 @@ fn derived(row: &[Leaf], head: &Head) -> bool {
         Some(derived) => {
             derived.total == head.total
                 && derived.max_load_total == head.max_load_total
-                && derived.stretch == head.stretch
                 && derived.totals == head.totals
+                && derived.max_load_totals == head.max_load_totals
         }
         None => false,
     }

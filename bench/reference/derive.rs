@@ -1,4 +1,4 @@
-//! The derived numbers of a plan's row in linear time: sums first, forms within forms, then tails and stretches from the last form to the first.
+//! The derived numbers of a plan's row in linear time: sums at both costs first, forms within forms, then tails from the last form to the first.
 
 use super::MOST_TIME;
 use crate::memory::{Leaf, CALL, FUNCTIONS, LEAF, LEAVES, LOOP};
@@ -9,8 +9,8 @@ const HELD: u64 = 1 << 41;
 /// The row with its derived columns: they are written, or compared with what stands there.
 pub trait Columns {
     fn row(&self) -> &[Leaf];
-    fn turn(&mut self, leaf: usize, turn: u64);
-    fn tail_and_stretch(&mut self, leaf: usize, tail: u64, stretch: u64);
+    fn turns(&mut self, leaf: usize, turn: u64, max_load_turn: u64);
+    fn tail(&mut self, leaf: usize, tail: u64);
     /// Whether no difference was found.
     fn same(&self) -> bool;
 }
@@ -22,13 +22,13 @@ impl Columns for Written<'_> {
         self.0
     }
 
-    fn turn(&mut self, leaf: usize, turn: u64) {
+    fn turns(&mut self, leaf: usize, turn: u64, max_load_turn: u64) {
         self.0[leaf].turn = turn;
+        self.0[leaf].max_load_turn = max_load_turn;
     }
 
-    fn tail_and_stretch(&mut self, leaf: usize, tail: u64, stretch: u64) {
+    fn tail(&mut self, leaf: usize, tail: u64) {
         self.0[leaf].tail = tail;
-        self.0[leaf].stretch = stretch;
     }
 
     fn same(&self) -> bool {
@@ -46,12 +46,13 @@ impl Columns for Compared<'_> {
         self.row
     }
 
-    fn turn(&mut self, leaf: usize, turn: u64) {
-        self.same &= self.row[leaf].turn == turn;
+    fn turns(&mut self, leaf: usize, turn: u64, max_load_turn: u64) {
+        let leaf = &self.row[leaf];
+        self.same &= leaf.turn == turn && leaf.max_load_turn == max_load_turn;
     }
 
-    fn tail_and_stretch(&mut self, leaf: usize, tail: u64, stretch: u64) {
-        self.same &= self.row[leaf].tail == tail && self.row[leaf].stretch == stretch;
+    fn tail(&mut self, leaf: usize, tail: u64) {
+        self.same &= self.row[leaf].tail == tail;
     }
 
     fn same(&self) -> bool {
@@ -62,8 +63,8 @@ impl Columns for Compared<'_> {
 pub struct Derived {
     pub total: u64,
     pub max_load_total: u64,
-    pub stretch: u64,
     pub totals: [u64; FUNCTIONS],
+    pub max_load_totals: [u64; FUNCTIONS],
 }
 
 #[derive(Clone, Copy, Default)]
@@ -72,40 +73,11 @@ struct Sums {
     max_load: u64,
 }
 
-/// What comes behind a form: the tail there, and the largest cost under load up to the next point or the end.
-#[derive(Clone, Copy, Default)]
-struct Behind {
-    tail: u64,
-    silence: u64,
-}
-
-/// A silent way through forms as a function of the silence behind them: `hit` where it meets a point, `pass` if it can pass.
-#[derive(Clone, Copy, Default)]
-struct Quiet {
-    hit: u64,
-    pass: Option<u64>,
-}
-
-impl Quiet {
-    fn before(self, silence: u64) -> u64 {
-        match self.pass {
-            Some(pass) => self.hit.max(pass + silence),
-            None => self.hit,
-        }
-    }
-}
-
 struct Deriving<'a, C> {
     columns: C,
     bounds: &'a [u64; FUNCTIONS + 1],
     totals: [u64; FUNCTIONS],
-    loads: [u64; FUNCTIONS],
-    /// From the start of each function.
-    quiet: [Quiet; FUNCTIONS],
-    /// The largest silence behind a call of each function.
-    behind: [u64; FUNCTIONS],
-    /// The cost of a round under load, of each loop.
-    max_load_turns: [u64; LEAVES],
+    max_load_totals: [u64; FUNCTIONS],
     /// The forms of the sequences being walked back, each from the place of its first on.
     order: [u16; LEAVES],
 }
@@ -131,20 +103,20 @@ impl<C: Columns> Deriving<'_, C> {
         let leaf = &self.columns.row()[at];
         let (isolated, max_load, detail) = (leaf.isolated, leaf.max_load, leaf.detail);
         let (other, after) = (leaf.other as usize, leaf.after as usize);
-        let mut turn = 0;
+        let (mut turn, mut max_load_turn) = (0, 0);
         let inside = match leaf.kind {
             LEAF => Sums::default(),
             CALL => Sums {
                 isolated: self.totals[detail as usize],
-                max_load: self.loads[detail as usize],
+                max_load: self.max_load_totals[detail as usize],
             },
             LOOP => {
                 let body = self.sums(at + 1, after);
                 turn = isolated + body.isolated;
-                self.max_load_turns[at] = max_load + body.max_load;
+                max_load_turn = max_load + body.max_load;
                 Sums {
                     isolated: detail * turn,
-                    max_load: detail * (max_load + body.max_load),
+                    max_load: detail * max_load_turn,
                 }
             }
             _ => {
@@ -156,58 +128,15 @@ impl<C: Columns> Deriving<'_, C> {
                 }
             }
         };
-        self.columns.turn(at, turn);
+        self.columns.turns(at, turn, max_load_turn);
         Sums {
             isolated: (isolated + inside.isolated).min(HELD),
             max_load: (max_load + inside.max_load).min(HELD),
         }
     }
 
-    /// The silent way through the forms, up to the first that is a point.
-    fn quiet(&self, from: usize, to: usize) -> Quiet {
-        let (mut hit, mut pass) = (0, 0);
-        let mut at = from;
-        while at < to {
-            let form = self.quiet_of_form(at);
-            hit = hit.max(pass + form.hit);
-            match form.pass {
-                Some(more) => pass += more,
-                None => return Quiet { hit, pass: None },
-            }
-            at = self.after(at);
-        }
-        Quiet {
-            hit,
-            pass: Some(pass),
-        }
-    }
-
-    fn quiet_of_form(&self, at: usize) -> Quiet {
-        let leaf = &self.columns.row()[at];
-        if leaf.point == 1 {
-            return Quiet::default();
-        }
-        let inside = match leaf.kind {
-            LEAF => 0,
-            CALL => self.loads[leaf.detail as usize],
-            LOOP => leaf.detail * self.max_load_turns[at],
-            _ => {
-                let first = self.quiet(at + 1, leaf.other as usize);
-                let second = self.quiet(leaf.other as usize, leaf.after as usize);
-                return Quiet {
-                    hit: leaf.max_load + first.hit.max(second.hit),
-                    pass: first.pass.max(second.pass).map(|pass| leaf.max_load + pass),
-                };
-            }
-        };
-        Quiet {
-            hit: 0,
-            pass: Some(leaf.max_load + inside),
-        }
-    }
-
-    /// Tails and stretches of the forms, and what comes behind what is in front of them.
-    fn back(&mut self, from: usize, to: usize, mut behind: Behind) -> Behind {
+    /// Tails of the forms with this tail behind them; gives that of the first.
+    fn back(&mut self, from: usize, to: usize, mut tail: u64) -> u64 {
         let mut count = 0;
         let mut at = from;
         while at < to {
@@ -216,57 +145,30 @@ impl<C: Columns> Deriving<'_, C> {
             at = self.after(at);
         }
         for place in (from..from + count).rev() {
-            behind = self.back_over_form(self.order[place].into(), behind);
+            tail = self.back_over_form(self.order[place].into(), tail);
         }
-        behind
+        tail
     }
 
-    fn back_over_form(&mut self, at: usize, behind: Behind) -> Behind {
+    fn back_over_form(&mut self, at: usize, behind: u64) -> u64 {
         let leaf = &self.columns.row()[at];
-        let (point, max_load) = (leaf.point == 1, leaf.max_load);
-        let (tail, next, unseen) = match leaf.kind {
-            LEAF => (leaf.isolated + behind.tail, behind.silence, behind.silence),
-            CALL => self.back_over_call(at, behind),
-            LOOP => self.back_over_loop(at, behind),
-            _ => self.back_over_if(at, behind),
+        let (isolated, turn, detail) = (leaf.isolated, leaf.turn, leaf.detail);
+        let (other, after) = (leaf.other as usize, leaf.after as usize);
+        let tail = match leaf.kind {
+            LEAF => isolated + behind,
+            CALL => isolated + self.totals[detail as usize] + behind,
+            LOOP => {
+                let tail = isolated + detail * turn + behind;
+                self.back(at + 1, after, tail - turn);
+                tail
+            }
+            _ => {
+                let first = self.back(at + 1, other, behind);
+                isolated + first.max(self.back(other, after, behind))
+            }
         };
-        let stretch = if point { max_load + next } else { 0 };
-        self.columns.tail_and_stretch(at, tail, stretch);
-        let silence = if point { 0 } else { max_load + unseen };
-        Behind { tail, silence }
-    }
-
-    /// The tail; the silence behind a visit; and, if the leaf is silent, that up to a point behind the form.
-    fn back_over_call(&mut self, at: usize, behind: Behind) -> (u64, u64, u64) {
-        let leaf = &self.columns.row()[at];
-        let target = leaf.detail as usize;
-        let tail = leaf.isolated + self.totals[target] + behind.tail;
-        self.behind[target] = self.behind[target].max(behind.silence);
-        let next = self.quiet[target].before(behind.silence);
-        (tail, next, self.loads[target] + behind.silence)
-    }
-
-    fn back_over_loop(&mut self, at: usize, behind: Behind) -> (u64, u64, u64) {
-        let leaf = &self.columns.row()[at];
-        let (detail, after) = (leaf.detail, leaf.after as usize);
-        let tail = leaf.isolated + detail * leaf.turn + behind.tail;
-        // The loop's next visit follows its body: a point, where one is inside.
-        let round = Behind {
-            tail: tail - leaf.turn,
-            silence: 0,
-        };
-        let body = self.back(at + 1, after, round);
-        let unseen = detail * self.max_load_turns[at] + behind.silence;
-        (tail, behind.silence.max(body.silence), unseen)
-    }
-
-    fn back_over_if(&mut self, at: usize, behind: Behind) -> (u64, u64, u64) {
-        let leaf = &self.columns.row()[at];
-        let (isolated, other, after) = (leaf.isolated, leaf.other as usize, leaf.after as usize);
-        let first = self.back(at + 1, other, behind);
-        let second = self.back(other, after, behind);
-        let silence = first.silence.max(second.silence);
-        (isolated + first.tail.max(second.tail), silence, silence)
+        self.columns.tail(at, tail);
+        tail
     }
 
     fn span(&self, function: usize) -> (usize, usize) {
@@ -282,26 +184,22 @@ impl<C: Columns> Deriving<'_, C> {
             let (from, to) = self.span(function);
             let sums = self.sums(from, to);
             self.totals[function] = sums.isolated;
-            self.loads[function] = sums.max_load;
+            self.max_load_totals[function] = sums.max_load;
         }
-        let (total, max_load_total) = (self.totals[functions - 1], self.loads[functions - 1]);
+        let main = functions - 1;
+        let (total, max_load_total) = (self.totals[main], self.max_load_totals[main]);
         if total > MOST_TIME || max_load_total > MOST_TIME || !self.columns.same() {
             return None;
         }
         for function in 0..functions {
             let (from, to) = self.span(function);
-            self.quiet[function] = self.quiet(from, to);
-        }
-        for function in (0..functions).rev() {
-            let (from, to) = self.span(function);
-            let silence = self.behind[function];
-            self.back(from, to, Behind { tail: 0, silence });
+            self.back(from, to, 0);
         }
         self.columns.same().then_some(Derived {
             total,
             max_load_total,
-            stretch: self.quiet[functions - 1].before(0),
             totals: self.totals,
+            max_load_totals: self.max_load_totals,
         })
     }
 }
@@ -316,10 +214,7 @@ pub fn derive<C: Columns>(
         columns,
         bounds,
         totals: [0; FUNCTIONS],
-        loads: [0; FUNCTIONS],
-        quiet: [Quiet::default(); FUNCTIONS],
-        behind: [0; FUNCTIONS],
-        max_load_turns: [0; LEAVES],
+        max_load_totals: [0; FUNCTIONS],
         order: [0; LEAVES],
     };
     deriving.whole(functions)

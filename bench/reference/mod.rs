@@ -4,7 +4,7 @@ pub mod calls;
 pub mod check;
 mod derive;
 mod lines;
-mod place;
+pub mod place;
 mod read;
 
 pub use calls::{end, release, report};

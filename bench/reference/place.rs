@@ -13,13 +13,66 @@ enum Sight {
     Meet,
 }
 
-/// Where a run comes when it has left a form in silence.
-#[derive(PartialEq, Eq)]
-enum Fall {
-    /// To the point that is looked for, at this level.
-    Level(usize),
-    End,
-    Elsewhere,
+/// What silence leads to from a place on, over all ways.
+#[derive(Clone, Copy)]
+pub struct Ahead {
+    /// The largest cost under load up to a point that is met. Where none is, no more than past all forms.
+    up_to_point: u64,
+    /// The same past all forms; None where every way meets a point.
+    past: Option<u64>,
+    /// Whether no way meets a point.
+    silent: bool,
+}
+
+impl Ahead {
+    const POINT: Ahead = Ahead {
+        up_to_point: 0,
+        past: None,
+        silent: false,
+    };
+
+    fn silent(cost: u64) -> Ahead {
+        Ahead {
+            up_to_point: 0,
+            past: Some(cost),
+            silent: true,
+        }
+    }
+
+    /// One after the other.
+    fn then(self, next: Ahead) -> Ahead {
+        let Some(cost) = self.past else {
+            return self;
+        };
+        Ahead {
+            up_to_point: self.up_to_point.max(cost + next.up_to_point),
+            past: next.past.map(|more| cost + more),
+            silent: self.silent && next.silent,
+        }
+    }
+
+    /// One or the other.
+    fn or(self, other: Ahead) -> Ahead {
+        Ahead {
+            up_to_point: self.up_to_point.max(other.up_to_point),
+            past: self.past.max(other.past),
+            silent: self.silent && other.silent,
+        }
+    }
+
+    /// The largest cost under load up to the next point or the end.
+    pub fn stretch(self) -> u64 {
+        self.up_to_point.max(self.past.unwrap_or(0))
+    }
+
+    /// Whether no run meets a further point.
+    pub fn is_final(self) -> bool {
+        self.silent
+    }
+
+    pub fn can_end(self) -> bool {
+        self.past.is_some()
+    }
 }
 
 /// A point that can come next: its level and its earlier visits there.
@@ -27,9 +80,6 @@ pub struct Next {
     pub level: usize,
     pub earlier: u64,
 }
-
-/// No leaf has this number.
-const NOWHERE: usize = usize::MAX;
 
 /// The records that run at one level.
 #[derive(Clone, Copy)]
@@ -187,23 +237,25 @@ impl Place<'_> {
         }
     }
 
-    /// Where the run comes once it has left the form of the leaf reported last.
-    fn fall(&self, point: usize) -> Fall {
+    /// The level at which the point comes once the run has left the form of the leaf reported last.
+    fn fall(&self, point: usize) -> Option<usize> {
         for level in (1..=self.state.level as usize).rev() {
             let span = self.span(level);
             match self.behind(span.from, span.to, self.leaf(level), point) {
-                Sight::Meet => return Fall::Level(level),
-                Sight::Stop => return Fall::Elsewhere,
+                Sight::Meet => return Some(level),
+                Sight::Stop => return None,
                 Sight::Pass => {}
             }
-            if level > 1 && self.row[self.leaf(level - 1)].kind == LOOP {
-                return match self.leaf(level - 1) == point {
-                    true => Fall::Level(level - 1),
-                    false => Fall::Elsewhere,
-                };
+            if self.in_loop(level) {
+                return (self.leaf(level - 1) == point).then_some(level - 1);
             }
         }
-        Fall::End
+        None
+    }
+
+    /// Whether what is around a level is a loop.
+    fn in_loop(&self, level: usize) -> bool {
+        level > 1 && self.row[self.leaf(level - 1)].kind == LOOP
     }
 
     fn scan_span(&self, span: Span, point: usize) -> Sight {
@@ -237,9 +289,7 @@ impl Place<'_> {
                 Sight::Pass => {}
             }
         }
-        let Fall::Level(level) = self.fall(point) else {
-            return None;
-        };
+        let level = self.fall(point)?;
         let again = self.leaf(level) == point;
         let earlier = if again {
             self.state.earlier[level] + 1
@@ -269,69 +319,107 @@ impl Place<'_> {
         }
     }
 
-    fn has_point(&self, from: usize, to: usize) -> bool {
-        self.row[from..to].iter().any(|record| record.point == 1)
+    /// The silent ways through forms, up to the first that is a point.
+    fn silence(&self, from: usize, to: usize) -> Ahead {
+        let mut ahead = Ahead::silent(0);
+        let mut at = from;
+        while at < to && ahead.past.is_some() {
+            ahead = ahead.then(self.silence_of_form(at));
+            at = self.row[at].after as usize;
+        }
+        ahead
     }
 
-    /// Whether no run of the plan meets a point. A call that leads to one is a point itself, so the main function tells.
-    pub fn is_silent(&self) -> bool {
-        let main = self.function(self.head.functions - 1);
-        !self.has_point(main.from, main.to)
-    }
-
-    /// Whether no run meets a further point behind this next one. Where all that is open are calls, the spans of the levels are of different functions, so
-    /// that no record is looked at twice.
-    pub fn is_final(&self, next: &Next, point: usize) -> bool {
-        let open = || (1..next.level).rev();
-        open().all(|level| self.row[self.leaf(level)].kind == CALL)
-            && !self.point_within(point, next.earlier)
-            && !self.point_behind(self.span(next.level), point)
-            && !open().any(|level| self.point_behind(self.span(level), self.leaf(level)))
-    }
-
-    /// Whether a point can come within the form of a leaf behind this visit of it.
-    fn point_within(&self, leaf: usize, earlier: u64) -> bool {
-        let record = &self.row[leaf];
+    /// A silent loop or call has no point inside, so its sums tell.
+    fn silence_of_form(&self, at: usize) -> Ahead {
+        let record = &self.row[at];
+        if record.point == 1 {
+            return Ahead::POINT;
+        }
+        let own = record.max_load;
         match record.kind {
-            LOOP => earlier < record.detail,
-            CALL => {
-                let called = self.inside(leaf);
-                self.has_point(called.from, called.to)
-            }
-            _ => self.has_point(leaf + 1, record.after as usize),
+            CALL => Ahead::silent(own + self.head.max_load_totals[record.detail as usize]),
+            LOOP => Ahead::silent(own + record.detail * record.max_load_turn),
+            IF => Ahead::silent(own).then(self.silence_of_parts(at)),
+            _ => Ahead::silent(own),
         }
     }
 
-    /// Whether one can come behind that form, up to the end of its level: not in the other part of an if around it.
-    fn point_behind(&self, span: Span, leaf: usize) -> bool {
-        let (mut at, mut to) = (span.from, span.to);
-        loop {
-            while self.row[at].after as usize <= leaf {
-                at = self.row[at].after as usize;
+    fn silence_of_parts(&self, at: usize) -> Ahead {
+        let (other, after) = (self.row[at].other as usize, self.row[at].after as usize);
+        self.silence(at + 1, other).or(self.silence(other, after))
+    }
+
+    fn silence_of_span(&self, span: Span) -> Ahead {
+        self.silence(span.from, span.to)
+    }
+
+    /// The silent ways within the form of a leaf behind this visit of it.
+    fn silence_within(&self, leaf: usize, earlier: u64) -> Ahead {
+        match self.row[leaf].kind {
+            CALL => self.silence_of_span(self.inside(leaf)),
+            // It is left, or turns again and comes back to its condition.
+            LOOP if earlier < self.row[leaf].detail => {
+                let turned = self.silence_of_span(self.inside(leaf)).then(Ahead::POINT);
+                turned.or(Ahead::silent(0))
             }
-            let record = &self.row[at];
-            let (other, after) = (record.other as usize, record.after as usize);
-            if self.has_point(after, to) {
-                return true;
-            }
-            if at == leaf {
-                return false;
-            }
-            (at, to) = match leaf < other {
-                true => (at + 1, other),
-                false => (other, after),
-            };
+            IF => self.silence_of_parts(leaf),
+            _ => Ahead::silent(0),
         }
     }
 
-    pub fn can_end(&self) -> bool {
-        let level = self.state.level as usize;
-        if level == 0 {
-            return self.scan_span(self.span(1), NOWHERE) == Sight::Pass;
+    /// Those behind that form, which stands among these or in the parts of their ifs.
+    fn silence_behind(&self, from: usize, to: usize, leaf: usize) -> Ahead {
+        let mut at = from;
+        while self.row[at].after as usize <= leaf {
+            at = self.row[at].after as usize;
         }
-        let here = self.leaf(level);
-        let passes = |span: Span| self.scan_span(span, NOWHERE) == Sight::Pass;
-        (self.row[here].kind != CALL || passes(self.inside(here)))
-            && self.fall(NOWHERE) == Fall::End
+        let (other, after) = (self.row[at].other as usize, self.row[at].after as usize);
+        let ahead = if at == leaf {
+            Ahead::silent(0)
+        } else if leaf < other {
+            self.silence_behind(at + 1, other, leaf)
+        } else {
+            self.silence_behind(other, after, leaf)
+        };
+        match ahead.past {
+            Some(_) => ahead.then(self.silence(after, to)),
+            None => ahead,
+        }
+    }
+
+    /// From the start of a run.
+    pub fn from_start(&self) -> Ahead {
+        self.silence_of_span(self.span(1))
+    }
+
+    /// From a visit of this leaf on, which the state reaches next or has reached: level by level up to the first point, which a loop around is too.
+    pub fn from_visit(&self, leaf: usize, visit: &Next) -> Ahead {
+        let own = Ahead::silent(self.row[leaf].max_load);
+        let mut ahead = own.then(self.silence_within(leaf, visit.earlier));
+        let mut left = leaf;
+        for level in (1..=visit.level).rev() {
+            if ahead.past.is_none() {
+                break;
+            }
+            let span = self.span(level);
+            ahead = ahead.then(self.silence_behind(span.from, span.to, left));
+            if self.in_loop(level) {
+                return ahead.then(Ahead::POINT);
+            }
+            left = self.leaf(level - 1);
+        }
+        ahead
+    }
+
+    /// From where the state stands.
+    pub fn ahead(&self) -> Ahead {
+        match self.state.level as usize {
+            0 => self.from_start(),
+            level => {
+                let earlier = self.state.earlier[level];
+                self.from_visit(self.leaf(level), &Next { level, earlier })
+            }
+        }
     }
 }

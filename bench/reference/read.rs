@@ -31,7 +31,7 @@ const EMPTY: Leaf = Leaf {
     level: 0,
     turn: 0,
     tail: 0,
-    stretch: 0,
+    max_load_turn: 0,
 };
 
 struct Reader<'a> {
@@ -212,8 +212,8 @@ impl Reader<'_> {
         let derived = derive(row, &self.head.bounds, self.head.functions).ok_or(LONG)?;
         self.head.total = derived.total;
         self.head.max_load_total = derived.max_load_total;
-        self.head.stretch = derived.stretch;
         self.head.totals = derived.totals;
+        self.head.max_load_totals = derived.max_load_totals;
         Ok(())
     }
 }

@@ -93,9 +93,9 @@ begin
    end if;
    Ada.Text_IO.Put_Line
      ("task " & Shown (Head.Total) & " " & Shown (Head.Max_Load_Total) & " " & Shown (Head.Deadline) & " " & Shown (Head.Switching));
-   Run ("m1 m4 m5", (0, 0, 1, 9, 1, 33, 1, 50, 1, 76, 1, 76));
+   Run ("m1 m4 m5", (0, 0, 1, 9, 1, 33, 1, 50, 1, 88, 1, 88));
    Run ("m2", (0, 0, 1, 28));
    Run ("m2", (0, 0, 1, 29));
    Run ("m3", (0, 0, 1, 9, 1, 33, 1, 57, 1, 73), 81);
-   Run ("m5", (0, 0, 1, 9, 1, 33, 1, 50, 1, 77));
+   Run ("m5", (0, 0, 1, 9, 1, 33, 1, 50, 1, 89));
 end Play;

@@ -7,11 +7,11 @@ with System;
 package Rolsipay is
 
    --  The version of this binding. The library carries none: take both from one dist/.
-   Version : constant := 10_302;
+   Version : constant := 10_400;
 
    --  The most stack that a call takes, in bytes: Read; Release, Report and Finish, each.
-   Stack_Read : constant := 88_064;
-   Stack_Call : constant := 28_672;
+   Stack_Read : constant := 83_968;
+   Stack_Call : constant := 14_336;
 
    Max_Text      : constant := 65_536;
    Max_Leaves    : constant := 512;
@@ -57,17 +57,17 @@ package Rolsipay is
    type Numbers is array (Natural range <>) of Unsigned_64 with Convention => C, Component_Size => 64;
 
    type Leaf is record
-      Kind, Point, Isolated, Max_Load, Detail, Other, After, Level, Turn, Tail, Stretch : Unsigned_64 := 0;
+      Kind, Point, Isolated, Max_Load, Detail, Other, After, Level, Turn, Tail, Max_Load_Turn : Unsigned_64 := 0;
    end record with Convention => C, Size => 88 * 8;
 
    type Leaves is array (Natural range <>) of aliased Leaf with Convention => C;
 
    type Head_Record is record
-      Deadline, Switching, Total, Max_Load_Total, Stretch : Unsigned_64 := 0;
-      Leaves, Functions                           : Interfaces.C.size_t := 0;
-      Bounds                                      : Numbers (0 .. Max_Functions) := (others => 0);
-      Totals                                      : Numbers (1 .. Max_Functions) := (others => 0);
-   end record with Convention => C, Size => 320 * 8;
+      Deadline, Switching, Total, Max_Load_Total : Unsigned_64 := 0;
+      Leaves, Functions                          : Interfaces.C.size_t := 0;
+      Bounds                                     : Numbers (0 .. Max_Functions) := (others => 0);
+      Totals, Max_Load_Totals                    : Numbers (1 .. Max_Functions) := (others => 0);
+   end record with Convention => C, Size => 440 * 8;
 
    --  A fresh state is all zeros.
    type State_Record is record

@@ -23,11 +23,11 @@ static void play(const char *name, const struct report *reports, size_t count)
 
 int main(int argc, char **argv)
 {
-    static const struct report m1_m4_m5[] = {{0, 0}, {1, 9}, {1, 33}, {1, 50}, {1, 76}, {1, 76}};
+    static const struct report m1_m4_m5[] = {{0, 0}, {1, 9}, {1, 33}, {1, 50}, {1, 88}, {1, 88}};
     static const struct report m2_goes[] = {{0, 0}, {1, 28}};
     static const struct report m2_suspends[] = {{0, 0}, {1, 29}};
     static const struct report m3[] = {{0, 0}, {1, 9}, {1, 33}, {1, 57}, {1, 73}};
-    static const struct report m5_suspends[] = {{0, 0}, {1, 9}, {1, 33}, {1, 50}, {1, 77}};
+    static const struct report m5_suspends[] = {{0, 0}, {1, 9}, {1, 33}, {1, 50}, {1, 89}};
     if (argc != 2) {
         fprintf(stderr, "use: %s PLAN\n", argv[0]);
         return 2;

@@ -13,6 +13,7 @@ use reference::listed::Listed;
 use reference::numbers::Numbers;
 use reference::plan::Plan;
 use reference::table::{self, Table};
+use reference::visits::Visits;
 
 use super::damage;
 use super::deep;
@@ -28,11 +29,13 @@ const STEADY: u64 = 0;
 const TURNING: u64 = 1;
 const WILD: u64 = 2;
 
-/// The highest level that was reported, and the final decisions.
+/// The highest level that was reported, the final decisions, and those at visits whose
+/// stretch is smaller than that of their point.
 #[derive(Default)]
 struct Reached {
     highest: usize,
     finals: Finals,
+    visits: Visits,
 }
 
 /// One history, with the reference's controller beside the state.
@@ -170,6 +173,7 @@ impl<'a, N: Numbers> History<'a, N> {
                 let level = self.numbers.level_in_run(place);
                 self.reached.highest = self.reached.highest.max(level);
                 self.reached.finals.note(self.numbers, place, answer);
+                self.reached.visits.note(self.numbers, place, answer);
                 law::moved(self.numbers, &self.state, place)
                     .decided(self.controller.last_reading(), self.controller.suspended())
             }
@@ -294,18 +298,31 @@ fn all_met(tally: &mut Tally) {
 
 pub fn compare_all(tally: &mut Tally) {
     tally.met = Met::default();
-    let Reached { highest, finals } = small_plans(tally);
+    let Reached {
+        highest,
+        finals,
+        visits,
+    } = small_plans(tally);
     let calls = tally.met.calls;
     println!("  {calls} calls on listed plans, levels up to {highest}");
     println!("  final decisions: {finals}");
+    println!("  visits with a smaller stretch than their point: {visits}");
     tally.holds(calls >= 200_000 && highest >= 5, || {
         "enough calls on listed plans, and points at level 5".to_string()
     });
     tally.holds(finals.met(500), || {
         "final decisions of every kind".to_string()
     });
-    let Reached { highest, finals } = large_plans(tally);
+    tally.holds(visits.met(40), || {
+        "visits with a smaller stretch of every kind".to_string()
+    });
+    let Reached {
+        highest,
+        finals,
+        visits,
+    } = large_plans(tally);
     println!("  final decisions on large plans: {finals}");
+    println!("  visits with a smaller stretch there: {visits}");
     tally.holds(highest == 32 && finals.answered(5), || {
         "points at level 32, and final decisions".to_string()
     });

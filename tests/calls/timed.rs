@@ -62,4 +62,7 @@ pub fn compare_all(tally: &mut Tally) {
     tally.holds(enough, || "timed runs of every kind".to_string());
     let finals = small.finals.met(500) && large.finals.answered(5);
     tally.holds(finals, || "final decisions of every kind".to_string());
+    tally.holds(small.visits.met(20), || {
+        "visits with a smaller stretch of every kind".to_string()
+    });
 }

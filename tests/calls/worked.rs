@@ -6,8 +6,8 @@ use lent::state::State;
 use lent::tally::Tally;
 use reference::composed::Composed;
 use reference::plan;
-use reference::records::STRETCH;
-use reference::table::{self, Table, MAX_LOAD_TOTAL, TOTAL};
+use reference::records::MAX_LOAD_TURN;
+use reference::table::{self, Table, MAX_LOAD_TOTAL, MAX_LOAD_TOTALS, TOTAL, TOTALS};
 use reference::worked::{CASES, PLAN_A, PLAN_B, TWICE};
 
 fn of_text(text: &str) -> Table {
@@ -80,7 +80,7 @@ const VISITS: [&str; 4] = [
     "report 1 9 -> go 44 19 0",
     "report 1 33 -> go 32 7 0",
     "report 1 52 -> go 20 0 0",
-    "report 1 76 -> go 8 0 0",
+    "report 1 88 -> go 8 0 0",
 ];
 
 fn plan_a(tally: &mut Tally) {
@@ -88,8 +88,12 @@ fn plan_a(tally: &mut Tally) {
     calls_to(tally, "release", PLAN_A, &FIRST[..1], wanted);
     let wanted = (0, false, &[(0, 0)][..], &[49, 49][..]);
     calls_to(tally, "first", PLAN_A, &FIRST, wanted);
+    // A round under load: the condition and the body, 4 + 20.
+    let turns = of_text(PLAN_A).row.into_iter();
+    let turns = turns.map(|record| record[MAX_LOAD_TURN]);
+    tally.holds(turns.eq([0, 24, 0, 0]), || "max-load turns".to_string());
     let remaining = [44, 32, 20, 8];
-    let readings = [9, 33, 52, 76];
+    let readings = [9, 33, 52, 88];
     for visit in 0..4 {
         let lines = [&FIRST[..], &VISITS[..=visit]].concat();
         let stack = [(1, visit as u64)];
@@ -97,19 +101,19 @@ fn plan_a(tally: &mut Tally) {
         let wanted = (readings[visit], false, &stack[..], &times[..]);
         calls_to(tally, "m1, m5", PLAN_A, &lines, wanted);
     }
-    let fifth = [&FIRST[..], &VISITS, &["report 1 76 -> refused 17"]].concat();
-    let wanted = (76, false, &[(1, 3)][..], &[49, 8][..]);
+    let fifth = [&FIRST[..], &VISITS, &["report 1 88 -> refused 17"]].concat();
+    let wanted = (88, false, &[(1, 3)][..], &[49, 8][..]);
     calls_to(tally, "m4", PLAN_A, &fifth, wanted);
 }
 
 fn suspended(tally: &mut Tally) {
-    let suspends = ["report 1 77 -> suspend 8 -1 0"];
+    let suspends = ["report 1 89 -> suspend 8 -1 0"];
     let lines = [&FIRST[..], &VISITS[..3], &suspends].concat();
-    let wanted = (77, true, &[(1, 3)][..], &[49, 8][..]);
+    let wanted = (89, true, &[(1, 3)][..], &[49, 8][..]);
     calls_to(tally, "m5", PLAN_A, &lines, wanted);
     let stays = [
         "report 1 57 -> suspend 20 -5 0",
-        "report 1 73 -> stay 8 3 0",
+        "report 1 73 -> stay 8 15 0",
     ];
     let lines = [&FIRST[..], &VISITS[..2], &stays].concat();
     let wanted = (73, true, &[(1, 3)][..], &[49, 8][..]);
@@ -120,8 +124,9 @@ fn plan_b(tally: &mut Tally) {
     let table = of_text(PLAN_B);
     let totals = [table.head[TOTAL], table.head[MAX_LOAD_TOTAL]];
     tally.holds(totals == [15, 19], || "m6".to_string());
-    let stretches = table.row.iter().map(|record| record[STRETCH]);
-    tally.holds(stretches.eq([4, 13, 2, 0, 2]), || "m7".to_string());
+    let totals = [TOTALS, MAX_LOAD_TOTALS].map(|first| [table.head[first], table.head[first + 1]]);
+    tally.holds(totals == [[3, 15], [4, 19]], || "totals".to_string());
+    // m7: 200 - 15 - 13 - 5 at the report of point 1.
     let to_branch = ["release -> go 15 180 0", "report 1 0 -> go 15 167 0"];
     let by_else = ["report 4 0 -> go 4 189 0", "report 0 0 -> go 3 196 0"];
     let lines = [to_branch, by_else].concat();

@@ -12,6 +12,7 @@ use reference::gen::Random;
 use reference::numbers::Numbers;
 use reference::plan::{text, Form, Kind, Plan};
 use reference::table::Table;
+use reference::visits::Visits;
 
 use super::habit::{dearer_parts, Habit};
 
@@ -31,6 +32,7 @@ pub struct Met {
     pub at_deadline: usize,
     pub broken_off: usize,
     pub finals: Finals,
+    pub visits: Visits,
 }
 
 impl Met {
@@ -43,6 +45,10 @@ impl Met {
         println!("    suspended at release in {at_release}, later in {at_report}");
         println!("    {} calls, {} refused", self.calls, self.refused);
         println!("    final decisions: {}", self.finals);
+        println!(
+            "    visits with a smaller stretch than their point: {}",
+            self.visits
+        );
     }
 }
 
@@ -154,6 +160,7 @@ impl<'a> World<'a> {
             format!("{answer:?} for {call:?}")
         })?;
         self.met.finals.note(self.composed, &place, decision);
+        self.met.visits.note(self.composed, &place, decision);
         let needed = self.composed.needed(&place);
         let held = self.open.as_ref().is_none_or(|open| open.held);
         if word == Word::Suspend {

@@ -53,10 +53,12 @@ impl Standings {
         Some(first.clone())
     }
 
-    /// Whether both histories have the same remaining times and are both final or not.
+    /// Whether both histories have the same remaining times and the same stretch and are
+    /// both final or not.
     pub fn agree(&self, listed: &Listed) -> bool {
         self.by_stack.values().all(|[first, last]| {
             listed.times(first) == listed.times(last)
+                && listed.stretch_at(first) == listed.stretch_at(last)
                 && listed.is_final(first) == listed.is_final(last)
         })
     }

@@ -1,6 +1,6 @@
 /* Measures how much stack each delivered call takes, over families of plans, texts, tables and states that go as deep as they can, and holds it to the
  * figures of docs/MEMORY.md, which it is given, and to the header's; so it does with the sizes of what the caller lends, and with code, read-only data and
- * variables of the library, which it is given too. It fails where a figure is too small, where another case goes deeper than the plan that docs/MEMORY.md
+ * variables of the library, which it is given too. It fails where a figure is too small, where another case goes deeper than the one that docs/MEMORY.md
  * names, or where a call is not answered as it must be. Its last line is 'N passed, M failed'. */
 #include "plans.h"
 
@@ -169,8 +169,8 @@ static void nested_row(uint64_t ifs, int otherwise)
 static void broken_tables(void)
 {
     write_nesting(&DEEPEST);
-    uint64_t *const changed[] = {&head.stretch, &head.max_load_total, &head.total, &row[0].stretch, &row[46].stretch, &row[46].tail, &row[46].turn,
-                                 &row[46].level};
+    uint64_t *const changed[] = {&head.max_load_totals[0], &head.max_load_totals[ROLSIPAY_FUNCTIONS - 1], &head.totals[0], &head.max_load_total, &head.total,
+                                 &row[0].max_load_turn, &row[46].max_load_turn, &row[46].tail, &row[46].turn, &row[46].level};
     for (size_t i = 0; i < sizeof changed / sizeof *changed; i++) {
         read_accepted("deepest");
         *changed[i] += 1;
@@ -236,9 +236,8 @@ static void chain(void)
     expect(0, END, 0, "chain");
 }
 
-/* What each call takes on the plan that docs/MEMORY.md names: the deepest nesting, with so many leaves behind it; for reading also with a leaf at level 33 in
- * it, at which the text is refused. */
-static void named_plan(int behind, size_t taken[CALLS])
+/* What each call takes on the deepest nesting, with so many leaves behind it; for reading also with a leaf at level 33 in it, at which the text is refused. */
+static void nested(int behind, size_t taken[CALLS])
 {
     struct nesting nesting = DEEPEST;
     nesting.behind = behind;
@@ -251,13 +250,24 @@ static void named_plan(int behind, size_t taken[CALLS])
     memcpy(taken, deepest, sizeof deepest);
 }
 
-/* Holds the stack of each call to the documented figures, and prints it. */
+/* What a call takes in these cases alone. */
+static size_t alone(void (*cases)(void), enum call call)
+{
+    memset(deepest, 0, sizeof deepest);
+    cases();
+    return deepest[call];
+}
+
+/* Holds the stack of each call to the documented figures, and prints it. docs/MEMORY.md names a case for each: reading and a release take the most on the
+ * deepest nesting, a report at the deepest place, an end where it comes back through 16 functions. */
 static void stacks(const size_t documented[CALLS])
 {
     static const char *const names[CALLS] = {"rolsipay_read", "rolsipay_release", "rolsipay_report", "rolsipay_end"};
     size_t small[CALLS], large[CALLS];
-    named_plan(0, small);
-    named_plan(ROLSIPAY_LEAVES - 47, large);
+    nested(0, small);
+    nested(ROLSIPAY_LEAVES - 47, large);
+    const size_t named[CALLS] = {large[READ], large[RELEASE], alone(places, REPORT), alone(chain, END)};
+    memcpy(deepest, large, sizeof deepest);
     mixes();
     refused_lines();
     refused_texts();
@@ -267,7 +277,7 @@ static void stacks(const size_t documented[CALLS])
     for (int i = 0; i < CALLS; i++) {
         printf("stack of %s: %zu bytes, documented %zu\n", names[i], deepest[i], documented[i]);
         check(deepest[i] <= documented[i], "more stack than docs/MEMORY.md says");
-        check(deepest[i] == large[i], "another case goes deeper than the plan that docs/MEMORY.md names");
+        check(deepest[i] == named[i], "another case goes deeper than the one that docs/MEMORY.md names");
         check(small[i] == large[i], "the plan of 47 leaves does not take as much as the one of 512");
         check(documented[i] == (i == READ ? ROLSIPAY_STACK_READ : ROLSIPAY_STACK_CALL), "the header says another stack than docs/MEMORY.md");
     }

@@ -67,6 +67,7 @@ pub struct Composed<'a> {
     loaded: Vec<u128>,
     levels: Vec<usize>,
     turns: Vec<u128>,
+    max_load_turns: Vec<u128>,
     tails: Vec<u128>,
     stretches: Vec<u128>,
     release_stretch: u128,
@@ -102,6 +103,7 @@ impl<'a> Composed<'a> {
             loaded: function_totals(plan, Cost::Loaded),
             levels: vec![0; count],
             turns: vec![0; count],
+            max_load_turns: vec![0; count],
             tails: vec![0; count],
             stretches: vec![0; count],
             release_stretch: 0,
@@ -146,6 +148,8 @@ impl<'a> Composed<'a> {
                 Kind::Loop(bound, body) => {
                     let body_sum = sum(body, &self.isolated, Cost::Isolated);
                     self.turns[form.leaf] = own + body_sum;
+                    self.max_load_turns[form.leaf] =
+                        own_cost(form, Cost::Loaded) + sum(body, &self.loaded, Cost::Loaded);
                     self.set_tails(body, own + rounds_sum(bound - 1, body_sum, own) + after);
                 }
                 Kind::If(then_part, else_part) => {
@@ -203,6 +207,38 @@ impl<'a> Composed<'a> {
             }
             beyond = self.to_point(std::slice::from_ref(form), beyond);
         }
+    }
+
+    /// Largest max-load sum from the last visit of the place up to the next point,
+    /// where `beyond` is the same from the end of these forms on, in the run that the
+    /// place is in.
+    fn from_visit(&self, forms: &[Form], place: &[(usize, u64)], beyond: u128) -> u128 {
+        let (leaf, visits) = place[0];
+        let (position, form) = holder(forms, leaf);
+        let beyond = self.to_point(&forms[position + 1..], beyond);
+        if form.leaf != leaf {
+            return self.from_visit(part_with(form, leaf), place, beyond);
+        }
+        let inner = &place[1..];
+        let behind = match &form.kind {
+            Kind::Leaf => beyond,
+            Kind::If(then_part, else_part) => {
+                let by_then = self.to_point(then_part, beyond);
+                by_then.max(self.to_point(else_part, beyond))
+            }
+            Kind::Call(target) => {
+                let called = &self.plan.functions[*target];
+                match inner.is_empty() {
+                    true => self.to_point(called, beyond),
+                    false => return self.from_visit(called, inner, beyond),
+                }
+            }
+            // After its body comes its condition, a point.
+            Kind::Loop(_, body) if !inner.is_empty() => return self.from_visit(body, inner, 0),
+            Kind::Loop(bound, body) if visits <= *bound => self.to_point(body, 0).max(beyond),
+            Kind::Loop(..) => beyond,
+        };
+        own_cost(form, Cost::Loaded) + behind
     }
 
     /// Largest isolated sum from the last visit of the place to the end of
@@ -374,12 +410,20 @@ impl Numbers for Composed<'_> {
         narrow(self.isolated[function])
     }
 
+    fn max_load_function_total(&self, function: usize) -> u64 {
+        narrow(self.loaded[function])
+    }
+
     fn level(&self, leaf: usize) -> usize {
         self.levels[leaf]
     }
 
     fn turn(&self, leaf: usize) -> u64 {
         narrow(self.turns[leaf])
+    }
+
+    fn max_load_turn(&self, leaf: usize) -> u64 {
+        narrow(self.max_load_turns[leaf])
     }
 
     fn tail(&self, leaf: usize) -> u64 {
@@ -447,6 +491,14 @@ impl Numbers for Composed<'_> {
         match place.is_empty() {
             true => !self.with_points[main],
             false => !self.point_ahead(&self.plan.functions[main], place),
+        }
+    }
+
+    fn stretch_at(&self, place: &Place) -> u64 {
+        let main = &self.plan.functions[self.plan.main()];
+        match place.is_empty() {
+            true => self.release_stretch(),
+            false => narrow(self.from_visit(main, place, 0)),
         }
     }
 }

@@ -75,6 +75,35 @@ impl<'a> Listed<'a> {
             .sum()
     }
 
+    /// The max-load sum of a run from this one of its reports, counted from 0, up to the
+    /// next or the end.
+    fn loaded_from(&self, run: &Known, report: usize) -> u64 {
+        let next = run.points.get(report + 1);
+        let stop = next.copied().unwrap_or(run.visits.len());
+        self.loaded(&run.visits[run.points[report]..stop])
+    }
+
+    /// A round lies between two visits of the condition with nothing but visits
+    /// of higher levels between them.
+    fn dearest_round(&self, leaf: usize, sum: impl Fn(&[Visit]) -> u64) -> u64 {
+        let (function, form) = self.leaves[leaf];
+        if !matches!(form.kind, Kind::Loop(..)) {
+            return 0;
+        }
+        let mut most = None;
+        for run in &self.alone[function] {
+            for first in (0..run.len()).filter(|&place| run[place].leaf == leaf) {
+                let body = &run[first + 1..];
+                let inside = body.iter().take_while(|v| v.level > run[first].level);
+                let next = first + 1 + inside.count();
+                if run.get(next).is_some_and(|visit| visit.leaf == leaf) {
+                    most = most.max(Some(sum(&run[first..next])));
+                }
+            }
+        }
+        most.expect("every loop has a round in some run")
+    }
+
     /// The runs whose first reports are these.
     fn with_history<'b>(&'b self, history: &'b [usize]) -> impl Iterator<Item = &'b Known> {
         self.runs.iter().filter(move |run| {
@@ -137,6 +166,10 @@ impl Numbers for Listed<'_> {
         largest(self.alone[function].iter().map(|run| self.isolated(run)))
     }
 
+    fn max_load_function_total(&self, function: usize) -> u64 {
+        largest(self.alone[function].iter().map(|run| self.loaded(run)))
+    }
+
     fn level(&self, leaf: usize) -> usize {
         let visits = self.alone[self.leaves[leaf].0].iter().flatten();
         let levels: BTreeSet<usize> = visits
@@ -147,25 +180,12 @@ impl Numbers for Listed<'_> {
         levels.into_iter().sum()
     }
 
-    /// A round lies between two visits of the condition with nothing but visits
-    /// of higher levels between them.
     fn turn(&self, leaf: usize) -> u64 {
-        let (function, form) = self.leaves[leaf];
-        if !matches!(form.kind, Kind::Loop(..)) {
-            return 0;
-        }
-        let mut most = None;
-        for run in &self.alone[function] {
-            for first in (0..run.len()).filter(|&place| run[place].leaf == leaf) {
-                let body = &run[first + 1..];
-                let inside = body.iter().take_while(|v| v.level > run[first].level);
-                let next = first + 1 + inside.count();
-                if run.get(next).is_some_and(|visit| visit.leaf == leaf) {
-                    most = most.max(Some(self.isolated(&run[first..next])));
-                }
-            }
-        }
-        most.expect("every loop has a round in some run")
+        self.dearest_round(leaf, |round| self.isolated(round))
+    }
+
+    fn max_load_turn(&self, leaf: usize) -> u64 {
+        self.dearest_round(leaf, |round| self.loaded(round))
     }
 
     fn tail(&self, leaf: usize) -> u64 {
@@ -181,12 +201,7 @@ impl Numbers for Listed<'_> {
         for run in &self.runs {
             for (order, &place) in run.points.iter().enumerate() {
                 if run.visits[place].leaf == leaf {
-                    let stop = run
-                        .points
-                        .get(order + 1)
-                        .copied()
-                        .unwrap_or(run.visits.len());
-                    most = most.max(Some(self.loaded(&run.visits[place..stop])));
+                    most = most.max(Some(self.loaded_from(run, order)));
                 }
             }
         }
@@ -250,5 +265,15 @@ impl Numbers for Listed<'_> {
     fn is_final(&self, history: &Vec<usize>) -> bool {
         let mut runs = self.with_history(history);
         !runs.any(|run| run.points.len() > history.len())
+    }
+
+    fn stretch_at(&self, history: &Vec<usize>) -> u64 {
+        match history.len().checked_sub(1) {
+            None => self.release_stretch(),
+            Some(last) => largest(
+                self.with_history(history)
+                    .map(|run| self.loaded_from(run, last)),
+            ),
+        }
     }
 }

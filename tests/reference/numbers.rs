@@ -17,17 +17,21 @@ pub trait Numbers {
     fn total(&self) -> u64;
     fn max_load_total(&self) -> u64;
     fn release_stretch(&self) -> u64;
-    /// Of a function alone: largest isolated sum over its runs.
+    /// Of a function alone: largest isolated sum over its runs, and largest max-load sum.
     fn function_total(&self, function: usize) -> u64;
+    fn max_load_function_total(&self, function: usize) -> u64;
 
     /// Of a leaf: its level in its own function.
     fn level(&self, leaf: usize) -> usize;
     /// Of a loop: largest isolated sum of a round, its condition and one pass of
     /// its body. 0 of any other leaf.
     fn turn(&self, leaf: usize) -> u64;
+    /// The same at max-load costs.
+    fn max_load_turn(&self, leaf: usize) -> u64;
     /// Of a leaf: largest isolated sum from a first visit to the end of its function.
     fn tail(&self, leaf: usize) -> u64;
-    /// Of a point: largest max-load sum up to the next point or the end.
+    /// Of a point: largest max-load sum from a visit of it up to the next point or the
+    /// end, over all its visits in all runs. The listing and the sheet show it.
     fn stretch(&self, leaf: usize) -> u64;
 
     fn release(&self) -> Self::Place;
@@ -43,23 +47,36 @@ pub trait Numbers {
     /// Whether no run with this history of reports meets a further point (02, L3); at
     /// the release, whether no run of the plan meets any.
     fn is_final(&self, place: &Self::Place) -> bool;
+    /// The stretch of this visit (02, L6): largest max-load sum from it up to the next
+    /// point or the end, over all runs with this history of reports. At the release that
+    /// of the release.
+    fn stretch_at(&self, place: &Self::Place) -> u64;
 
-    /// The stretch of the last point of a place, or of the release.
-    fn stretch_at(&self, place: &Self::Place) -> u64 {
+    /// The stretch that decisions went by before L6: that of the last point, over all its
+    /// visits, or of the release.
+    fn stretch_of_last(&self, place: &Self::Place) -> u64 {
         match self.last_point(place) {
             None => self.release_stretch(),
             Some(leaf) => self.stretch(leaf),
         }
     }
 
-    /// What the condition sets beside the elapsed time: where no run meets a further
-    /// point the stretch alone (02, L3), elsewhere remaining and T too.
-    fn needed(&self, place: &Self::Place) -> u64 {
-        let stretch = self.stretch_at(place);
+    /// What the condition sets beside the elapsed time with this stretch: where no run
+    /// meets a further point the stretch alone (02, L3), elsewhere remaining and T too.
+    fn needed_with(&self, place: &Self::Place, stretch: u64) -> u64 {
         match self.is_final(place) {
             true => stretch,
             false => self.remaining(place) + stretch + self.plan().switch,
         }
+    }
+
+    fn needed(&self, place: &Self::Place) -> u64 {
+        self.needed_with(place, self.stretch_at(place))
+    }
+
+    /// The same as it was before L6.
+    fn needed_before(&self, place: &Self::Place) -> u64 {
+        self.needed_with(place, self.stretch_of_last(place))
     }
 }
 

@@ -15,7 +15,7 @@ pub const AFTER: usize = 6;
 pub const LEVEL: usize = 7;
 pub const TURN: usize = 8;
 pub const TAIL: usize = 9;
-pub const STRETCH: usize = 10;
+pub const MAX_LOAD_TURN: usize = 10;
 pub const RECORD: usize = 11;
 
 pub type Record = [u64; RECORD];

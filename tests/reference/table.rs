@@ -7,21 +7,21 @@ use super::composed::Composed;
 use super::gen::Random;
 use super::numbers::Numbers;
 use super::plan::{self, Plan, MOST_FUNCTIONS, MOST_LEAVES};
-use super::records::{self, Record, POINT, RECORD, TAIL, TURN};
+use super::records::{self, Record, MAX_LOAD_TURN, RECORD, TAIL, TURN};
 
-/// Where the numbers of the head stand: D, T, both totals, the stretch of the
-/// release, how many leaves and functions there are, the bounds of the functions
-/// and their isolated totals.
+/// Where the numbers of the head stand: D, T, both totals, how many leaves and
+/// functions there are, the bounds of the functions, their isolated totals and their
+/// max-load totals.
 pub const DEADLINE: usize = 0;
 pub const SWITCH: usize = 1;
 pub const TOTAL: usize = 2;
 pub const MAX_LOAD_TOTAL: usize = 3;
-pub const STRETCH: usize = 4;
-pub const LEAVES: usize = 5;
-pub const FUNCTIONS: usize = 6;
-pub const BOUNDS: usize = 7;
+pub const LEAVES: usize = 4;
+pub const FUNCTIONS: usize = 5;
+pub const BOUNDS: usize = 6;
 pub const TOTALS: usize = BOUNDS + MOST_FUNCTIONS + 1;
-pub const HEAD: usize = TOTALS + MOST_FUNCTIONS;
+pub const MAX_LOAD_TOTALS: usize = TOTALS + MOST_FUNCTIONS;
+pub const HEAD: usize = MAX_LOAD_TOTALS + MOST_FUNCTIONS;
 
 pub type Head = [u64; HEAD];
 
@@ -41,8 +41,8 @@ pub const PARTS: usize = 5;
 pub const COLUMNS: [Range<usize>; PARTS - 1] = [
     0..TURN,
     TURN..TAIL,
-    TAIL..records::STRETCH,
-    records::STRETCH..RECORD,
+    TAIL..MAX_LOAD_TURN,
+    MAX_LOAD_TURN..RECORD,
 ];
 
 impl Table {
@@ -81,18 +81,22 @@ impl Table {
     }
 }
 
-/// The head of a plan with these totals, stretch of the release and totals of its
+/// The head of a plan with these totals, alone and under load, and those of its
 /// functions; those of functions that it does not have are 0.
-pub fn head(plan: &Plan, numbers: [u64; 3], mut totals: Vec<u64>) -> Head {
-    totals.resize(MOST_FUNCTIONS, 0);
+pub fn head(plan: &Plan, totals: [u64; 2], of_functions: [Vec<u64>; 2]) -> Head {
+    let [isolated, loaded] = of_functions.map(|mut totals| {
+        totals.resize(MOST_FUNCTIONS, 0);
+        totals
+    });
     let leaves = plan.leaves().len() as u64;
     let functions = plan.functions.len() as u64;
     let all = [
         &[plan.deadline, plan.switch],
-        &numbers[..],
+        &totals[..],
         &[leaves, functions],
         &records::bounds(plan),
-        &totals,
+        &isolated,
+        &loaded,
     ];
     let all = all.concat().try_into();
     all.expect("as many numbers as a head has")
@@ -104,20 +108,15 @@ pub fn table<N: Numbers>(numbers: &N) -> Table {
     for (leaf, record) in row.iter_mut().enumerate() {
         record[TURN] = numbers.turn(leaf);
         record[TAIL] = numbers.tail(leaf);
-        if record[POINT] == 1 {
-            record[records::STRETCH] = numbers.stretch(leaf);
-        }
+        record[MAX_LOAD_TURN] = numbers.max_load_turn(leaf);
     }
-    let first = [
-        numbers.total(),
-        numbers.max_load_total(),
-        numbers.release_stretch(),
-    ];
-    let functions = 0..plan.functions.len();
-    let totals = functions.map(|function| numbers.function_total(function));
+    let totals = [numbers.total(), numbers.max_load_total()];
+    let functions = || 0..plan.functions.len();
+    let isolated = functions().map(|function| numbers.function_total(function));
+    let loaded = functions().map(|function| numbers.max_load_function_total(function));
     Table {
         row,
-        head: head(plan, first, totals.collect()),
+        head: head(plan, totals, [isolated.collect(), loaded.collect()]),
     }
 }
 
@@ -125,7 +124,7 @@ pub fn table<N: Numbers>(numbers: &N) -> Table {
 pub fn free(plan: &Plan) -> Table {
     Table {
         row: records::row(plan),
-        head: head(plan, [0; 3], Vec::new()),
+        head: head(plan, [0; 2], [Vec::new(), Vec::new()]),
     }
 }
 

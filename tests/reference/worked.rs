@@ -2,9 +2,10 @@
 //! state, with answers worked out by hand: the marked cases m1 to m5 and m8 to
 //! m12, the edges and traps named there, and readings that tell others apart.
 //! The reference's own checks and the tests of the proved calls run them all, with
-//! those of the last stretch.
+//! those of the last stretch and of the stretch of a visit.
 
 use super::worked_last::LAST_STRETCH;
+use super::worked_visits::OWN_STRETCH;
 
 pub const PLAN_A: &str = "(task 100 4\n(fun\n(leaf p 5 9)\n(loop p 3 2 4\n(leaf s 10 20)\n)\n\
     (leaf s 6 8)\n)\n)\n";
@@ -35,11 +36,17 @@ pub struct Case {
     pub calls: &'static [&'static str],
 }
 
-pub const CASES: &[&[Case]] = &[ON_PLAN_A, ON_PLAN_B, ON_SMALL_PLANS, LATE, LAST_STRETCH];
+pub const CASES: &[&[Case]] = &[
+    ON_PLAN_A,
+    ON_PLAN_B,
+    ON_SMALL_PLANS,
+    LATE,
+    LAST_STRETCH,
+    OWN_STRETCH,
+];
 
 const ON_PLAN_A: &[Case] = &[
-    // With margin 0 at visit 3 the last one comes by 52 + 4 + 20, with margin 0 again,
-    // and the end by 76 + 4 + 8: of the 24 ticks of its stretch this visit takes 12.
+    // The last visit takes 4 ticks and what follows it 8: 100 - 88 - 12.
     Case {
         name: "m1, m4, m5: goes on",
         plan: PLAN_A,
@@ -50,8 +57,23 @@ const ON_PLAN_A: &[Case] = &[
             "report 1 9 -> go 44 19 0",
             "report 1 33 -> go 32 7 0",
             "report 1 52 -> go 20 0 0",
-            "report 1 76 -> go 8 0 0",
-            "report 1 76 -> refused 17",
+            "report 1 88 -> go 8 0 0",
+            "report 1 88 -> refused 17",
+            "end 100 -> ended 0",
+        ],
+    },
+    // With margin 0 at visit 3 the last one comes by 52 + 4 + 20, with 100 - 76 - 12 ticks
+    // to spare, and the end by 76 + 4 + 8.
+    Case {
+        name: "never suspended, every visit with its max-load cost",
+        plan: PLAN_A,
+        calls: &[
+            "release -> go 49 47 0",
+            "report 0 0 -> go 49 38 0",
+            "report 1 9 -> go 44 19 0",
+            "report 1 33 -> go 32 7 0",
+            "report 1 52 -> go 20 0 0",
+            "report 1 76 -> go 8 12 0",
             "end 88 -> ended 0",
         ],
     },
@@ -84,7 +106,7 @@ const ON_PLAN_A: &[Case] = &[
             "report 1 9 -> go 44 19 0",
             "report 1 33 -> go 32 7 0",
             "report 1 57 -> suspend 20 -5 0",
-            "report 1 73 -> stay 8 3 0",
+            "report 1 73 -> stay 8 15 0",
             "end 81 -> resume 0",
         ],
     },
@@ -97,7 +119,7 @@ const ON_PLAN_A: &[Case] = &[
             "report 1 0 -> go 44 28 0",
             "report 1 0 -> go 32 40 0",
             "report 1 0 -> go 20 52 0",
-            "report 1 77 -> suspend 8 -1 0",
+            "report 1 89 -> suspend 8 -1 0",
         ],
     },
     Case {
@@ -109,7 +131,7 @@ const ON_PLAN_A: &[Case] = &[
             "report 1 39 -> stay 44 -11 0",
             "report 1 40 -> stay 32 0 0",
             "report 1 41 -> stay 20 11 0",
-            "report 1 76 -> stay 8 0 0",
+            "report 1 88 -> stay 8 0 0",
             "end 100 -> resume 0",
         ],
     },
@@ -272,7 +294,7 @@ const LATE: &[Case] = &[
             "end 18446744073709551615 -> resume 1",
         ],
     },
-    // 2^62 + 100 - 24 has it at the last point.
+    // 2^62 + 100 - 12 has it at the last point.
     Case {
         name: "a margin above the least at the last point",
         plan: PLAN_A,
@@ -282,8 +304,8 @@ const LATE: &[Case] = &[
             "report 1 0 -> go 44 28 0",
             "report 1 0 -> go 32 40 0",
             "report 1 0 -> go 20 52 0",
-            "report 1 4611686018427387979 -> suspend 8 -4611686018427387903 1",
-            "end 4611686018427387979 -> resume 1",
+            "report 1 4611686018427387991 -> suspend 8 -4611686018427387903 1",
+            "end 4611686018427387991 -> resume 1",
         ],
     },
     Case {
@@ -295,7 +317,7 @@ const LATE: &[Case] = &[
             "report 1 0 -> go 44 28 0",
             "report 1 0 -> go 32 40 0",
             "report 1 0 -> go 20 52 0",
-            "report 1 4611686018427387981 -> suspend 8 -4611686018427387904 1",
+            "report 1 4611686018427387993 -> suspend 8 -4611686018427387904 1",
             "end 18446744073709551615 -> resume 1",
         ],
     },

@@ -3,6 +3,7 @@
 
 use super::worked::{smallest, EMPTY, PLAN_A, PLAN_B};
 use super::worked_last::TWO_CALLS;
+use super::worked_visits::FILTER;
 
 pub struct Case {
     pub name: &'static str,
@@ -21,7 +22,7 @@ const ON_PLAN_A: &[Case] = &[
         name: "plan A's worst case",
         plan: PLAN_A,
         log: "release\npoint 0 0\npoint 1 9\npoint 1 33\npoint 1 57\npoint 1 73\nend 81\n",
-        printed: "go 49 47 0\ngo 49 38 0\ngo 44 19 0\ngo 32 7 0\nsuspend 20 -5 0\nstay 8 3 0\n\
+        printed: "go 49 47 0\ngo 49 38 0\ngo 44 19 0\ngo 32 7 0\nsuspend 20 -5 0\nstay 8 15 0\n\
             resume 0\n57 24 81\n",
     },
     // The refused lines have readings of their own; none of them ends a gap.
@@ -56,17 +57,16 @@ const ON_PLAN_A: &[Case] = &[
         printed: "go 49 47 0\nsuspend 49 -1 0\nstay 44 -11 0\nstay 32 0 0\nstay 20 11 0\n\
             resume 0\n39 61 100\n",
     },
-    // The last visit goes on at 76 and not at 77; then the switch takes 4, the loop 2 and
-    // what follows it 6.
+    // The last visit goes on at 88, as it takes 4 + 8 ticks up to the end, and not at 89.
     Case {
         name: "the last visit of plan A's loop (m5)",
         plan: PLAN_A,
-        log: "release\npoint 0 0\npoint 1 9\npoint 1 33\npoint 1 52\npoint 1 76\nend 88\n\
-            release\npoint 0 0\npoint 1 9\npoint 1 33\npoint 1 52\npoint 1 77\nend 89\n",
+        log: "release\npoint 0 0\npoint 1 9\npoint 1 33\npoint 1 52\npoint 1 88\nend 100\n\
+            release\npoint 0 0\npoint 1 9\npoint 1 33\npoint 1 52\npoint 1 89\nend 100\n",
         printed: "go 49 47 0\ngo 49 38 0\ngo 44 19 0\ngo 32 7 0\ngo 20 0 0\ngo 8 0 0\n\
-            ended 0\n88 0 88\n\
+            ended 0\n100 0 100\n\
             go 49 47 0\ngo 49 38 0\ngo 44 19 0\ngo 32 7 0\ngo 20 0 0\nsuspend 8 -1 0\n\
-            resume 0\n77 12 89\n",
+            resume 0\n89 11 100\n",
     },
 ];
 
@@ -87,6 +87,17 @@ const ON_OTHER_PLANS: &[Case] = &[
         printed: "go 6 19 0\ngo 6 18 0\ngo 5 0 0\ngo 3 1 0\ngo 2 0 0\nended 0\n30 0 30\n\
             go 6 19 0\ngo 6 18 0\nsuspend 5 -1 0\nstay 3 1 0\nstay 2 0 0\nresume 0\n\
             11 19 30\n",
+    },
+    // The same point suspends at 23 in the first call, where 20 ticks come behind it, and
+    // goes on at 53 in the second: 60 - 22 - 11 - 24 - 3 and 60 - 53 - 7.
+    Case {
+        name: "a filter called twice",
+        plan: FILTER,
+        log: "release\npoint 1 0\npoint 0 22\npoint 3 46\npoint 0 53\nend 60\n\
+            release\npoint 1 0\npoint 0 23\npoint 3 34\npoint 0 53\nend 56\n",
+        printed: "go 12 45 0\ngo 12 43 0\ngo 11 0 0\ngo 4 5 0\ngo 3 0 0\nended 0\n60 0 60\n\
+            go 12 45 0\ngo 12 43 0\nsuspend 11 -1 0\nstay 4 17 0\nstay 3 0 0\nresume 0\n\
+            23 33 56\n",
     },
     // At release 30 - 10 - 20 - 2 is below 0, at the last point 30 - 7 - 9 is not.
     Case {

@@ -1,8 +1,8 @@
 //! Worst cases: every run of a small plan with every visit at its bound, its M while
 //! the others run and its C while they are suspended, and T for the switch. No run ends
 //! behind D. The deadlines are those at which a final decision (02, L3) turns: with margin
-//! 0 the others go on, and some run ends at D where the visit can take the whole stretch
-//! of its point; with D a tick less they are suspended.
+//! 0 the others go on and some run ends at D, also where this visit's stretch is not the
+//! largest of its point (02, L6); with D a tick less they are suspended.
 
 use std::collections::{BTreeMap, BTreeSet};
 
@@ -34,9 +34,7 @@ struct Met {
     /// Final decisions that go on with margin 0, of releases and of reports.
     releases: usize,
     reports: usize,
-    /// Of these, those after which a run ends at D, and those whose visit cannot take the
-    /// whole stretch of its point.
-    at_deadline: usize,
+    /// Of these, those whose visit has a smaller stretch than others of its point.
     shorter: usize,
     /// Those that are suspended with D a tick less.
     tick_less: usize,
@@ -47,16 +45,17 @@ impl Met {
         println!("  {} runs of {} plans", self.runs, self.plans);
         let (releases, reports) = (self.releases, self.reports);
         println!("  final decisions with margin 0: {releases} releases, {reports} reports");
-        let (at_deadline, shorter) = (self.at_deadline, self.shorter);
-        println!("    {at_deadline} with an end at D, {shorter} of shorter visits");
+        println!(
+            "    each with an end at D, {} of shorter visits",
+            self.shorter
+        );
         println!("    suspended with D a tick less: {}", self.tick_less);
     }
 
     /// Whether each kind of final decision was met at least so often.
     fn met(&self, least: usize) -> bool {
-        let decisions = [self.releases, self.reports, self.at_deadline, self.shorter];
-        let mut counts = decisions.into_iter().chain([self.tick_less]);
-        counts.all(|count| count >= least)
+        let decisions = [self.releases, self.reports, self.shorter, self.tick_less];
+        decisions.into_iter().all(|count| count >= least)
     }
 }
 
@@ -192,16 +191,27 @@ impl<'a> Runs<'a> {
     fn deadlines(&self, random: &mut Random) -> Vec<u64> {
         let is_final = |outline: &&Outline| self.listed.is_final(&outline.history);
         let turning = |outline: &Outline| outline.before + self.listed.stretch_at(&outline.history);
-        let finals = self.outlines.iter().filter(is_final);
-        let all: BTreeSet<u64> = finals.map(turning).collect();
-        let mut all: Vec<u64> = all.into_iter().filter(|&at| self.fits(at)).collect();
-        while all.len() > MOST_DEADLINES {
-            all.remove(random.index(all.len()));
-        }
-        all
+        let is_shorter = |outline: &&Outline| {
+            let history = &outline.history;
+            self.listed.stretch_at(history) < self.listed.stretch_of_last(history)
+        };
+        let few = |random: &mut Random, all: BTreeSet<u64>, most: usize| {
+            let mut all: Vec<u64> = all.into_iter().filter(|&at| self.fits(at)).collect();
+            while all.len() > most {
+                all.remove(random.index(all.len()));
+            }
+            all
+        };
+        let finals = || self.outlines.iter().filter(is_final);
+        let of_shorter = finals().filter(is_shorter).map(turning).collect();
+        let mut some = few(random, of_shorter, MOST_DEADLINES / 2);
+        let others = finals().map(turning).filter(|at| !some.contains(at));
+        let others = few(random, others.collect(), MOST_DEADLINES - some.len());
+        some.extend(others);
+        some
     }
 
-    /// The stretch of the visit that this history ends in, or that of the release.
+    /// The most that a run takes behind this history, which is all of its reports.
     fn own_stretch(&self, history: &[usize]) -> u64 {
         let with_history = self.outlines.iter().filter(|run| run.history == history);
         with_history.map(|run| run.behind).max().unwrap_or(0)
@@ -295,23 +305,29 @@ impl<'a> Trial<'a> {
         latest
     }
 
-    /// After a final decision with margin 0 some run takes all that its visit can.
+    /// After a final decision with margin 0 some run takes all that its visit can, up to D.
     fn ends(&self, turning: &[usize], met: &mut Met, holds: Holds) {
         for ((history, reading), end) in self.latest_ends(turning) {
             let own = self.runs.own_stretch(history);
-            let whole = own == self.runs.listed.stretch_at(&history.to_vec());
-            let right = end == reading + own && whole == (end == self.deadline);
+            let right = end == reading + own && end == self.deadline;
             holds(right, &|| self.shown(history, &format!("end at {end}")));
             match history.is_empty() {
                 true => met.releases += 1,
                 false => met.reports += 1,
             }
-            match whole {
-                true => met.at_deadline += 1,
-                false => met.shorter += 1,
-            }
+            let of_point = self.runs.listed.stretch_of_last(&history.to_vec());
+            met.shorter += usize::from(own < of_point);
         }
     }
+}
+
+/// A plan that takes at most a tick a visit alone, and none for the switch: earlier
+/// decisions go on with the deadlines at which the final ones turn.
+fn light_plan(random: &mut Random) -> Plan {
+    let mut plan = gen::small_or_calling_plan(random);
+    plan.switch = 0;
+    plan.change_all(|form| form.isolated = form.isolated.min(1));
+    plan
 }
 
 /// Plays the worst cases of so many random plans, with each kind of final decision met at
@@ -320,7 +336,10 @@ pub fn judge_random(seed: u64, plans: usize, least: usize, ready: Ready, holds: 
     let mut random = Random::new(seed);
     let mut met = Met::default();
     while met.plans < plans {
-        let plan = gen::small_or_calling_plan(&mut random);
+        let plan = match random.chance(50) {
+            true => light_plan(&mut random),
+            false => gen::small_or_calling_plan(&mut random),
+        };
         judge(&mut random, &plan, &mut met, ready, holds);
     }
     met.print();

@@ -4,15 +4,10 @@
 use reference::composed::Composed;
 use reference::edges;
 use reference::gen::{self, Random};
-use reference::listed::Listed;
 use reference::plan::{
     Form, Kind, Plan, MOST_BOUND, MOST_COST, MOST_DEADLINE, MOST_FUNCTIONS, MOST_LEAVES,
 };
-use reference::rules;
 use reference::table::{self, Table};
-
-/// The most runs of a plan whose runs are listed.
-const MOST_RUNS: usize = 300;
 
 /// A silent leaf that costs nothing.
 fn free(kind: Kind) -> Form {
@@ -111,17 +106,11 @@ fn by_task() -> Vec<Plan> {
     plans
 }
 
-/// Rules 8, 9 and 19 by random plans: their numbers composed form by form and, where
-/// some run has each point, read off the list of all runs. These differ where a silent
-/// loop or call has a point inside.
-fn by_chance(random: &mut Random) -> Vec<Table> {
+/// Rules 8, 9 and 19 by random plans.
+fn by_chance(random: &mut Random) -> Table {
     let shape = gen::small_shape(random);
     let plan = gen::loose_plan(random, shape);
-    let called = rules::uncalled(&plan).is_empty();
-    let listed = Listed::new(&plan, MOST_RUNS).filter(|_| called);
-    let by_runs = listed.map(|listed| table::table(&listed));
-    let by_forms = table::table(&Composed::new(&plan));
-    by_runs.into_iter().chain([by_forms]).collect()
+    table::table(&Composed::new(&plan))
 }
 
 /// Rules 3, 5, 8, 9 and 19 by one leaf of an accepted plan: a cost out of range, M
@@ -160,7 +149,7 @@ pub fn tables(random: &mut Random) -> Vec<Table> {
     let plans = [by_number(), by_depth(), by_task()].concat();
     let mut all: Vec<Table> = plans.iter().map(table::free).collect();
     for _ in 0..2_000 {
-        all.extend(by_chance(random));
+        all.push(by_chance(random));
         all.push(by_one_leaf(random));
     }
     for _ in 0..100 {

@@ -9,7 +9,7 @@ use Rattle.model.specs.Plan.{Lines, close}
 use Rattle.rows.specs.Rows.{after_at, Part}
 use Rattle.rows.specs.First.{rest}
 use Rattle.columns.specs.Columns.{Rule, column_of}
-use Rattle.columns.specs.Private.{front, sibling, later, Kept, Listed}
+use Rattle.columns.specs.Walks.{front, sibling, later, Kept, Listed}
 use Rattle.rows.proofs.Shape.{no_lines}
 use Rattle.columns.proofs.Stores.{sets_before}
 use Rattle.columns.proofs.Fronts.{column_split, front_fill}

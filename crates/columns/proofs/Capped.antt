@@ -6,9 +6,10 @@ use native.Mathlib.Decide.{dec_le}
 use native.Mathlib.Omega.{arith}
 use Rattle.model.specs.Plan.{Block}
 use Rattle.model.specs.Acceptance.{Costs}
-use Rattle.columns.specs.declared.Cost.{Cost}
-use Rattle.columns.specs.declared.Cost.TheVariants.{Isolated, MaxLoad}
-use Rattle.columns.specs.Sums.{limit, cap, cost_in}
+use Rattle.rows.specs.declared.Cost.{Cost}
+use Rattle.rows.specs.declared.Cost.TheVariants.{Isolated, MaxLoad}
+use Rattle.rows.specs.Costs.{limit, cost_in}
+use Rattle.columns.specs.Sums.{cap}
 
 pub cap_loop : (c n x : ℕ) → cap (c + n * (cap x + c)) ≡ cap (c + n * (x + c))
 cap_loop c zero x = omega (arith, zero-mul (cap x + c), zero-mul (x + c))

@@ -6,11 +6,9 @@ use Prim.Native.Nat.{ℕ, ◌+◌, ◌-◌, ◌*◌, ◌≤◌, ◌<◌, max}
 use native.Mathlib.Omega.{arith}
 use native.Mathlib.Decide.{dec_lt}
 use lib.Dec.{eqb, leb}
-use mathlib.Core.Bool.{Bool, true, false}
-use Rattle.std.specs.Bool.{MatchBool}
-use Rattle.std.specs.List.{AllWithin, HoldsAt}
-use Rattle.std.proofs.lemmas.List.{get_or-take, get_or-drop, length-take, length-drop, length-map}
-use lib.ListN.{length, get_or, take, drop}
+use mathlib.Core.Bool.{Bool, false}
+use Rattle.std.proofs.lemmas.List.{length-map}
+use lib.ListN.{length, get_or}
 use Rattle.std.proofs.lemmas.Bool.{false≢true, leb-true, eqb-true, eq-eqb}
 use Rattle.rows.specs.Answers.{Says}
 use Rattle.rows.proofs.Answers.{says}
@@ -21,15 +19,18 @@ use Rattle.rows.specs.Leaves.{numbers, lent_turns, lent_tails}
 use Rattle.rows.specs.Rows.{field, after_at, Rep, Part}
 use Rattle.rows.specs.First.{rest}
 use Rattle.rows.proofs.Shape.{LoopAt, IfAt, after, no_lines, body_in, then_in, else_in}
-use Rattle.columns.specs.Sums.{limit, lead}
+use Rattle.rows.specs.Costs.{limit}
+use Rattle.columns.specs.Sums.{lead}
+use Rattle.columns.specs.Walks.{front, FormsHeld}
+use Rattle.columns.specs.Private.{AsDerived, AsDerivedFirst, Begins, LoopFits, IfFits, FunctionFits}
 use Rattle.columns.specs.Columns.{column_of, held_turn, turn_rule, turns, rounds, tail_rule, Contains}
-use Rattle.columns.specs.Private.{front, FormsHeld, AsDerived, AsDerivedFirst, Begins, LoopFits, IfFits, FunctionFits}
 use Rattle.columns.specs.Local.{AllDerived}
 use Rattle.columns.proofs.Sizes.{tally_split, loop_lead, round_le, round_back}
 use Rattle.columns.proofs.Inner.{after_forms}
 use Rattle.columns.proofs.Stores.{contains_both}
 use Rattle.columns.proofs.Fronts.{column_split, front_fill, contains_rest, contains_loop, contains_if, loop_holds, if_holds}
 use Rattle.columns.proofs.Summing.{loop_turn, if_turn}
+use Rattle.columns.proofs.Adding.{first_turn, summed_fits, fits_summed}
 use Rattle.columns.proofs.Tailing.{loop_rounds, if_tail}
 
 -- The lines from i on are all that is left to walk of the lines l, which begin at `from`.
@@ -143,14 +144,6 @@ module _ (ts o u : List ℕ) where
   heads w v i e (loop_line b n body m) x r lt f = (f.turns_are.0, f.tails_are.0)
   heads w v i e (if_line b t g m) x r lt f = (f.turns_are.0, f.tails_are.0)
 
-  no_round : (w : List ℕ) (v i e : ℕ) (l : Lines) → Rep w v i e l → i < e → (field w i 0 ≡ 2 → ⊥) → held_turn C ts l ≡ 0
-  unfolding Rep held_turn
-  no_round w v i e close r lt k = absurd (omega arith)
-  no_round w v i e (leaf_line b m) r lt k = refl
-  no_round w v i e (call_line b g m) r lt k = refl
-  no_round w v i e (loop_line b n body m) r lt k = absurd (k r.0.0)
-  no_round w v i e (if_line b t g m) r lt k = refl
-
   flat : (w : List ℕ) (v i e : ℕ) (l : Lines) (x : ℕ) → Rep w v i e l → i < e → (field w i 0 ≡ 2 → ⊥) → (field w i 0 ≡ 3 → ⊥)
       → get_or o i 0 ≡ 0 → get_or u i 0 ≡ lead C ts l + x → lead C ts l + x ≤ limit → AsDerivedFirst ts o u l i x
   unfolding Rep front Contains held_turn
@@ -170,7 +163,7 @@ module _ (ts o u : List ℕ) where
 
     -- A form that is no loop has no round.
     pub first_round : (field w i 0 ≡ 2 → ⊥) → AsDerivedFirst ts o u p.lines i x → get_or o i 0 ≡ 0
-    first_round k f = (first_head f).0 ∙ no_round w v i e p.lines p.rep lt k
+    first_round k f = first_turn C ts o lt p k f.turns_are
 
     -- A leaf or a call.
     pub flat_first : (field w i 0 ≡ 2 → ⊥) → (field w i 0 ≡ 3 → ⊥) → get_or o i 0 ≡ 0 → (x ≤ get_or u i 0) × (get_or u i 0 ≤ limit)
@@ -287,41 +280,20 @@ module _ (ts o u : List ℕ) where
 
 -- THE FUNCTIONS
 
--- The totals from n on are all 0, or one of them is not.
-pub settled_says : (ts : List ℕ) (n : ℕ) (r : Bool) → length ts ≡ 16 → n ≤ 16
-    → MatchBool r (AllWithin (λ x. x ≡ 0) (take (16 - n) (drop n ts)) 0 (length (take (16 - n) (drop n ts))))
-    ((k : ℕ) × (k < length (take (16 - n) (drop n ts))) × HoldsAt (λ x. x ≡ 0 → ⊥) (take (16 - n) (drop n ts)) k)
-    → Says r ((f : ℕ) → n ≤ f → f < 16 → get_or ts f 0 ≡ 0)
-settled_says ts n true e le h = λ f a b.
-    let j : n + (f - n) ≡ f = omega arith in
-    let m : f - n < length (take (16 - n) (drop n ts)) = simp (length-take, length-drop) (omega arith) in
-    let t = ap (λ (g : ℕ). get_or ts g 0) j in
-    let g = get_or-take (16 - n) (drop n ts) (f - n) 0 (omega arith) in
-    omega (arith, t, g, get_or-drop n ts (f - n) 0, h (f - n) 0 (omega arith) m)
-settled_says ts n false e le h = λ a.
-    let m = simp (length-take, length-drop) at h.1 in
-    let lt : h.0 < 16 - n = omega arith in
-    let g = get_or-take (16 - n) (drop n ts) h.0 0 (omega arith) in
-    h.2 0 (omega (arith, g, get_or-drop n ts h.0 0, a (n + h.0) (omega arith) (omega arith)))
-
 module _ (ts starts : List ℕ) (F : ℕ → Lines) (row : List Leaf) where
   -- Where all functions fit, the lent numbers are theirs.
   pub fits_derived : {n : ℕ} → get_or starts n 0 ≤ length row → ((f : ℕ) → f < n → FunctionFits ts (lent_turns row) (lent_tails row) starts F f)
       → ((f : ℕ) → n ≤ f → f < 16 → get_or ts f 0 ≡ 0) → AllDerived F starts n ts (lent_turns row) (lent_tails row)
   fits_derived held a b =
       record {
-        exact =
-            record {
-              total = λ f lt. (a f lt).1;
-              small = λ f lt. omega (arith, (a f lt).0.small, (a f lt).1);
-              rounds = λ f lt. (a f lt).0.turns_are;
-            };
+        summed =
+            fits_summed C ts (lent_turns row) starts F (omega (arith, held, length-map row (λ (l : Leaf). l.turn)))
+            (λ f lt. ((a f lt).0.turns_are, omega (arith, (a f lt).0.small), (a f lt).1)) b;
         tails = λ f lt. (a f lt).0.tails_are;
-        behind = b;
-        turns_long = omega (arith, held, length-map row (λ (l : Leaf). l.turn));
         tails_long = omega (arith, held, length-map row (λ (l : Leaf). l.tail));
       }
 
   pub derived_fits : {n : ℕ} → AllDerived F starts n ts (lent_turns row) (lent_tails row) → (f : ℕ) → f < n → FunctionFits ts (lent_turns row) (lent_tails row) starts F f
   derived_fits d f lt =
-      let e = d.exact.total f lt in (record { turns_are = d.exact.rounds f lt; tails_are = d.tails f lt; small = omega (arith, e, d.exact.small f lt) }, e)
+      let a = summed_fits C ts (lent_turns row) starts F d.summed f lt in
+      (record { turns_are = a.0; tails_are = d.tails f lt; small = omega (arith, a.1) }, a.2)

@@ -11,7 +11,7 @@ use Rattle.rows.specs.Rows.{field, after_at, block_at, Rep, Part}
 use Rattle.rows.specs.First.{rest}
 use Rattle.rows.proofs.Shape.{LeafAt, CallAt, LoopAt, IfAt, then_in}
 use Rattle.columns.specs.Columns.{Rule, column_of, Contains}
-use Rattle.columns.specs.Private.{front}
+use Rattle.columns.specs.Walks.{front}
 use Rattle.columns.proofs.Stores.{sets_then, set_before, contains_append, contains_both}
 
 module _ (u : Rule) where

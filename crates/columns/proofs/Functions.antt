@@ -17,8 +17,10 @@ use Rattle.rows.specs.Rows.{Rules, Part}
 use Rattle.rows.proofs.Shape.{rep_le}
 use Rattle.rows.specs.Plans.{PlanOf, lines_of}
 use Rattle.rows.proofs.Plans.{plan_rep, plan_rules, heights_before, heights_count, plan_inside}
-use Rattle.columns.specs.Sums.{limit, ceiling, cap}
-use Rattle.columns.specs.Private.{Under, FormsHeld}
+use Rattle.rows.specs.Costs.{limit}
+use Rattle.columns.specs.Sums.{ceiling, cap}
+use Rattle.columns.specs.Walks.{FormsHeld}
+use Rattle.columns.specs.Private.{Under}
 use Rattle.columns.specs.Columns.{column_of, held_turn, turn_rule, turns, Contains}
 use Rattle.columns.specs.Whole.{known, Measured, Exact}
 use Rattle.columns.proofs.Capped.{cap_low, cap_both, cap_more, cap_rounds}
@@ -33,6 +35,15 @@ rules_below hs left v (leaf_line b r) h = rules_below hs left v r h.2
 rules_below hs left v (call_line b f r) h = (h.2, rules_below hs left v r h.4)
 rules_below hs left v (loop_line b n body r) h = (rules_below hs (left - 1) (suc v) body h.5, rules_below hs left v r h.6)
 rules_below hs left v (if_line b t e r) h = (rules_below hs (left - 2) v t h.3, rules_below hs (left - 2) v e h.4, rules_below hs left v r h.5)
+
+-- So do lines that call only functions before an earlier one.
+pub below_more : (n m : ℕ) (l : Lines) → n ≤ m → Below n l → Below m l
+unfolding Below
+below_more n m close h b = tt
+below_more n m (leaf_line y r) h b = below_more n m r h b
+below_more n m (call_line y f r) h b = (omega (arith, b.0), below_more n m r h b.1)
+below_more n m (loop_line y j body r) h b = (below_more n m body h b.0, below_more n m r h b.1)
+below_more n m (if_line y t e r) h b = (below_more n m t h b.0, below_more n m e h b.1, below_more n m r h b.2)
 
 -- Only the totals of functions that may be called count.
 module _ (k : Block → ℕ) (ts us : List ℕ) (n : ℕ) where

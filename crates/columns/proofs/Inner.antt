@@ -8,7 +8,7 @@ use Rattle.rows.specs.declared.Leaf.{Leaf}
 use Rattle.rows.specs.Leaves.{numbers}
 use Rattle.rows.specs.Rows.{kind_at, other_at, after_at}
 use Rattle.rows.proofs.Shape.{LeafAt, CallAt, LoopAt, IfAt, leaf_at, call_at, loop_at, if_at, ends, parts, after, body_in, then_in, else_in}
-use Rattle.columns.specs.Private.{FormsHeld, FormHeld}
+use Rattle.columns.specs.Walks.{FormsHeld, FormHeld}
 use Rattle.columns.proofs.Sizes.{rep_kind}
 
 module _ {row : List Leaf} {i : ℕ} (z : FormHeld row i) where

@@ -8,13 +8,11 @@ pub mod Listing
 pub mod Readiness
 pub mod Backing
 pub mod Tailing
+pub mod Adding
 pub mod Fitting
 pub mod Ranges
-pub mod Silences
-pub mod Widening
 pub mod Functions
 pub mod Driving
-pub mod Written
 pub mod Looking
 pub mod Known
 pub mod Reading

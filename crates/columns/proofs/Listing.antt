@@ -10,7 +10,7 @@ use lib.Seq.{get_or-set_same, get_or-set_other}
 use Rattle.model.specs.Plan.{Lines}
 use Rattle.rows.specs.Rows.{after_at, Rep, Rules, Part}
 use Rattle.rows.proofs.Shape.{rep_rest, rules_rest, ends}
-use Rattle.columns.specs.Private.{sibling, later, Kept}
+use Rattle.columns.specs.Walks.{sibling, later, Kept}
 
 -- The lines after the first k forms lie where form number k begins.
 pub rep_later : (w : List ℕ) (v i e k : ℕ) (l : Lines) → Rep w v i e l → ((j : ℕ) → j < k → sibling w i j < e) → Rep w v (sibling w i k) e (later k l)

@@ -1,6 +1,5 @@
--- What stands in a column at the place of a leaf: its tail, and its static stretch. Assumes nothing.
+-- What stands in a column at the place of a leaf: its tail. Assumes nothing.
 use mathlib.Core.Path.{◌≡◌, refl, sym, ap, ◌∙◌}
-use mathlib.Core.Bool.{Bool, true, false}
 use mathlib.Core.List.{List, [], ◌∷◌, ◌++◌}
 use Prim.Native.Nat.{ℕ, suc, ◌+◌, ◌-◌, ◌*◌, ◌≤◌, ◌<◌, max}
 use native.Mathlib.Omega.{arith}
@@ -13,12 +12,9 @@ use Rattle.model.specs.Plan.{Block, C, Lines, close, leaf_line, call_line, loop_
 use Rattle.model.specs.Total.{tally}
 use Rattle.model.specs.Tail.{tail, mine}
 use Rattle.model.specs.Places.{pick}
-use Rattle.model.specs.Static.{line_silence, shown, line_stretch}
-use Rattle.rows.specs.Rows.{field, after_at, block_at, Rep, Rules}
-use Rattle.columns.specs.Sums.{limit, cap, lead}
-use Rattle.columns.specs.Columns.{Rule, column_of, held_turn, turn_rule, turns, round_sum, rounds, tail_rule, Contains}
-use Rattle.columns.proofs.Sizes.{round_le}
-use Rattle.columns.specs.Stretches.{leaf_stretch, first_stretch, stretch_rule}
+use Rattle.rows.specs.Rows.{field, after_at, block_at, Rep}
+use Rattle.columns.specs.Sums.{lead}
+use Rattle.columns.specs.Columns.{Rule, column_of, rounds, tail_rule, Contains}
 use Rattle.columns.proofs.Stores.{sets_below}
 use Rattle.columns.proofs.Fronts.{column_fill}
 
@@ -72,13 +68,13 @@ module _ (u : Rule) where
   fill_of w v i e l s h = sym (column_fill u w v i e l s h)
 
   -- A loop, and an if: the column of the parts.
-  look_loop : (x : ℕ) (w : List ℕ) (v i e : ℕ) (body : Lines) (y : ℕ) (vs : List ℕ) → Rep w v (i + 1) e body
+  pub look_loop : (x : ℕ) (w : List ℕ) (v i e : ℕ) (body : Lines) (y : ℕ) (vs : List ℕ) → Rep w v (i + 1) e body
       → look (suc i) x (column_of u body y ++ vs) ≡ max (look (i + 1) x (column_of u body y)) (look e x vs)
   look_loop x w v i e body y vs h =
       let j : i + 1 ≡ suc i = omega arith in
       rw j (look_append (column_of u body y) vs (suc i) e x (omega (arith, fill_of w v (i + 1) e body y h)))
 
-  look_if : (x : ℕ) (w : List ℕ) (v i m e : ℕ) (t f : Lines) (y : ℕ) (vs : List ℕ) → Rep w v (i + 1) m t → Rep w v m e f
+  pub look_if : (x : ℕ) (w : List ℕ) (v i m e : ℕ) (t f : Lines) (y : ℕ) (vs : List ℕ) → Rep w v (i + 1) m t → Rep w v m e f
       → look (suc i) x (column_of u t y ++ (column_of u f y ++ vs)) ≡ max (look (i + 1) x (column_of u t y)) (max (look m x (column_of u f y)) (look e x vs))
   look_if x w v i m e t f y vs h k =
       look_loop x w v i m t y (column_of u f y ++ vs) h ∙ ap (λ (z : ℕ). max (look (i + 1) x (column_of u t y)) z) (look_append (column_of u f y) vs m e x (fill_of w v m e f y k))
@@ -127,73 +123,3 @@ contains_look (v ∷ vs) o i x h l u =
           let b : get_or o x 0 ≡ v = rw (← e) h.0 in
           omega (arith, b, at_same i x v e, look_below vs (suc i) x (omega arith))
     ]
-
-at_zero : (i x y : ℕ) → y ≡ max (pick (eqb i x) 0 0) y
-at_zero i x y = go (eqb i x)
-  where
-    go : (p : Bool) → y ≡ max (pick p 0 0) y
-    go true = omega arith
-    go false = omega arith
-
--- The exact sum of one round of the loop x is what stands at x.
-pub turn_look : (k : Block → ℕ) (ts hs : List ℕ) (left x : ℕ) (w : List ℕ) (v i e : ℕ) (l : Lines) → Rep w v i e l → Rules hs left v l → tally k ts l ≤ limit
-    → round_sum k ts x l ≡ look i x (turns k ts l)
-unfolding round_sum look column_of held_turn tally Rep Rules
-turn_look k ts hs left x w v i e close h r le = refl
-turn_look k ts hs left x w v i e (leaf_line b r) h q le =
-    let j : after_at w i ≡ suc i = omega arith in
-    let y = rw j at (turn_look k ts hs left x w v (after_at w i) e r h.4 q.2 (omega arith)) in
-    y ∙ at_zero i x (look (suc i) x (turns k ts r))
-turn_look k ts hs left x w v i e (call_line b f r) h q le =
-    let j : after_at w i ≡ suc i = omega arith in
-    let y = rw j at (turn_look k ts hs left x w v (after_at w i) e r h.4 q.4 (omega arith)) in
-    y ∙ at_zero i x (look (suc i) x (turns k ts r))
-turn_look k ts hs left x w v i e (loop_line b n body r) h q le =
-    let g = round_le n (tally k ts body) (k b) q.1 in
-    let c : cap (tally k ts body) ≡ tally k ts body = omega arith in
-    let y = turn_look k ts hs (left - 1) x w (suc v) (i + 1) (after_at w i) body h.3 q.5 (omega arith) in
-    let z = turn_look k ts hs left x w v (after_at w i) e r h.4 q.6 (omega arith) in
-    let u = look_loop (turn_rule k ts) x w (suc v) i (after_at w i) body 0 (turns k ts r) h.3 in
-    let m : mine x b (k b + tally k ts body) ≡ pick (eqb i x) (k b + tally k ts body) 0 = mine_at w i x b h.0.1 refl in
-    rw (u, c, y, z, m)
-turn_look k ts hs left x w v i e (if_line b t f r) h q le =
-    let y₁ = turn_look k ts hs (left - 2) x w v (i + 1) (field w i 5) t h.2 q.3 (omega arith) in
-    let y₂ = turn_look k ts hs (left - 2) x w v (field w i 5) (after_at w i) f h.3 q.4 (omega arith) in
-    let z = turn_look k ts hs left x w v (after_at w i) e r h.4 q.5 (omega arith) in
-    let u = look_if (turn_rule k ts) x w v i (field w i 5) (after_at w i) t f 0 (turns k ts r) h.2 h.3 in
-    rw (u, y₁, y₂, z) (at_zero i x _)
-
-shown_at : (k : Block → ℕ) (x : ℕ) (w : List ℕ) (i s : ℕ) (b : Block) → b ≡ block_at w i → shown k x b s ≡ pick (eqb i x) (leaf_stretch k b s) 0
-shown_at k x w i s b e = rw e (go (eqb (field w i 1) 1) (eqb i x))
-  where
-    go : (p t : Bool) → pick p (pick t (k (block_at w i) + s) 0) 0 ≡ pick t (pick p (k (block_at w i) + s) 0) 0
-    go true true = refl
-    go true false = refl
-    go false true = refl
-    go false false = refl
-
--- The static stretch of the point x is what stands at x.
-pub stretch_look : (k : Block → ℕ) (ms : List ℕ) (q : ℕ → ℕ → ℕ) (x : ℕ) (w : List ℕ) (v i e : ℕ) (l : Lines) (s : ℕ) → Rep w v i e l
-    → line_stretch k ms q x l s ≡ look i x (column_of (stretch_rule k ms q) l s)
-unfolding line_stretch look column_of first_stretch Rep
-stretch_look k ms q x w v i e close s h = refl
-stretch_look k ms q x w v i e (leaf_line b r) s h =
-    let j : after_at w i ≡ suc i = omega arith in
-    let y = rw j at (stretch_look k ms q x w v (after_at w i) e r s h.4) in
-    rw (shown_at k x w i (line_silence k ms r s) b h.0.1, y)
-stretch_look k ms q x w v i e (call_line b f r) s h =
-    let j : after_at w i ≡ suc i = omega arith in
-    let y = rw j at (stretch_look k ms q x w v (after_at w i) e r s h.4) in
-    rw (shown_at k x w i (q f (line_silence k ms r s)) b h.0.1, y)
-stretch_look k ms q x w v i e (loop_line b n body r) s h =
-    let y = stretch_look k ms q x w (suc v) (i + 1) (after_at w i) body 0 h.3 in
-    let z = stretch_look k ms q x w v (after_at w i) e r s h.4 in
-    let u = look_loop (stretch_rule k ms q) x w (suc v) i (after_at w i) body 0 (column_of (stretch_rule k ms q) r s) h.3 in
-    rw (shown_at k x w i (max (line_silence k ms r s) (line_silence k ms body 0)) b h.0.1, y, z, u)
-stretch_look k ms q x w v i e (if_line b t f r) s h =
-    let c = line_silence k ms r s in
-    let y₁ = stretch_look k ms q x w v (i + 1) (field w i 5) t c h.2 in
-    let y₂ = stretch_look k ms q x w v (field w i 5) (after_at w i) f c h.3 in
-    let z = stretch_look k ms q x w v (after_at w i) e r s h.4 in
-    let u = look_if (stretch_rule k ms q) x w v i (field w i 5) (after_at w i) t f c (column_of (stretch_rule k ms q) r s) h.2 h.3 in
-    rw (shown_at k x w i (max (line_silence k ms t c) (line_silence k ms f c)) b h.0.1, y₁, y₂, z, u)

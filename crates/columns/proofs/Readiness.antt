@@ -11,9 +11,10 @@ use Rattle.rows.specs.First.{rest}
 use Rattle.rows.specs.declared.Leaf.{Leaf}
 use Rattle.rows.specs.Leaves.{numbers}
 use Rattle.rows.proofs.Shape.{LoopAt, IfAt}
-use Rattle.columns.specs.Sums.{limit, lead}
+use Rattle.rows.specs.Costs.{limit}
+use Rattle.columns.specs.Sums.{lead}
+use Rattle.columns.specs.Walks.{front, Sized, Ready, sibling, later}
 use Rattle.columns.specs.Columns.{Rule, column_of, turn_rule, Contains}
-use Rattle.columns.specs.Private.{front, Sized, Ready, sibling, later}
 use Rattle.columns.proofs.Sizes.{tally_split, loop_lead, if_lead, round_le}
 use Rattle.columns.proofs.Inner.{body_forms, then_forms, else_forms, first_form, after_forms}
 use Rattle.columns.proofs.Fronts.{contains_rest, contains_loop, contains_if}

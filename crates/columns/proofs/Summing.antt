@@ -13,8 +13,8 @@ use Rattle.rows.specs.Rows.{field, after_at, block_at}
 use Rattle.rows.specs.First.{rest}
 use Rattle.rows.proofs.Shape.{LeafAt, CallAt, LoopAt, IfAt, no_lines}
 use Rattle.columns.specs.Sums.{ceiling, cap, lead}
+use Rattle.columns.specs.Walks.{front, FormsHeld}
 use Rattle.columns.specs.Columns.{column_of, held_turn, turn_rule, turns}
-use Rattle.columns.specs.Private.{front, FormsHeld}
 use Rattle.columns.proofs.Capped.{cap_loop}
 use Rattle.columns.proofs.Sizes.{tally_split, leaf_lead, call_lead, loop_lead, if_lead}
 use Rattle.columns.proofs.Inner.{after_forms}

@@ -11,11 +11,10 @@ use Rattle.rows.specs.Leaves.{numbers}
 use Rattle.rows.specs.Rows.{field, block_at}
 use Rattle.rows.specs.First.{rest}
 use Rattle.rows.proofs.Shape.{LoopAt, IfAt}
-use Rattle.columns.specs.declared.Cost.{Cost}
-use Rattle.columns.specs.declared.Cost.TheVariants.{Isolated}
-use Rattle.columns.specs.Sums.{limit, cost_in, lead}
+use Rattle.rows.specs.Costs.{limit}
+use Rattle.columns.specs.Sums.{lead}
+use Rattle.columns.specs.Walks.{Ready, later}
 use Rattle.columns.specs.Columns.{rounds}
-use Rattle.columns.specs.Private.{Ready, later}
 use Rattle.columns.proofs.Sizes.{tally_split, loop_lead, if_lead, round_back}
 use Rattle.columns.proofs.Readiness.{ready_turn, ready_zero}
 
@@ -25,8 +24,8 @@ pub loop_rounds : (ts : List ℕ) (x : ℕ) {w hs : List ℕ} {left v i : ℕ} {
 unfolding rounds
 loop_rounds ts x h = ap (λ u. rounds ts u x) h.shape
 
--- The same, where t is the tail of the loop.
 module _ {row : List Leaf} {ts o : List ℕ} {i x : ℕ} (z : Ready C row ts o i x) where
+  -- The same, where t is the tail of the loop.
   pub loop_behind : {hs : List ℕ} {left v t : ℕ} (h : LoopAt (numbers row) hs left v i z.form.part.lines) → t ≡ lead C ts z.form.part.lines + x
       → (t - get_or o i 0 ≡ rounds ts z.form.part.lines x) × (tally C ts h.body.lines + (t - get_or o i 0) ≤ limit) × (get_or o i 0 ≤ t)
   loop_behind {t = t} h ht =
@@ -38,13 +37,9 @@ module _ {row : List Leaf} {ts o : List ℕ} {i x : ℕ} (z : Ready C row ts o i
       let r = loop_rounds ts x h in
       (omega (arith, a, b, d, r, ht), omega (arith, a, b, d, ht, z.small), omega (arith, a, b, d, ht))
 
--- What is asked for the total of a form, and what it is, where the cost q is the isolated one.
-module _ {q : Cost} {row : List Leaf} {ts o : List ℕ} {i x : ℕ} (h : q ≡ Isolated) (z : Ready C row ts o i x) where
-  pub to_weigh : Ready (cost_in q) row ts o i 0
-  to_weigh = rw h (ready_zero z)
-
-  pub weighed : {y : ℕ} → ((p : Ready (cost_in q) row ts o i 0) → y ≡ lead (cost_in q) ts p.form.part.lines) → y + x ≡ lead C ts z.form.part.lines + x
-  weighed f = ap (λ (n : ℕ). n + x) ((rw h at f) (ready_zero z))
+  -- The total of a form, and what follows it.
+  pub weighed : {y : ℕ} → ((p : Ready C row ts o i 0) → y ≡ lead C ts p.form.part.lines) → y + x ≡ lead C ts z.form.part.lines + x
+  weighed f = ap (λ (n : ℕ). n + x) (f (ready_zero z))
 
 -- The tail of an if.
 pub if_tail : (ts : List ℕ) (x : ℕ) {w hs : List ℕ} {left v i : ℕ} {l : Lines} {c a b m : ℕ} (h : IfAt w hs left v i l) → c ≡ C (block_at w i)

@@ -1,8 +1,7 @@
 -- A derived column: one number for each leaf, in text order. Assumes nothing: these are definitions.
-use Rattle.std.specs.Prelude.{◌≡◌, List, [], ◌∷◌, ◌++◌, ℕ, suc, ◌+◌, ◌-◌, ◌*◌, max, get_or}
+use Rattle.std.specs.Prelude.{◌≡◌, List, [], ◌∷◌, ◌++◌, ℕ, suc, ◌+◌, ◌-◌, ◌*◌, get_or}
 use Rattle.model.specs.Plan.{Block, C, Lines, close, leaf_line, call_line, loop_line, if_line}
 use Rattle.model.specs.Total.{tally}
-use Rattle.model.specs.Tail.{mine}
 use Rattle.columns.specs.Sums.{cap, lead}
 
 -- How a column is computed from what follows: `next l s` stands at the start of the lines l, which s follows; `value l x` is the number of the
@@ -36,14 +35,6 @@ turn_rule k ts = record { next = λ l s. 0; value = λ l x. held_turn k ts l; in
 
 abbrev pub turns : (Block → ℕ) → List ℕ → Lines → List ℕ
 turns k ts l = column_of (turn_rule k ts) l 0
-
--- The exact sum of one round of the loop x among lines: its condition and its body; 0, if x is no loop of theirs.
-unfoldable pub round_sum : (Block → ℕ) → List ℕ → ℕ → Lines → ℕ
-round_sum k ts x close = 0
-round_sum k ts x (leaf_line b r) = round_sum k ts x r
-round_sum k ts x (call_line b f r) = round_sum k ts x r
-round_sum k ts x (loop_line b n body r) = max (mine x b (k b + tally k ts body)) (max (round_sum k ts x body) (round_sum k ts x r))
-round_sum k ts x (if_line b t e r) = max (round_sum k ts x t) (max (round_sum k ts x e) (round_sum k ts x r))
 
 -- What follows the body of the loop that the lines open with, in a first visit: the condition, all rounds but one, and x.
 unfoldable pub rounds : List ℕ → Lines → ℕ → ℕ

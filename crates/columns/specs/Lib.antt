@@ -1,6 +1,6 @@
 pub mod Sums
 pub mod Columns
-pub mod Stretches
+pub mod Walks
 pub mod Whole
 pub mod Local
 pub mod Private

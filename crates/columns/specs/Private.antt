@@ -1,143 +1,30 @@
 -- What only the private functions promise. Nothing of this stands in the contract of a public one.
 -- Assumes nothing: these are definitions.
-use Rattle.std.specs.Prelude.{List, [], ◌∷◌, ◌++◌, ℕ, ◌+◌, ◌-◌, ◌*◌, ◌≤◌, max, suc, zero, ◌<◌, get_or, length, ◌≡◌, Option, Some, None, Bool}
-use Rattle.model.specs.Plan.{Block, C, Lines, close, leaf_line, call_line, loop_line, if_line}
+use Rattle.std.specs.Prelude.{List, ℕ, ◌+◌, ◌-◌, ◌*◌, ◌≤◌, max, ◌<◌, get_or, ◌≡◌, Option, Some, None, Bool}
+use Rattle.model.specs.Plan.{Block, C, Lines}
 use Rattle.model.specs.Total.{tally}
-use Rattle.model.specs.Places.{pick}
-use Rattle.columns.specs.Sums.{limit, lead}
-use Rattle.rows.specs.declared.Leaf.{Leaf}
-use Rattle.rows.specs.Rows.{Part, field, after_at}
-use Rattle.columns.specs.Columns.{Rule, column_of, turn_rule, turns, tail_rule, Contains}
-use Rattle.rows.specs.Leaves.{numbers, lent_turns, lent_tails}
-use Rattle.rows.specs.First.{rest}
+use Rattle.rows.specs.declared.PricedCode.{PricedCode}
+use Rattle.rows.specs.Rows.{field}
+use Rattle.rows.specs.Leaves.{lent_turns, lent_tails}
+use Rattle.rows.specs.Costs.{limit, cost_in, lent_turns_in}
 use Rattle.rows.specs.Plans.{CodePlan, lines_of}
 use Rattle.rows.specs.Answers.{Says}
-use Rattle.model.specs.Static.{line_silence}
-use Rattle.columns.specs.declared.SilentSum.{SilentSum}
 use Rattle.columns.specs.declared.Walk.{Walk}
 use Rattle.columns.specs.declared.Lent.{Lent}
-use Rattle.columns.specs.Stretches.{follow_call, follow_calls}
-use Rattle.columns.specs.Whole.{CodeSummed}
+use Rattle.columns.specs.Sums.{cap, lead}
+use Rattle.columns.specs.Columns.{column_of, turn_rule, turns, tail_rule, Contains}
+use Rattle.columns.specs.Walks.{front, Sized, Ready}
 
 -- None of the numbers is over m.
 abbrev pub Under : ℕ → List ℕ → Type 0
 Under m xs = (j : ℕ) → get_or xs j 0 ≤ m
 
--- The numbers of the leaves of the first form, which x follows.
-unfoldable pub front : Rule → Lines → ℕ → List ℕ
-front u close x = []
-front u (leaf_line b r) x = u.value (leaf_line b r) x ∷ []
-front u (call_line b f r) x = u.value (call_line b f r) x ∷ []
-front u (loop_line b n body r) x = u.value (loop_line b n body r) x ∷ column_of u body (u.inner (loop_line b n body r) x)
-front u (if_line b t e r) x = u.value (if_line b t e r) x ∷ (column_of u t x ++ column_of u e x)
+-- What `Sized` and `Ready` say, of what a walk goes by.
+abbrev pub WalkSized : Walk → ℕ → ℕ → ℕ → Type 0
+WalkSized a i e s = Sized C a.code.row.now a.sums.now a.turn.now i e s
 
--- The leaves hold forms from i up to e, in which `left` brackets may open.
-pub record FormsHeld (row : List Leaf) (i e : ℕ) : Type 0 where
-  pub left : ℕ
-  pub heights : List ℕ
-  pub level : ℕ
-  pub part : Part (numbers row) heights left level i e
-  pub held : e ≤ length row
-  pub few : e ≤ 512
-
--- They hold a form at i: the first of those up to `end`.
-pub record FormHeld (row : List Leaf) (i : ℕ) : Type 0 where
-  pub left : ℕ
-  pub heights : List ℕ
-  pub level : ℕ
-  pub end : ℕ
-  pub part : Part (numbers row) heights left level i end
-  pub some : i < end
-  pub held : end ≤ length row
-  pub few : end ≤ 512
-
--- The total of forms, with the s that follows them, is within the limit, and the sums of their rounds stand in o.
-pub record Sized (k : Block → ℕ) (row : List Leaf) (ts o : List ℕ) (i e s : ℕ) : Type 0 where
-  pub forms : FormsHeld row i e
-  pub small : tally k ts forms.part.lines + s ≤ limit
-  pub noted : Contains o i (turns k ts forms.part.lines)
-
--- The same of the form at i, which x follows.
-pub record Ready (k : Block → ℕ) (row : List Leaf) (ts o : List ℕ) (i x : ℕ) : Type 0 where
-  pub form : FormHeld row i
-  pub small : lead k ts form.part.lines + x ≤ limit
-  pub noted : Contains o i (turns k ts form.part.lines)
-
--- The same of what a walk goes by.
-abbrev pub SizedIn : (Block → ℕ) → Walk → ℕ → ℕ → ℕ → Type 0
-SizedIn k a i e s = Sized k a.code.row.now a.sums.now a.turn.now i e s
-
-abbrev pub ReadyIn : (Block → ℕ) → Walk → ℕ → ℕ → Type 0
-ReadyIn k a i x = Ready k a.code.row.now a.sums.now a.turn.now i x
-
-abbrev pub SummedIn : (Block → ℕ) → Walk → Type 0
-SummedIn k a = CodeSummed k a.code a.sums.now a.turn.now
-
--- The first leaf of form number k of the sequence that begins at i.
-unfoldable pub sibling : List ℕ → ℕ → ℕ → ℕ
-sibling w i zero = i
-sibling w i (suc k) = after_at w (sibling w i k)
-
--- The lines after the first k forms.
-unfoldable pub later : ℕ → Lines → Lines
-later zero l = l
-later (suc k) l = rest (later k l)
-
--- The list o became o': of the same length, and as it was below i.
-pub record Kept (i : ℕ) (o o' : List ℕ) : Type 0 where
-  pub long : length o' ≡ length o
-  pub same : (j : ℕ) → j < i → get_or o' j 0 ≡ get_or o j 0
-
--- The sequence from i up to e has n forms, and o lists their first leaves from i on.
-pub record Listed (w : List ℕ) (i e n : ℕ) (o : List ℕ) : Type 0 where
-  pub ends : sibling w i n ≡ e
-  pub inside : (k : ℕ) → k < n → sibling w i k < e
-  pub room : (k : ℕ) → k < n → i + k ≤ sibling w i k
-  pub there : (k : ℕ) → k < n → get_or o (i + k) 0 ≡ sibling w i k
-
--- The longer of the stretch `hit` and, where no point stops it, of `pass` and the s that follows.
-abbrev pub longer : ℕ → Option ℕ → ℕ → ℕ
-longer hit None s = hit
-longer hit (Some pass) s = max hit (pass + s)
-
--- The silence q where s follows.
-abbrev pub silence_of : SilentSum → ℕ → ℕ
-silence_of q s = longer q.hit q.pass s
-
--- The silence q is the function f, and none of its sums is over m.
-pub record IsSilence (q : SilentSum) (f : ℕ → ℕ) (m : ℕ) : Type 0 where
-  pub says : (s : ℕ) → silence_of q s ≡ f s
-  pub hit : q.hit ≤ m
-  pub pass : (x : ℕ) → q.pass ≡ Some x → x ≤ m
-
--- None of its sums is over the limit.
-pub record WithinLimit (q : SilentSum) : Type 0 where
-  pub hit : q.hit ≤ limit
-  pub pass : (x : ℕ) → q.pass ≡ Some x → x ≤ limit
-
--- The silence at the cost k through the first form, where s follows it; ms are the totals of the functions at k.
-unfoldable pub first_silence : (Block → ℕ) → List ℕ → Lines → ℕ → ℕ
-first_silence k ms close s = s
-first_silence k ms (leaf_line b rest) s = pick b.point 0 (k b + s)
-first_silence k ms (call_line b f rest) s = pick b.point 0 (k b + get_or ms f 0 + s)
-first_silence k ms (loop_line b n body rest) s = pick b.point 0 (k b + n * (tally k ms body + k b) + s)
-first_silence k ms (if_line b then else rest) s = pick b.point 0 (k b + max (line_silence k ms then s) (line_silence k ms else s))
-
--- The silence of the function f.
-abbrev pub head_at : List SilentSum → ℕ → SilentSum
-head_at h f = get_or h f (record { hit = 0; pass = None })
-
--- None of their sums is over the limit.
-abbrev pub WithinLimits : List SilentSum → Type 0
-WithinLimits h = (f : ℕ) → WithinLimit (head_at h f)
-
--- The same after the calls of the first form alone, which x follows.
-unfoldable pub follow_first : (Block → ℕ) → List ℕ → Lines → ℕ → List ℕ → List ℕ
-follow_first k ms close x a = a
-follow_first k ms (leaf_line b r) x a = a
-follow_first k ms (call_line b f r) x a = follow_call a f x
-follow_first k ms (loop_line b n body r) x a = follow_calls k ms body 0 a
-follow_first k ms (if_line b t e r) x a = follow_calls k ms e x (follow_calls k ms t x a)
+abbrev pub WalkReady : Walk → ℕ → ℕ → Type 0
+WalkReady a i x = Ready C a.code.row.now a.sums.now a.turn.now i x
 
 -- Both columns of lines, which e follows, stand from i on, and their total with e is within the limit.
 pub record AsDerived (ts o u : List ℕ) (l : Lines) (i e : ℕ) : Type 0 where
@@ -181,3 +68,26 @@ FunctionIn a F f = FunctionFits a.sums.now (lent_turns a.code.row.now) (lent_tai
 -- The answer b says whether that is so of the function f, by the plan whose code is lent.
 pub record FunctionAnswer (a : Lent) (f : ℕ) (b : Bool) : Type 0 where
   pub says : (v : CodePlan a.code) → Says b (FunctionIn a (lines_of v) f)
+
+-- The answer is the total t, held at the ceiling, where A holds, and none where it does not.
+abbrev pub Totals : Option ℕ → Type 0 → ℕ → Type 0
+Totals (Some n) A t = A × (n ≡ cap t)
+Totals None A t = A → ⊥
+
+-- The same of forms and of a first form, where A says that their turns at this cost stand as they are derived.
+abbrev pub TotalIn : PricedCode → Lines → ℕ → Option ℕ → Type 0
+TotalIn a l i r =
+    Totals r (Contains (lent_turns_in a.cost a.code.row.now) i (turns (cost_in a.cost) a.totals.now l)) (tally (cost_in a.cost) a.totals.now l)
+
+abbrev pub FirstTotalIn : PricedCode → Lines → ℕ → Option ℕ → Type 0
+FirstTotalIn a l i r =
+    Totals r (Contains (lent_turns_in a.cost a.code.row.now) i (front (turn_rule (cost_in a.cost) a.totals.now) l 0)) (lead (cost_in a.cost) a.totals.now l)
+
+-- The turns of the function f, whose lines are F f, stand as they are derived, and its total is exact and within the limit.
+abbrev pub SumFits : (Block → ℕ) → List ℕ → List ℕ → List ℕ → (ℕ → Lines) → ℕ → Type 0
+SumFits k ts o starts F f = Contains o (get_or starts f 0) (turns k ts (F f)) × (tally k ts (F f) ≤ limit) × (get_or ts f 0 ≡ tally k ts (F f))
+
+-- The answer b says whether that is so of the function f of a code, at the cost that it is priced at.
+pub record SumAnswer (a : PricedCode) (f : ℕ) (b : Bool) : Type 0 where
+  pub says : (v : CodePlan a.code)
+      → Says b (SumFits (cost_in a.cost) a.totals.now (lent_turns_in a.cost a.code.row.now) a.code.bounds.now (lines_of v) f)

@@ -1,13 +1,7 @@
 -- Totals of forms that lie in a row of numbers. Assumes nothing: these are definitions.
 use Rattle.std.specs.Prelude.{List, ℕ, ◌+◌, ◌*◌, max, min, get_or}
-use Rattle.model.specs.Plan.{Block, C, M, Lines, close, leaf_line, call_line, loop_line, if_line}
+use Rattle.model.specs.Plan.{Block, Lines, close, leaf_line, call_line, loop_line, if_line}
 use Rattle.model.specs.Total.{tally}
-use Rattle.columns.specs.declared.Cost.{Cost}
-use Rattle.columns.specs.declared.Cost.TheVariants.{Isolated, MaxLoad}
-
--- 2^40: no total of an accepted plan is over it.
-abbrev pub limit : ℕ
-limit = 1099511627776
 
 -- 2^41: sums are held there, so that none wraps.
 abbrev pub ceiling : ℕ
@@ -16,11 +10,6 @@ ceiling = 2199023255552
 -- The number n, held at the ceiling. It is over the limit exactly when n is.
 abbrev pub cap : ℕ → ℕ
 cap n = min n 2199023255552
-
--- The cost of a visit that counts.
-abbrev pub cost_in : Cost → Block → ℕ
-cost_in Isolated = C
-cost_in MaxLoad = M
 
 -- The total of the first form alone; ts are the totals of the functions.
 unfoldable pub lead : (Block → ℕ) → List ℕ → Lines → ℕ

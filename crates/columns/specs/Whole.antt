@@ -1,14 +1,14 @@
 -- The functions of a plan. Assumes nothing: these are definitions.
-use Rattle.std.specs.Prelude.{◌≡◌, List, [], ◌∷◌, ◌++◌, ℕ, zero, suc, ◌-◌, ◌≤◌, ◌<◌, get_or, replicate}
+use Rattle.std.specs.Prelude.{◌≡◌, List, [], ◌∷◌, ◌++◌, ℕ, zero, suc, ◌≤◌, ◌<◌, get_or}
 use Rattle.std.proofs.lemmas.List.Edits.{sets}
-use Rattle.model.specs.Plan.{Block, C, M, Lines}
+use Rattle.model.specs.Plan.{Block, Lines}
 use Rattle.model.specs.Total.{tally}
 use Rattle.rows.specs.declared.Code.{Code}
 use Rattle.rows.specs.Leaves.{numbers}
 use Rattle.rows.specs.Plans.{PlanOf, lines_of}
-use Rattle.columns.specs.Sums.{limit, cap}
+use Rattle.rows.specs.Costs.{limit}
+use Rattle.columns.specs.Sums.{cap}
 use Rattle.columns.specs.Columns.{column_of, turns, tail_rule, Contains}
-use Rattle.columns.specs.Stretches.{stretch_rule, follow_calls}
 
 -- The totals of the first n functions, where F f is the lines of the function f.
 unfoldable pub known : (Block → ℕ) → (ℕ → Lines) → ℕ → List ℕ
@@ -31,31 +31,11 @@ pub record Summed (k : Block → ℕ) (w starts : List ℕ) (n : ℕ) (ts o : Li
   pub plan : PlanOf w starts n
   pub exact : Exact k (lines_of plan) starts n ts o
 
--- The row holds n functions, with their exact totals at both costs: cs, with the sums of rounds in o, and ms, with those in p.
-pub record SummedBoth (w starts : List ℕ) (n : ℕ) (cs o ms p : List ℕ) : Type 0 where
-  pub plan : PlanOf w starts n
-  pub isolated : Exact C (lines_of plan) starts n cs o
-  pub max_load : Exact M (lines_of plan) starts n ms p
-
--- What follows each function, as far as the j last of n functions call it; ms are the totals at the cost k.
-unfoldable pub follows_after : (Block → ℕ) → List ℕ → (ℕ → Lines) → ℕ → ℕ → List ℕ
-follows_after k ms F n zero = replicate 16 0
-follows_after k ms F n (suc j) = follow_calls k ms (F (n - suc j)) (get_or (follows_after k ms F n j) (n - suc j) 0) (follows_after k ms F n j)
-
--- The column o, with the stretches at the cost k of the j last of n functions.
-unfoldable pub stretches_written : (Block → ℕ) → List ℕ → (ℕ → ℕ → ℕ) → (ℕ → Lines) → List ℕ → ℕ → ℕ → List ℕ → List ℕ
-stretches_written k ms q F starts n zero o = o
-stretches_written k ms q F starts n (suc j) o =
-    sets (stretches_written k ms q F starts n j o) (get_or starts (n - suc j) 0) (column_of (stretch_rule k ms q) (F (n - suc j)) (get_or (follows_after k ms F n j) (n - suc j) 0))
+-- The same of a code that is lent.
+abbrev pub CodeSummed : (Block → ℕ) → Code → List ℕ → List ℕ → Type 0
+CodeSummed k c ts o = Summed k (numbers c.row.now) c.bounds.now c.functions ts o
 
 -- The column o, with the tails of the first k functions; ts are the isolated totals.
 unfoldable pub tails_written : List ℕ → (ℕ → Lines) → List ℕ → ℕ → List ℕ → List ℕ
 tails_written ts F starts zero o = o
 tails_written ts F starts (suc k) o = sets (tails_written ts F starts k o) (get_or starts k 0) (column_of (tail_rule ts) (F k) 0)
-
--- The same of a code that is lent, at one cost or at both.
-abbrev pub CodeSummed : (Block → ℕ) → Code → List ℕ → List ℕ → Type 0
-CodeSummed k c ts o = Summed k (numbers c.row.now) c.bounds.now c.functions ts o
-
-abbrev pub CodeSummedBoth : Code → List ℕ → List ℕ → List ℕ → List ℕ → Type 0
-CodeSummedBoth c cs o ms p = SummedBoth (numbers c.row.now) c.bounds.now c.functions cs o ms p

@@ -1,54 +1,33 @@
-// The derived columns of a plan's table: the sum of one round of each loop, tails and stretches. Each leaf is looked at a fixed number of times,
+// The derived columns of a plan's table: the sum of one round of each loop, and the tails. Each leaf is looked at a fixed number of times,
 // whatever the nesting: sums are noted once for each loop, and siblings are walked from the last to the first, with what follows them at hand.
 // Lent totals, turns and tails are tested where they stand, from the first leaf to the last.
 #![tactic(auto)]
 
-ghost use Rattle.std.specs.Prelude.{◌≡◌, length, get_or, set};
+ghost use Rattle.std.specs.Prelude.{◌≡◌, length, get_or};
 ghost use Prim.Native.Nat.{ℕ, ◌+◌, ◌-◌, ◌*◌, ◌≤◌, ◌<◌};
 ghost use Rattle.std.proofs.lemmas.List.Edits.{sets};
-ghost use Rattle.model.specs.Plan.{C, M};
+ghost use Rattle.model.specs.Plan.{C};
 ghost use Rattle.model.specs.Total.{tally};
-ghost use Rattle.rows.specs.Rows.{kind_at, isolated_at, detail_at, block_at};
+ghost use Rattle.rows.specs.Rows.{kind_at, isolated_at, detail_at};
 ghost use Rattle.rows.specs.Leaves.{numbers, lent_turns, lent_tails};
+ghost use Rattle.rows.specs.Costs.{limit, cost_in, lent_turns_in};
 ghost use Rattle.rows.specs.Kinds.{IsKind};
-ghost use Rattle.columns.specs.declared.Cost.TheVariants.{Isolated};
-ghost use Rattle.columns.specs.Sums.{limit, ceiling, cap, cost_in, lead};
-ghost use Rattle.columns.specs.Private.{Under, front, FormsHeld, FormHeld, SizedIn, ReadyIn, Kept, Listed, silence_of, IsSilence, WithinLimit, first_silence};
-ghost use Rattle.columns.specs.Private.{head_at, WithinLimits, SummedIn};
-ghost use Rattle.columns.specs.Private.{follow_first, DerivedIn, FirstIn, Begins, LoopFits, IfFits, FunctionAnswer};
-ghost use Rattle.columns.specs.Columns.{column_of, turn_rule, turns, tail_rule};
-ghost use Rattle.model.specs.Places.{pick};
-ghost use Rattle.model.specs.Static.{line_silence};
-ghost use Rattle.columns.specs.Stretches.{leaf_stretch, stretch_rule, follow_calls};
-ghost use Rattle.columns.specs.Whole.{Measured, stretches_written, tails_written, CodeSummed, CodeSummedBoth};
 ghost use Rattle.rows.specs.Answers.{Says};
 ghost use Rattle.rows.specs.Plans.{CodePlan, lines_of};
-ghost use Rattle.columns.specs.Local.{AllDerived};
+ghost use Rattle.columns.specs.Sums.{ceiling, cap, lead};
+ghost use Rattle.columns.specs.Walks.{front, FormsHeld, FormHeld, Kept, Listed};
+ghost use Rattle.columns.specs.Private.{Under, WalkSized, WalkReady, DerivedIn, FirstIn, Begins, LoopFits, IfFits, FunctionAnswer};
+ghost use Rattle.columns.specs.Private.{TotalIn, FirstTotalIn, SumAnswer};
+ghost use Rattle.columns.specs.Columns.{column_of, turn_rule, turns, tail_rule};
+ghost use Rattle.columns.specs.Whole.{Measured, tails_written, CodeSummed};
+ghost use Rattle.columns.specs.Local.{AllSummed, AllDerived};
 
-use rows::{CEILING, Code, Kind, LIMIT, Leaf, MAX_FUNCTIONS, MAX_LEAVES, kind_of};
-
-// The cost of a visit that counts.
-#[derive(Clone, Copy, Debug, PartialEq, Eq)]
-pub enum Cost {
-    Isolated,
-    MaxLoad,
-}
-
-impl Cost {
-    // This cost of the record i.
-    fn of(self, row: &[Leaf], i: usize) -> u64
-        requires { i < length row.now }
-        ensures { result ≡ cost_in self (block_at (numbers row.now) i) }
-    {
-        match self {
-            Cost::Isolated => rows::isolated(row, i),
-            Cost::MaxLoad => rows::max_load(row, i),
-        }
-    }
-}
+use rows::{
+    CEILING, Code, Cost, Kind, LIMIT, Leaf, MAX_FUNCTIONS, MAX_LEAVES, PricedCode, kind_of,
+};
 
 // The kind of the form at i.
-fn form_kind(row: &[Leaf], i: usize) -> Kind
+pub fn form_kind(row: &[Leaf], i: usize) -> Kind
     requires { FormHeld row.now i }
     ensures { IsKind (Some result) (kind_at (numbers row.now) i) }
 {
@@ -56,7 +35,7 @@ fn form_kind(row: &[Leaf], i: usize) -> Kind
 }
 
 // The function that the call at i names.
-fn callee(row: &[Leaf], i: usize) -> usize
+pub fn callee(row: &[Leaf], i: usize) -> usize
     requires call { kind_at (numbers row.now) i ≡ 1 }
     requires form { FormHeld row.now i }
     ensures { (result ≡ detail_at (numbers row.now) i) × (result < 16) }
@@ -139,7 +118,7 @@ fn sum_block(
 }
 
 // Lists the first leaf of each form from `from` up to `to`, in text order, from seq[from] on, and returns how many there are.
-fn list(row: &[Leaf], from: usize, to: usize, seq: &mut [usize; MAX_LEAVES]) -> usize
+pub fn list(row: &[Leaf], from: usize, to: usize, seq: &mut [usize; MAX_LEAVES]) -> usize
     requires { FormsHeld row.now from to }
     ensures listed { Listed (numbers row.now) from to result seq.new }
     ensures kept { Kept from seq.old seq.new }
@@ -155,25 +134,23 @@ fn list(row: &[Leaf], from: usize, to: usize, seq: &mut [usize; MAX_LEAVES]) -> 
     n
 }
 
-// What a walk goes by and never changes: the code, the functions' totals at one cost, the sums of the loops' rounds, and that cost.
-// The sums of rounds, tails and stretches are arrays beside the row: a walk reads the row, which is lent, while it writes them.
+// What a walk goes by and never changes: the code, the functions' isolated totals, and the sums of the loops' rounds.
+// The sums of rounds and the tails are arrays beside the row: a walk reads the row, which is lent, while it writes them.
 #[derive(Clone, Copy)]
 struct Walk<'a> {
     code: Code<'a>,
     sums: &'a [u64; MAX_FUNCTIONS],
     turn: &'a [u64; MAX_LEAVES],
-    cost: Cost,
 }
 
-// The total of the leaf, call or loop at i.
+// The isolated total of the leaf, call or loop at i.
 fn weight(walk: &Walk, i: usize) -> u64
     requires kind { kind_at (numbers walk.now.code.row.now) i < 3 }
-    requires ready { ReadyIn (cost_in walk.now.cost) walk.now i 0 }
-    ensures { (p : ReadyIn (cost_in walk.now.cost) walk.now i 0)
-        → result ≡ lead (cost_in walk.now.cost) walk.now.sums.now p.form.part.lines }
+    requires ready { WalkReady walk.now i 0 }
+    ensures { (p : WalkReady walk.now i 0) → result ≡ lead C walk.now.sums.now p.form.part.lines }
 {
     let row = walk.code.row;
-    let c = walk.cost.of(row, i);
+    let c = rows::isolated(row, i);
     match form_kind(row, i) {
         Kind::Call => c + walk.sums[callee(row, i)],
         Kind::Loop => c + rows::detail(row, i) * walk.turn[i],
@@ -190,11 +167,10 @@ fn tail_form(
     seq: &mut [usize; MAX_LEAVES],
     out: &mut [u64; MAX_LEAVES],
 ) -> u64
-    requires isolated { walk.now.cost ≡ Isolated }
-    requires ready { ReadyIn C walk.now i e }
-    ensures value { (p : ReadyIn C walk.now i e)
+    requires ready { WalkReady walk.now i e }
+    ensures value { (p : WalkReady walk.now i e)
         → result ≡ lead C walk.now.sums.now p.form.part.lines + e }
-    ensures out_after { (p : ReadyIn C walk.now i e)
+    ensures out_after { (p : WalkReady walk.now i e)
         → out.new ≡ sets out.old i (front (tail_rule walk.now.sums.now) p.form.part.lines e) }
     ensures kept { Kept (i + 1) seq.old seq.new }
 {
@@ -228,11 +204,10 @@ fn tail_block(
     seq: &mut [usize; MAX_LEAVES],
     out: &mut [u64; MAX_LEAVES],
 ) -> u64
-    requires isolated { walk.now.cost ≡ Isolated }
-    requires sized { SizedIn C walk.now from to e }
-    ensures value { (p : SizedIn C walk.now from to e)
+    requires sized { WalkSized walk.now from to e }
+    ensures value { (p : WalkSized walk.now from to e)
         → result ≡ tally C walk.now.sums.now p.forms.part.lines + e }
-    ensures out_after { (p : SizedIn C walk.now from to e)
+    ensures out_after { (p : WalkSized walk.now from to e)
         → out.new ≡ sets out.old from (column_of (tail_rule walk.now.sums.now) p.forms.part.lines e) }
     ensures kept { Kept from seq.old seq.new }
 {
@@ -240,260 +215,6 @@ fn tail_block(
     let mut t = e;
     for k in (0..n).rev() {
         t = tail_form(walk, seq[from + k], t, seq, out);
-    }
-    t
-}
-
-// A silent stretch as a function of what follows: `hit` at a point inside; `pass` and what follows, where no point stops it.
-#[derive(Clone, Copy)]
-struct SilentSum {
-    hit: u64,
-    pass: Option<u64>,
-}
-
-// The silence of no form.
-const SILENT: SilentSum = SilentSum {
-    hit: 0,
-    pass: Some(0),
-};
-
-impl SilentSum {
-    // The stretch where s follows.
-    fn before(self, s: u64) -> u64
-        requires { WithinLimit self × (s ≤ limit) }
-        ensures { result ≡ silence_of self s }
-    {
-        match self.pass {
-            Some(pass) => self.hit.max(pass + s),
-            None => self.hit,
-        }
-    }
-
-    // This silence, and then y.
-    fn then(self, y: SilentSum) -> SilentSum
-        requires { WithinLimit self × WithinLimit y }
-        ensures { (f : ℕ → ℕ) (g : ℕ → ℕ) (a : ℕ) (b : ℕ) → IsSilence self f a → IsSilence y g b
-            → IsSilence result (λ s. f (g s)) (a + b) }
-    {
-        match self.pass {
-            Some(pass) => SilentSum {
-                hit: self.hit.max(pass + y.hit),
-                pass: y.pass.map(|p| pass + p),
-            },
-            None => self,
-        }
-    }
-
-    // A visit of m, and then the longer of this silence and y.
-    fn or(self, y: SilentSum, m: u64) -> SilentSum
-        requires { (m ≤ 1048576) × WithinLimit self × WithinLimit y }
-        ensures { (f : ℕ → ℕ) (g : ℕ → ℕ) (a : ℕ) (b : ℕ) → IsSilence self f a → IsSilence y g b
-            → IsSilence result (λ s. m + Prim.Native.Nat.max (f s) (g s)) (m + Prim.Native.Nat.max a b) }
-    {
-        SilentSum {
-            hit: m + self.hit.max(y.hit),
-            pass: self.pass.max(y.pass).map(|pass| m + pass),
-        }
-    }
-}
-
-// The silence of the form at i.
-#[cycle(silence_block_silence_form)]
-fn silence_form(walk: &Walk, i: usize) -> SilentSum
-    requires ready { ReadyIn (cost_in walk.now.cost) walk.now i 0 }
-    ensures { (p : ReadyIn (cost_in walk.now.cost) walk.now i 0)
-        → IsSilence result (λ s. first_silence (cost_in walk.now.cost) walk.now.sums.now p.form.part.lines s) (lead (cost_in walk.now.cost)
-        walk.now.sums.now p.form.part.lines) }
-{
-    let row = walk.code.row;
-    if rows::point(row, i) == 1 {
-        return SilentSum { hit: 0, pass: None };
-    }
-    if let Kind::If = form_kind(row, i) {
-        let after = rows::after(row, i);
-        let other = rows::other(row, i);
-        let x = silence_block(walk, i + 1, other);
-        let y = silence_block(walk, other, after);
-        return x.or(y, walk.cost.of(row, i));
-    }
-    SilentSum {
-        hit: 0,
-        pass: Some(weight(walk, i)),
-    }
-}
-
-// The silence of the forms from `from` up to `to`.
-#[cycle(silence_block_silence_form)]
-fn silence_block(walk: &Walk, from: usize, to: usize) -> SilentSum
-    requires sized { SizedIn (cost_in walk.now.cost) walk.now from to 0 }
-    ensures { (p : SizedIn (cost_in walk.now.cost) walk.now from to 0)
-        → IsSilence result (λ s. line_silence (cost_in walk.now.cost) walk.now.sums.now p.forms.part.lines s) (tally (cost_in walk.now.cost)
-        walk.now.sums.now p.forms.part.lines) }
-{
-    let mut acc = SILENT;
-    let mut i = from;
-    // A `while`: each form says where the next one begins, so no range has these steps.
-    while i < to && acc.pass.is_some() {
-        acc = acc.then(silence_form(walk, i));
-        i = rows::after(walk.code.row, i);
-    }
-    acc
-}
-
-// Writes the stretch of the record i, where s follows its visit; 0 if it is no point.
-fn put_stretch(walk: &Walk, i: usize, s: u64, out: &mut [u64; MAX_LEAVES])
-    requires { (i < length walk.now.code.row.now) × (cost_in walk.now.cost (block_at (numbers walk.now.code.row.now) i) ≤ 1048576)
-        × (s ≤ ceiling) × (i < 512) }
-    ensures { out.new ≡ set out.old i (leaf_stretch (cost_in walk.now.cost) (block_at (numbers walk.now.code.row.now) i) s) }
-{
-    out[i] = if rows::point(walk.code.row, i) == 1 {
-        walk.cost.of(walk.code.row, i) + s
-    } else {
-        0
-    };
-}
-
-// What is silent before the record i, where t would be, were it no point.
-fn silent_before(walk: &Walk, i: usize, t: u64) -> u64
-    requires { i < length walk.now.code.row.now }
-    ensures { result ≡ pick (block_at (numbers walk.now.code.row.now) i).point 0 t }
-{
-    if rows::point(walk.code.row, i) == 1 {
-        0
-    } else {
-        t
-    }
-}
-
-// Writes the stretch of the leaf or call at i, which s follows, and notes what follows the function that it calls.
-// Here and below `heads`, `s`, `seq`, `out` and `follows` go one by one: three are written and s changes at each form, so of one struct each clause would name
-// a part alone.
-fn stretch_flat(
-    walk: &Walk,
-    i: usize,
-    heads: &[SilentSum; MAX_FUNCTIONS],
-    s: u64,
-    out: &mut [u64; MAX_LEAVES],
-    follows: &mut [u64; MAX_FUNCTIONS],
-)
-    requires kind { kind_at (numbers walk.now.code.row.now) i < 2 }
-    requires under { WithinLimits heads.now × (s ≤ limit) }
-    requires form { FormHeld walk.now.code.row.now i }
-    ensures out_after { (p : FormHeld walk.now.code.row.now i) → out.new ≡ sets out.old i
-        (front (stretch_rule (cost_in walk.now.cost) walk.now.sums.now (λ f x. silence_of (head_at heads.now f) x)) p.part.lines s) }
-    ensures follows_after { (p : FormHeld walk.now.code.row.now i)
-        → follows.new ≡ follow_first (cost_in walk.now.cost) walk.now.sums.now p.part.lines s follows.old }
-{
-    match form_kind(walk.code.row, i) {
-        Kind::Call => {
-            let f = callee(walk.code.row, i);
-            follows[f] = follows[f].max(s);
-            put_stretch(walk, i, heads[f].before(s), out);
-        }
-        _ => put_stretch(walk, i, s, out),
-    }
-}
-
-// Writes the stretch of each leaf of the if at i, which s follows, and notes what follows the functions
-// that it calls; returns the silence from i on.
-#[cycle(stretch_block_stretch_form_stretch_if)]
-fn stretch_if(
-    walk: &Walk,
-    i: usize,
-    heads: &[SilentSum; MAX_FUNCTIONS],
-    s: u64,
-    seq: &mut [usize; MAX_LEAVES],
-    out: &mut [u64; MAX_LEAVES],
-    follows: &mut [u64; MAX_FUNCTIONS],
-) -> u64
-    requires kind { kind_at (numbers walk.now.code.row.now) i ≡ 3 }
-    requires low { WithinLimits heads.now }
-    requires ready { ReadyIn (cost_in walk.now.cost) walk.now i s }
-    ensures value { (p : ReadyIn (cost_in walk.now.cost) walk.now i s)
-        → result ≡ first_silence (cost_in walk.now.cost) walk.now.sums.now p.form.part.lines s }
-    ensures out_after { (p : ReadyIn (cost_in walk.now.cost) walk.now i s)
-        → out.new ≡ sets out.old i
-        (front (stretch_rule (cost_in walk.now.cost) walk.now.sums.now (λ f x. silence_of (head_at heads.now f) x)) p.form.part.lines s) }
-    ensures follows_after { (p : ReadyIn (cost_in walk.now.cost) walk.now i s)
-        → follows.new ≡ follow_first (cost_in walk.now.cost) walk.now.sums.now p.form.part.lines s follows.old }
-    ensures kept { Kept (i + 1) seq.old seq.new }
-{
-    let after = rows::after(walk.code.row, i);
-    let other = rows::other(walk.code.row, i);
-    let a = stretch_block(walk, i + 1, other, heads, s, seq, out, follows);
-    let b = stretch_block(walk, other, after, heads, s, seq, out, follows);
-    let x = a.max(b);
-    put_stretch(walk, i, x, out);
-    silent_before(walk, i, walk.cost.of(walk.code.row, i) + x)
-}
-
-// Writes the stretch of each leaf of the form at i, which s follows, and notes what follows the functions
-// that it calls; returns the silence from i on.
-#[cycle(stretch_block_stretch_form_stretch_if)]
-fn stretch_form(
-    walk: &Walk,
-    i: usize,
-    heads: &[SilentSum; MAX_FUNCTIONS],
-    s: u64,
-    seq: &mut [usize; MAX_LEAVES],
-    out: &mut [u64; MAX_LEAVES],
-    follows: &mut [u64; MAX_FUNCTIONS],
-) -> u64
-    requires low { WithinLimits heads.now }
-    requires ready { ReadyIn (cost_in walk.now.cost) walk.now i s }
-    ensures value { (p : ReadyIn (cost_in walk.now.cost) walk.now i s)
-        → result ≡ first_silence (cost_in walk.now.cost) walk.now.sums.now p.form.part.lines s }
-    ensures out_after { (p : ReadyIn (cost_in walk.now.cost) walk.now i s)
-        → out.new ≡ sets out.old i
-        (front (stretch_rule (cost_in walk.now.cost) walk.now.sums.now (λ f x. silence_of (head_at heads.now f) x)) p.form.part.lines s) }
-    ensures follows_after { (p : ReadyIn (cost_in walk.now.cost) walk.now i s)
-        → follows.new ≡ follow_first (cost_in walk.now.cost) walk.now.sums.now p.form.part.lines s follows.old }
-    ensures kept { Kept (i + 1) seq.old seq.new }
-{
-    let kind = form_kind(walk.code.row, i);
-    if let Kind::If = kind {
-        return stretch_if(walk, i, heads, s, seq, out, follows);
-    }
-    let t = silent_before(walk, i, weight(walk, i) + s);
-    if let Kind::Loop = kind {
-        let after = rows::after(walk.code.row, i);
-        let b = stretch_block(walk, i + 1, after, heads, 0, seq, out, follows);
-        put_stretch(walk, i, s.max(b), out);
-        return t;
-    }
-    stretch_flat(walk, i, heads, s, out, follows);
-    t
-}
-
-// Writes the stretch of each leaf from `from` up to `to`, which s follows, and notes what follows the functions that they call; returns the
-// silence from `from` on. Not one function with `tail_block`: the two share this loop alone, and a closure for its body would have to lend `seq` on.
-#[cycle(stretch_block_stretch_form_stretch_if)]
-fn stretch_block(
-    walk: &Walk,
-    from: usize,
-    to: usize,
-    heads: &[SilentSum; MAX_FUNCTIONS],
-    s: u64,
-    seq: &mut [usize; MAX_LEAVES],
-    out: &mut [u64; MAX_LEAVES],
-    follows: &mut [u64; MAX_FUNCTIONS],
-) -> u64
-    requires low { WithinLimits heads.now }
-    requires sized { SizedIn (cost_in walk.now.cost) walk.now from to s }
-    ensures value { (p : SizedIn (cost_in walk.now.cost) walk.now from to s)
-        → result ≡ line_silence (cost_in walk.now.cost) walk.now.sums.now p.forms.part.lines s }
-    ensures out_after { (p : SizedIn (cost_in walk.now.cost) walk.now from to s)
-        → out.new ≡ sets out.old from
-        (column_of (stretch_rule (cost_in walk.now.cost) walk.now.sums.now (λ f x. silence_of (head_at heads.now f) x)) p.forms.part.lines s) }
-    ensures follows_after { (p : SizedIn (cost_in walk.now.cost) walk.now from to s)
-        → follows.new ≡ follow_calls (cost_in walk.now.cost) walk.now.sums.now p.forms.part.lines s follows.old }
-    ensures kept { Kept from seq.old seq.new }
-{
-    let n = list(walk.code.row, from, to, seq);
-    let mut t = s;
-    for k in (0..n).rev() {
-        let i = seq[from + k];
-        t = stretch_form(walk, i, heads, t, seq, out, follows);
     }
     t
 }
@@ -514,122 +235,28 @@ pub fn measure(code: &Code, cost: Cost, turn: &mut [u64; MAX_LEAVES]) -> [u64; M
     totals
 }
 
-// Writes the tail of every leaf of the functions.
-fn tail_all(walk: &Walk, out: &mut [u64; MAX_LEAVES])
-    requires n_in_bounds { walk.now.code.functions < length walk.now.code.bounds.now }
-    requires isolated { walk.now.cost ≡ Isolated }
-    requires summed { SummedIn C walk.now }
-    ensures { (v : SummedIn C walk.now)
-        → out.new ≡ tails_written walk.now.sums.now (lines_of v.plan) walk.now.code.bounds.now walk.now.code.functions out.old }
-{
-    let mut seq: [usize; MAX_LEAVES] = [0; MAX_LEAVES];
-    for f in 0..walk.code.functions {
-        let leaves = walk.code.function(f);
-        tail_block(walk, leaves.start, leaves.end, 0, &mut seq, out);
-    }
-}
-
-// The silence of each of the functions.
-fn silence_all(walk: &Walk) -> [SilentSum; MAX_FUNCTIONS]
-    requires n_in_bounds { walk.now.code.functions < length walk.now.code.bounds.now }
-    requires summed { SummedIn (cost_in walk.now.cost) walk.now }
-    ensures under { WithinLimits result }
-    ensures s_value { (v : SummedIn (cost_in walk.now.cost) walk.now) (f : ℕ) (s : ℕ) → f < walk.now.code.functions
-        → silence_of (head_at result f) s ≡ line_silence (cost_in walk.now.cost) walk.now.sums.now (lines_of v.plan f) s }
-{
-    let mut heads: [SilentSum; MAX_FUNCTIONS] = [SILENT; MAX_FUNCTIONS];
-    for f in 0..walk.code.functions {
-        let leaves = walk.code.function(f);
-        heads[f] = silence_block(walk, leaves.start, leaves.end);
-    }
-    heads
-}
-
-// Writes the stretch of every leaf of the functions, from the last function to the first.
-fn stretch_all(walk: &Walk, heads: &[SilentSum; MAX_FUNCTIONS], out: &mut [u64; MAX_LEAVES])
-    requires n_in_bounds { walk.now.code.functions < length walk.now.code.bounds.now }
-    requires low { WithinLimits heads.now }
-    requires summed { SummedIn (cost_in walk.now.cost) walk.now }
-    ensures { (v : SummedIn (cost_in walk.now.cost) walk.now)
-        → out.new ≡ stretches_written (cost_in walk.now.cost) walk.now.sums.now (λ f x. silence_of (head_at heads.now f) x)
-        (lines_of v.plan) walk.now.code.bounds.now walk.now.code.functions walk.now.code.functions out.old }
-{
-    let mut seq: [usize; MAX_LEAVES] = [0; MAX_LEAVES];
-    let mut follows: [u64; MAX_FUNCTIONS] = [0; MAX_FUNCTIONS];
-    for f in (0..walk.code.functions).rev() {
-        let leaves = walk.code.function(f);
-        let s = follows[f];
-        stretch_block(
-            walk,
-            leaves.start,
-            leaves.end,
-            heads,
-            s,
-            &mut seq,
-            out,
-            &mut follows,
-        );
-    }
-}
-
-// Writes the stretch of every leaf of the functions, and returns the stretch of the release. Given are the functions' totals and the sums of
-// their loops' rounds at the cost of this column.
-pub fn stretches(
+// Writes the tail of every leaf of the functions. Given are their isolated totals and the sums of their loops' rounds.
+pub fn tails(
     code: &Code,
-    cost: Cost,
     sums: &[u64; MAX_FUNCTIONS],
     turn: &[u64; MAX_LEAVES],
-    stretch: &mut [u64; MAX_LEAVES],
-) -> u64
+    tail: &mut [u64; MAX_LEAVES],
+)
     requires n_in_bounds { code.now.functions < length code.now.bounds.now }
-    requires summed { CodeSummed (cost_in cost) code.now sums.now turn.now }
-    ensures value { (v : CodeSummed (cost_in cost) code.now sums.now turn.now)
-        → result ≡ line_silence (cost_in cost) sums.now (lines_of v.plan (code.now.functions - 1)) 0 }
-    ensures stretch_after { (v : CodeSummed (cost_in cost) code.now sums.now turn.now)
-        → stretch.new ≡ stretches_written (cost_in cost) sums.now (λ f s. line_silence (cost_in cost) sums.now (lines_of v.plan f) s)
-        (lines_of v.plan) code.now.bounds.now code.now.functions code.now.functions stretch.old }
+    requires summed { CodeSummed C code.now sums.now turn.now }
+    ensures { (v : CodeSummed C code.now sums.now turn.now)
+        → tail.new ≡ tails_written sums.now (lines_of v.plan) code.now.bounds.now code.now.functions tail.old }
 {
     let walk = Walk {
         code: *code,
         sums,
         turn,
-        cost,
     };
-    let heads = silence_all(&walk);
-    stretch_all(&walk, &heads, stretch);
-    heads[code.functions - 1].before(0)
-}
-
-// Writes the tail and the stretch of every leaf of the functions, and returns the stretch of the release. Given are the functions' totals at both costs, and
-// the sums of their loops' rounds: `turn` at C, `max_load_turn` at M. Kept beside `stretches`, which it calls: a lent table is checked by that alone. Totals
-// and sums at one cost go one by one: `measure` gives the ones and writes the others.
-pub fn derive(
-    code: &Code,
-    isolated: &[u64; MAX_FUNCTIONS],
-    turn: &[u64; MAX_LEAVES],
-    max_load: &[u64; MAX_FUNCTIONS],
-    max_load_turn: &[u64; MAX_LEAVES],
-    tail: &mut [u64; MAX_LEAVES],
-    stretch: &mut [u64; MAX_LEAVES],
-) -> u64
-    requires n_in_bounds { code.now.functions < length code.now.bounds.now }
-    requires summed_both { CodeSummedBoth code.now isolated.now turn.now max_load.now max_load_turn.now }
-    ensures value { (v : CodeSummedBoth code.now isolated.now turn.now max_load.now max_load_turn.now)
-        → result ≡ line_silence M max_load.now (lines_of v.plan (code.now.functions - 1)) 0 }
-    ensures tail_after { (v : CodeSummedBoth code.now isolated.now turn.now max_load.now max_load_turn.now)
-        → tail.new ≡ tails_written isolated.now (lines_of v.plan) code.now.bounds.now code.now.functions tail.old }
-    ensures stretch_after { (v : CodeSummedBoth code.now isolated.now turn.now max_load.now max_load_turn.now)
-        → stretch.new ≡ stretches_written M max_load.now (λ f s. line_silence M max_load.now (lines_of v.plan f) s)
-        (lines_of v.plan) code.now.bounds.now code.now.functions code.now.functions stretch.old }
-{
-    let walk = Walk {
-        code: *code,
-        sums: isolated,
-        turn,
-        cost: Cost::Isolated,
-    };
-    tail_all(&walk, tail);
-    stretches(code, Cost::MaxLoad, max_load, max_load_turn, stretch)
+    let mut seq: [usize; MAX_LEAVES] = [0; MAX_LEAVES];
+    for f in 0..code.functions {
+        let leaves = code.function(f);
+        tail_block(&walk, leaves.start, leaves.end, 0, &mut seq, tail);
+    }
 }
 
 // What is lent to be checked: the code, in whose leaves the sums of the loops' rounds and the tails stand, and the functions' isolated totals.
@@ -736,7 +363,7 @@ fn settled(sums: &[u64; MAX_FUNCTIONS], n: usize) -> bool
     requires { n ≤ 16 }
     ensures { Says result ((f : ℕ) → n ≤ f → f < 16 → get_or sums.now f 0 ≡ 0) }
 {
-    sums[n..].iter().all(|total| *total == 0)
+    rows::all_zero(&sums[n..])
 }
 
 // Whether the lent isolated total of the function f, and its turns and tails, are the derived ones and its total is not over the limit.
@@ -760,4 +387,73 @@ pub fn tails_agree(code: &Code, sums: &[u64; MAX_FUNCTIONS]) -> bool
 {
     let lent = Lent { code: *code, sums };
     settled(sums, code.functions) && (0..code.functions).all(|f| function_fits(&lent, f))
+}
+
+// The total of the form at i, held at the ceiling; none, where a lent turn among its leaves is not the derived one.
+#[cycle(block_total_form_total)]
+fn form_total(priced: &PricedCode, i: usize) -> Option<u64>
+    requires { FormHeld priced.now.code.row.now i }
+    ensures { (p : FormHeld priced.now.code.row.now i) → FirstTotalIn priced.now p.part.lines i result }
+{
+    let row = priced.code.row;
+    let c = priced.cost.of(row, i);
+    let turn = priced.cost.turn(row, i);
+    match form_kind(row, i) {
+        Kind::Loop => {
+            let body = block_total(priced, i + 1, rows::after(row, i))?;
+            (turn == c + body).then_some(looped(c, rows::detail(row, i), body))
+        }
+        Kind::If => {
+            let other = rows::other(row, i);
+            let a = block_total(priced, i + 1, other)?;
+            let b = block_total(priced, other, rows::after(row, i))?;
+            (turn == 0).then_some((c + a.max(b)).min(CEILING))
+        }
+        Kind::Call => {
+            let total = priced.totals[callee(row, i)].min(CEILING);
+            (turn == 0).then_some((c + total).min(CEILING))
+        }
+        Kind::Leaf => (turn == 0).then_some(c),
+    }
+}
+
+// The total of the forms from `from` up to `to`, held at the ceiling; none, where a lent turn among their leaves is not the derived one.
+#[cycle(block_total_form_total)]
+fn block_total(priced: &PricedCode, from: usize, to: usize) -> Option<u64>
+    requires { FormsHeld priced.now.code.row.now from to }
+    ensures { (p : FormsHeld priced.now.code.row.now from to) → TotalIn priced.now p.part.lines from result }
+{
+    let mut acc: u64 = 0;
+    let mut i = from;
+    // A `while`: each form says where the next one begins, so no range has these steps.
+    while i < to {
+        let total = form_total(priced, i)?;
+        acc = (acc + total).min(CEILING);
+        i = rows::next(priced.code.row, i);
+    }
+    Some(acc)
+}
+
+// Whether the lent total of the function f, and its turns, are the derived ones and the total is not over the limit.
+fn sum_fits(priced: &PricedCode, f: usize) -> bool
+    requires f_lt_n { (f < priced.now.code.functions) × (priced.now.code.functions < length priced.now.code.bounds.now) }
+    requires plan_of { CodePlan priced.now.code }
+    ensures { SumAnswer priced.now f result }
+{
+    let leaves = priced.code.function(f);
+    let total = block_total(priced, leaves.start, leaves.end);
+    total.is_some_and(|total| total <= LIMIT && total == priced.totals[f])
+}
+
+// Whether lent totals of the functions at the cost of this code, and the turns at that cost that stand in the leaves, are the derived ones and no total is
+// over the limit. Nothing is derived anew or written: each number is held to those beside it.
+pub fn sums_agree(priced: &PricedCode) -> bool
+    requires n_in_bounds { priced.now.code.functions < length priced.now.code.bounds.now }
+    requires plan_of { CodePlan priced.now.code }
+    ensures { (v : CodePlan priced.now.code)
+        → Says result (AllSummed (cost_in priced.now.cost) (lines_of v) priced.now.code.bounds.now priced.now.code.functions priced.now.totals.now
+        (lent_turns_in priced.now.cost priced.now.code.row.now)) }
+{
+    settled(priced.totals, priced.code.functions)
+        && (0..priced.code.functions).all(|f| sum_fits(priced, f))
 }

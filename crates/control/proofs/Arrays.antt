@@ -45,16 +45,16 @@ get_d_past (x ∷ a) v m (suc l) zero q h = absurd (omega arith)
 get_d_past (x ∷ a) v m (suc l) (suc k) q h = get_d_past a v m l k (omega arith) (omega arith)
 
 -- An array that keeps what is below l, has v at l and 0 above is that array.
-pub put_is : {a b : List ℕ} {l v : ℕ} → Put a b l v → length a ≡ 33 → length b ≡ 33 → l ≤ 32 → b ≡ put a l v
-put_is {a} {b} {l} {v} p ha hb q = ext_get_or 0 b (put a l v) (hb ∙ sym (length_put a l v ha q)) entry
+pub put_is : {a b : List ℕ} {l v : ℕ} → Put a b l v → l ≤ 32 → b ≡ put a l v
+put_is {a} {b} {l} {v} p q = ext_get_or 0 b (put a l v) (p.new_33 ∙ sym (length_put a l v p.old_33 q)) entry
   where
     entry : (i : ℕ) → i < length b → get_or b i 0 ≡ get_or (put a l v) i 0
     entry i h =
         elim (dec_lt i l) [
-          | yes lt ↦ p.under i lt ∙ sym (put_below a l v i ha q lt)
+          | yes lt ↦ p.under i lt ∙ sym (put_below a l v i p.old_33 q lt)
           | no ge ↦ elim (dec_lt l i) [
             | yes lt ↦ p.above i lt ∙ sym (get_d_past a v (32 - l) l i (omega arith) lt)
-            | no le ↦ let z : i ≡ l = omega arith in rw z (p.here ∙ sym (put_at a l v ha q))
+            | no le ↦ let z : i ≡ l = omega arith in rw z (p.here ∙ sym (put_at a l v p.old_33 q))
           ]
         ]
 

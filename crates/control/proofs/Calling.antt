@@ -6,9 +6,7 @@ use mathlib.Core.Path.{◌≡◌, refl, ap, sym, ◌∙◌}
 use Prim.Native.Nat.{ℕ, ◌*◌, ◌≤◌}
 use native.Mathlib.Omega.{arith}
 use lib.ListN.{length, take, length-take}
-use Rattle.std.specs.Prelude.{Result, Ok, Err, MatchResult}
 use Rattle.std.proofs.lemmas.List.{take-map}
-use Rattle.model.specs.declared.Refusal.{Refusal}
 use Rattle.model.specs.declared.Refusal.TheVariants.{Broken}
 use Rattle.model.specs.Calls.{refuse}
 use Rattle.model.specs.Plan.{Plan}
@@ -16,7 +14,7 @@ use Rattle.model.specs.Acceptance.{Accepted}
 use Rattle.model.specs.Stack.{Levels}
 use Rattle.model.specs.declared.Call.{Call}
 use Rattle.rows.specs.declared.Leaf.{Leaf}
-use Rattle.rows.specs.Leaves.{numbers, lent_turns, lent_tails, lent_stretches}
+use Rattle.rows.specs.Leaves.{numbers, lent_turns, lent_tails, lent_max_load_turns}
 use Rattle.rows.proofs.Leaves.{numbers_length, numbers_take}
 use Rattle.rows.proofs.Records.{records_all_length}
 use Rattle.table.specs.declared.Head.{Head}
@@ -26,10 +24,9 @@ use Rattle.table.proofs.Plans.{plan_of_exactly}
 use Rattle.control.specs.declared.LentPlan.{LentPlan}
 use Rattle.control.specs.declared.OpenRelease.{OpenRelease}
 use Rattle.control.specs.declared.State.{State}
-use Rattle.control.specs.declared.Step.{Step}
 use Rattle.control.specs.State.{standing}
-use Rattle.control.specs.Calls.{read_state, on_state, on_plan, call_on, as_step}
-use Rattle.control.specs.Private.{WholeTable, GoodState, step_of}
+use Rattle.control.specs.Calls.{read_state, on_state, on_plan, call_on}
+use Rattle.control.specs.Private.{WholeTable, GoodState}
 
 -- A release that does not stand anywhere stands at no levels.
 pub not_standing : (p : Plan) (o : OpenRelease) → (GoodState p o → ⊥) → standing p o ≡ none
@@ -38,11 +35,6 @@ not_standing p o h = by (standing p o) refl
     by : (q : Option Levels) → standing p o ≡ q → q ≡ none
     by none e = refl
     by (some ls) e = absurd (h (ls, e))
-
--- The step is what was given, or what the refusal is made.
-pub step_given : (s : State) (r : Result Step Refusal) {x : Step} {Q : Refusal → Type 0} → MatchResult r (λ y. x ≡ y) Q → ((k : Refusal) → Q k → x ≡ as_step (refuse s k)) → x ≡ step_of s r
-step_given s (Ok y) e u = e
-step_given s (Err k) e u = u k e
 
 module _ (row : List Leaf) (h : Head) where
   abbrev t : Table
@@ -100,7 +92,7 @@ module _ {row : List Leaf} {h : Head} (o : Owned row h) where
           turns_are = ap lent_turns r ∙ (sym (take-map (λ (f : Leaf). f.turn) h.leaves row) ∙ ap (λ (u : Table). u.turns) i);
           tails_are = ap lent_tails r ∙ (sym (take-map (λ (f : Leaf). f.tail) h.leaves row) ∙ ap (λ (u : Table). u.tails) i);
         };
-        stretches_are = ap lent_stretches r ∙ (sym (take-map (λ (f : Leaf). f.stretch) h.leaves row) ∙ ap (λ (u : Table). u.stretches) i);
+        max_load_turns_are = ap lent_max_load_turns r ∙ (sym (take-map (λ (f : Leaf). f.max_load_turn) h.leaves row) ∙ ap (λ (u : Table). u.max_load_turns) i);
       }
 
   -- A call on it.

@@ -1,11 +1,11 @@
 -- The marked cases hold: the plan is found from its table, and the answers are computed on it.
-use mathlib.Core.List.{List, [], ◌∷◌}
+use mathlib.Core.List.{List, [], ◌∷◌, map}
 use mathlib.Core.Path.{◌≡◌, refl, ap, sym, ◌∙◌, subst}
 use native.Mathlib.Omega.{arith}
 use Rattle.model.specs.Plan.{Plan, all_leaves}
 use Rattle.model.specs.Forms.{forms, linked, last, ◌⊕◌}
 use Rattle.model.specs.Total.{total}
-use Rattle.model.specs.Stretch.{silence, rounds_silence, stretch, rounds_stretch}
+use Rattle.model.specs.Stretch.{silence, rounds_silence, visit_stretch, stretch, rounds_stretch, stretch_of}
 use Rattle.model.specs.Acceptance.{Accepted}
 use Rattle.model.specs.Places.{passes, seek, onward, can_end, no_more, no_further}
 use Rattle.model.specs.Stack.{behind, below, whole, kept, seek_at, onward_at, suffix, turned, inside_of, decode}
@@ -37,12 +37,12 @@ on_plans p a s (x ∷ xs) (e, u) =
       subst (λ r. Answered (controller_of (table_of p)) r.state xs) (sym i) (on_plans p a (on_state p s x.call (read_state p s)).state xs u),
     )
 
-right : (c : Case) → Accepted c.plan → (table_of c.plan).head.total ≡ c.total → (table_of c.plan).head.max_load_total ≡ c.max_total → (table_of c.plan).stretches ≡ c.stretches →
+right : (c : Case) → Accepted c.plan → (table_of c.plan).head.total ≡ c.total → (table_of c.plan).head.max_load_total ≡ c.max_total → map (stretch_of c.plan) (all_leaves c.plan.functions) ≡ c.stretches →
     AnsweredOn c.plan fresh c.exchanges → CaseHolds c
 right c a t m s e = record { accepted = a; total_is = t; max_total_is = m; stretches_are = s; answered = on_plans c.plan a fresh c.exchanges e }
 
 pub cases_right : CasesHold cases
-unfolding cases worst_of_A CasesHold AnsweredOn plan_A plan_B smallest plans.leaves all_leaves forms linked last total silence rounds_silence stretch rounds_stretch passes seek onward can_end no_more no_further behind below whole kept seek_at onward_at suffix turned inside_of decode is_point respond frames points? same_numbers ◌⊕◌
+unfolding cases worst_of_A CasesHold AnsweredOn plan_A plan_B smallest plans.leaves all_leaves forms linked last total silence rounds_silence visit_stretch stretch rounds_stretch passes seek onward can_end no_more no_further behind below whole kept seek_at onward_at suffix turned inside_of decode is_point respond frames points? same_numbers ◌⊕◌
 cases_right = (
   right _ plan_A_accepted refl refl refl (refl, (refl, (refl, (refl, (refl, (refl, (refl, tt))))))),
   (

@@ -1,4 +1,4 @@
--- The derived columns of a plan's table, entry by entry: at each leaf's number stand its tail, its turn and its stretch. Assumes nothing.
+-- The derived columns of a plan's table, entry by entry: at each leaf's number stand its tail and its turns. Assumes nothing.
 use mathlib.Core.List.{List, [], ◌∷◌, ◌++◌, map, append_assoc}
 use mathlib.Core.Logic.{inl, inr}
 use mathlib.Core.Path.{◌≡◌, refl, ap, sym, ◌∙◌}
@@ -18,7 +18,10 @@ use Rattle.rows.specs.Turns.{turns_in}
 use Rattle.columns.specs.Columns.{Contains}
 use Rattle.columns.proofs.Stores.{contains_append}
 use Rattle.place.specs.Times.{Priced}
+use Rattle.outlook.specs.Plans.{Rounds}
 use Rattle.table.specs.Table.{all_turns, all_tails}
+use Rattle.table.proofs.Holding.{leaves_size}
+use Rattle.table.proofs.Deriving.{turns_join}
 
 -- A list holds its own numbers.
 holds_behind : (us xs : List ℕ) (i : ℕ) → length us ≡ i → Contains (us ++ xs) i xs
@@ -42,24 +45,8 @@ row_entry o g (x ∷ w) n (q, r) h b a =
     ]
 
 -- There is a turn for each leaf.
-turns_size : (ts : List ℕ) (l : Lines) → length (turns_in C ts l) ≡ length (leaves l)
-unfolding turns_in leaves
-turns_size ts close = refl
-turns_size ts (leaf_line b r) = omega (arith, turns_size ts r)
-turns_size ts (call_line b f r) = omega (arith, turns_size ts r)
-turns_size ts (loop_line b n body r) =
-    omega (arith, length-append (turns_in C ts body) (turns_in C ts r), length-append (leaves body) (leaves r), turns_size ts body, turns_size ts r)
-turns_size ts (if_line b t e r) =
-    omega (
-      arith,
-      length-append (turns_in C ts t) (turns_in C ts e ++ turns_in C ts r),
-      length-append (turns_in C ts e) (turns_in C ts r),
-      length-append (leaves t) (leaves e ++ leaves r),
-      length-append (leaves e) (leaves r),
-      turns_size ts t,
-      turns_size ts e,
-      turns_size ts r,
-    )
+turns_size : (k : Block → ℕ) (ts : List ℕ) (l : Lines) → length (turns_in k ts l) ≡ length (leaves l)
+turns_size k ts l = (turns_join k ts).each l ∙ sym (leaves_size l)
 
 -- TAILS
 
@@ -162,7 +149,7 @@ module _ (ts tails turns : List ℕ) where
       let v = tally C ts (loop_line b n body r) + e in
       let d = C b + (n - 1) * (tally C ts body + C b) + tally C ts r + e in
       let i = (spans_row body (suc lo) m s).1 in
-      let (x, y) = contains_append (turns_in C ts body) (turns_in C ts r) turns (suc lo) m h.1 (omega (arith, turns_size ts body)) in (
+      let (x, y) = contains_append (turns_in C ts body) (turns_in C ts r) turns (suc lo) m h.1 (omega (arith, turns_size C ts body)) in (
         omega (
           arith,
           t b (among_first b b (leaves body ++ leaves r) refl),
@@ -193,8 +180,8 @@ module _ (ts tails turns : List ℕ) where
       let d = tally C ts r + e in
       let i = (spans_row f (suc lo) m s).1 in
       let j = (spans_row g m k u).1 in
-      let (x, yz) = contains_append (turns_in C ts f) (turns_in C ts g ++ turns_in C ts r) turns (suc lo) m h.1 (omega (arith, turns_size ts f)) in
-      let (y, z) = contains_append (turns_in C ts g) (turns_in C ts r) turns m k yz (omega (arith, turns_size ts g)) in (
+      let (x, yz) = contains_append (turns_in C ts f) (turns_in C ts g ++ turns_in C ts r) turns (suc lo) m h.1 (omega (arith, turns_size C ts f)) in
+      let (y, z) = contains_append (turns_in C ts g) (turns_in C ts r) turns m k yz (omega (arith, turns_size C ts g)) in (
         omega (
           arith,
           t b (among_first b b (leaves f ++ (leaves g ++ leaves r)) refl),
@@ -234,7 +221,7 @@ module _ (ts tails turns : List ℕ) where
       )
 
   -- All functions, one after the other.
-  pub priced_all : (ls : List Lines) (lo : ℕ) → SpansAll ls lo → Contains tails lo (all_tails ts ls) → Contains turns lo (all_turns ts ls) →
+  pub priced_all : (ls : List Lines) (lo : ℕ) → SpansAll ls lo → Contains tails lo (all_tails ts ls) → Contains turns lo (all_turns C ts ls) →
       (f : ℕ) → f < length ls → Priced ts tails turns (get_or ls f close) 0
   unfolding SpansAll all_tails all_turns
   priced_all [] lo s h k f lt = absurd (omega arith)
@@ -242,7 +229,7 @@ module _ (ts tails turns : List ℕ) where
       let g : Block → ℕ = λ b. tail ts b.number l 0 in
       let (r, i) = spans_row l lo hi s in
       let (x, y) = contains_append (map g (leaves l)) (all_tails ts ls) tails lo hi h (omega (arith, length-map (leaves l) g)) in
-      let (v, w) = contains_append (turns_in C ts l) (all_turns ts ls) turns lo hi k (omega (arith, turns_size ts l)) in
+      let (v, w) = contains_append (turns_in C ts l) (all_turns C ts ls) turns lo hi k (omega (arith, turns_size C ts l)) in
       by f lt (priced_lines l lo hi 0 s (row_entry tails g (leaves l) lo r x) v) (priced_all ls hi u y w)
     where
       by : (f : ℕ) → f < length (l ∷ ls) → Priced ts tails turns l 0 → ((g : ℕ) → g < length ls → Priced ts tails turns (get_or ls g close) 0) →
@@ -250,33 +237,74 @@ module _ (ts tails turns : List ℕ) where
       by zero lt one more = one
       by (suc f) lt one more = more f (omega arith)
 
+-- TURNS AT ANY COST
+
+module _ (k : Block → ℕ) (ts turns : List ℕ) where
+  -- A column that has the turn of each leaf has the sum of a round at each loop.
+  rounds_lines : (l : Lines) (lo hi : ℕ) → Spans l lo hi → Contains turns lo (turns_in k ts l) → Rounds k ts turns l
+  unfolding Rounds turns_in Contains Spans
+  rounds_lines close lo hi s h = tt
+  rounds_lines (leaf_line b r) lo hi (q, s) h = rounds_lines r (suc lo) hi s h.1
+  rounds_lines (call_line b f r) lo hi (q, s) h = rounds_lines r (suc lo) hi s h.1
+  rounds_lines (loop_line b n body r) lo hi (q, (m, s, u)) h =
+      let i = (spans_row body (suc lo) m s).1 in
+      let (x, y) = contains_append (turns_in k ts body) (turns_in k ts r) turns (suc lo) m h.1 (omega (arith, turns_size k ts body)) in
+      (ap (λ j. get_or turns j 0) q ∙ h.0, rounds_lines body (suc lo) m s x, rounds_lines r m hi u y)
+  rounds_lines (if_line b f g r) lo hi (q, (m, j, s, u, v)) h =
+      let i = (spans_row f (suc lo) m s).1 in
+      let i' = (spans_row g m j u).1 in
+      let (x, yz) = contains_append (turns_in k ts f) (turns_in k ts g ++ turns_in k ts r) turns (suc lo) m h.1 (omega (arith, turns_size k ts f)) in
+      let (y, z) = contains_append (turns_in k ts g) (turns_in k ts r) turns m j yz (omega (arith, turns_size k ts g)) in
+      (rounds_lines f (suc lo) m s x, rounds_lines g m j u y, rounds_lines r j hi v z)
+
+  -- All functions, one after the other.
+  pub rounds_all : (ls : List Lines) (lo : ℕ) → SpansAll ls lo → Contains turns lo (all_turns k ts ls) → (f : ℕ) → f < length ls → Rounds k ts turns (get_or ls f close)
+  unfolding SpansAll all_turns
+  rounds_all [] lo s h f lt = absurd (omega arith)
+  rounds_all (l ∷ ls) lo (hi, s, u) h f lt =
+      let (r, i) = spans_row l lo hi s in
+      let (v, w) = contains_append (turns_in k ts l) (all_turns k ts ls) turns lo hi h (omega (arith, turns_size k ts l)) in
+      by f lt (rounds_lines l lo hi s v) (rounds_all ls hi u w)
+    where
+      by : (f : ℕ) → f < length (l ∷ ls) → Rounds k ts turns l → ((g : ℕ) → g < length ls → Rounds k ts turns (get_or ls g close)) → Rounds k ts turns (get_or (l ∷ ls) f close)
+      by zero lt one more = one
+      by (suc f) lt one more = more f (omega arith)
+
 -- THE SAME TOTALS
 
 -- Totals with the same entries count for the same.
 module _ (ts us : List ℕ) (same : (f : ℕ) → get_or ts f 0 ≡ get_or us f 0) where
-  tally_same : (l : Lines) → tally C ts l ≡ tally C us l
+  tally_same : (k : Block → ℕ) (l : Lines) → tally k ts l ≡ tally k us l
   unfolding tally
-  tally_same close = refl
-  tally_same (leaf_line b r) = rw (tally_same r)
-  tally_same (call_line b f r) = rw (same f, tally_same r)
-  tally_same (loop_line b n body r) = rw (tally_same body, tally_same r)
-  tally_same (if_line b t e r) = rw (tally_same t, tally_same e, tally_same r)
+  tally_same k close = refl
+  tally_same k (leaf_line b r) = rw (tally_same k r)
+  tally_same k (call_line b f r) = rw (same f, tally_same k r)
+  tally_same k (loop_line b n body r) = rw (tally_same k body, tally_same k r)
+  tally_same k (if_line b t e r) = rw (tally_same k t, tally_same k e, tally_same k r)
+
+  pub rounds_same : (k : Block → ℕ) (turns : List ℕ) (l : Lines) → Rounds k ts turns l → Rounds k us turns l
+  unfolding Rounds
+  rounds_same k turns close h = tt
+  rounds_same k turns (leaf_line b r) h = rounds_same k turns r h
+  rounds_same k turns (call_line b f r) h = rounds_same k turns r h
+  rounds_same k turns (loop_line b n body r) h = (h.0 ∙ ap (λ x. k b + x) (tally_same k body), rounds_same k turns body h.1, rounds_same k turns r h.2)
+  rounds_same k turns (if_line b t s r) h = (rounds_same k turns t h.0, rounds_same k turns s h.1, rounds_same k turns r h.2)
 
   pub priced_same : (tails turns : List ℕ) (l : Lines) (e : ℕ) → Priced ts tails turns l e → Priced us tails turns l e
   unfolding Priced
   priced_same tails turns close e h = tt
-  priced_same tails turns (leaf_line b r) e h = (h.0 ∙ ap (λ k. k + e) (tally_same (leaf_line b r)), h.1, priced_same tails turns r e h.2)
-  priced_same tails turns (call_line b f r) e h = (h.0 ∙ ap (λ k. k + e) (tally_same (call_line b f r)), h.1, priced_same tails turns r e h.2)
+  priced_same tails turns (leaf_line b r) e h = (h.0 ∙ ap (λ k. k + e) (tally_same C (leaf_line b r)), h.1, priced_same tails turns r e h.2)
+  priced_same tails turns (call_line b f r) e h = (h.0 ∙ ap (λ k. k + e) (tally_same C (call_line b f r)), h.1, priced_same tails turns r e h.2)
   priced_same tails turns (loop_line b n body r) e h = (
-    h.0 ∙ ap (λ k. k + e) (tally_same (loop_line b n body r)),
-    h.1 ∙ ap (λ k. C b + k) (tally_same body),
-    rw (tally_same body, tally_same r) at (priced_same tails turns body (C b + (n - 1) * (tally C ts body + C b) + tally C ts r + e) h.2),
+    h.0 ∙ ap (λ k. k + e) (tally_same C (loop_line b n body r)),
+    h.1 ∙ ap (λ k. C b + k) (tally_same C body),
+    rw (tally_same C body, tally_same C r) at (priced_same tails turns body (C b + (n - 1) * (tally C ts body + C b) + tally C ts r + e) h.2),
     priced_same tails turns r e h.3,
   )
   priced_same tails turns (if_line b t s r) e h = (
-    h.0 ∙ ap (λ k. k + e) (tally_same (if_line b t s r)),
+    h.0 ∙ ap (λ k. k + e) (tally_same C (if_line b t s r)),
     h.1,
-    rw (tally_same r) at (priced_same tails turns t (tally C ts r + e) h.2),
-    rw (tally_same r) at (priced_same tails turns s (tally C ts r + e) h.3),
+    rw (tally_same C r) at (priced_same tails turns t (tally C ts r + e) h.2),
+    rw (tally_same C r) at (priced_same tails turns s (tally C ts r + e) h.3),
     priced_same tails turns r e h.4,
   )

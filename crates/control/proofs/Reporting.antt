@@ -7,17 +7,14 @@ use Prim.Native.Nat.{ℕ, ◌+◌, ◌-◌, ◌≤◌, ◌<◌}
 use native.Mathlib.Omega.{arith}
 use lib.ListN.{length, get_or, drop}
 use borrow.Author.Tests.{lt-ltb, le-ltb}
-use Rattle.std.specs.Prelude.{Option as RustOption}
-use Rattle.std.specs.Prelude.{Some}
 use Rattle.model.specs.declared.Refusal.TheVariants.{Stranger, Backward, Astray}
 use Rattle.model.specs.Calls.{refuse}
 use Rattle.model.specs.Plan.{C, M, Plan, all_leaves}
 use Rattle.model.specs.Forms.{Forms, main}
 use Rattle.model.specs.Total.{total}
-use Rattle.model.specs.Stretch.{stretch}
 use Rattle.model.specs.Levels.{framed}
 use Rattle.model.specs.Acceptance.{Accepted}
-use Rattle.model.specs.Places.{seek, no_further}
+use Rattle.model.specs.Places.{seek}
 use Rattle.model.specs.Stack.{Levels, whole, onto, onward_at, decode, times}
 use Rattle.model.specs.declared.Call.TheVariants.{Report}
 use Rattle.model.specs.declared.Others.{Others}
@@ -27,7 +24,7 @@ use Rattle.model.specs.Controller.{is_point, next_levels, respond}
 use Rattle.model.proofs.Points.{AllPoints}
 use Rattle.rows.specs.declared.Code.{Code}
 use Rattle.rows.specs.Rows.{point_at}
-use Rattle.rows.specs.Leaves.{numbers, lent_turns, lent_tails, lent_stretches}
+use Rattle.rows.specs.Leaves.{numbers, lent_turns, lent_tails}
 use Rattle.rows.specs.Answers.{Says}
 use Rattle.rows.proofs.Answers.{said_true, said_false}
 use Rattle.place.specs.Stack.{Decoded, frames}
@@ -37,7 +34,9 @@ use Rattle.rows.specs.Plans.{PlanIn}
 use Rattle.place.specs.declared.Place.{Place}
 use Rattle.place.proofs.Entries.{times_are}
 use Rattle.place.proofs.Counts.{counts_tell}
-use Rattle.place.proofs.Meaning.{first_times, later_times, depth_is, points, decoded, clocked, next_place_is, next_times_are, last_point_is, first_place_is}
+use Rattle.place.proofs.Meaning.{first_times, later_times, depth_is, points, decoded, clocked, next_place_is, next_times_are, first_place_is}
+use Rattle.outlook.specs.declared.Ahead.{Ahead}
+use Rattle.outlook.specs.Ahead.{ahead_at}
 use Rattle.control.specs.declared.LentPlan.{LentPlan}
 use Rattle.control.specs.declared.OpenRelease.{OpenRelease}
 use Rattle.control.specs.declared.State.TheVariants.{Open}
@@ -45,8 +44,8 @@ use Rattle.control.specs.declared.Step.{Step}
 use Rattle.control.specs.declared.Weighing.{Weighing}
 use Rattle.control.specs.State.{stack_of, standing, put, open_at_report}
 use Rattle.control.specs.Calls.{place_of, running_at, reply, as_step}
-use Rattle.control.specs.Private.{Coded, GoodOnCode, WholeTable, Arriving, weighing, arrived}
-use Rattle.control.proofs.Tabled.{marked_point, point_marked, stretch_at}
+use Rattle.control.specs.Private.{Coded, GoodOnCode, WholeTable, Arriving, moved_to, weighing, arrived}
+use Rattle.control.proofs.Tabled.{marked_point, point_marked}
 use Rattle.control.proofs.Arrays.{put_at, put_is}
 use Rattle.control.proofs.Places.{Moved}
 use Rattle.control.proofs.Alike.{next_moves, stack_moved}
@@ -85,28 +84,28 @@ next_onward p o [] n h = absurd (omega arith)
 next_onward p o (g ∷ ks) n h = refl
 
 module _ {c : Code} (q : Coded c) (o : OpenRelease) where
-  module _ (n : ℕ) (x : RustOption Place) where
+  module _ (n : ℕ) (moved : Bool) (x : Place) where
     abbrev Found : Levels → Type 0
-    Found ls = NextPlace c (main q.plan) (next_levels q.plan (place_of o ls) n) o.place n x
+    Found ls = NextPlace c (main q.plan) (next_levels q.plan (place_of o ls) n) o.place n moved x
 
-    -- At a first report, by what `first_place` ensures.
-    pub first_found : o.place.level ≡ 0 → ((t : CodeTable c) → NextPlace c (main_forms t) (onto [] (seek (main_forms t) n)) o.place n x) →
+    -- At a first report, by what `begin` ensures.
+    pub first_found : o.place.level ≡ 0 → ((t : CodeTable c) → NextPlace c (main_forms t) (onto [] (seek (main_forms t) n)) o.place n moved x) →
         (ls : Levels) → standing q.plan o ≡ some ls → Found ls
     first_found z e ls k =
         let y = none_open ls (stands_depth q.plan q.accepted o ls k ∙ z) in
         subst Found (sym y)
-        (first_place_is q.plan q.accepted (laid_here q) o.place.leaves o.place.earlier n x (rw (count_here q) at e))
+        (first_place_is q.plan q.accepted (laid_here q) o.place n moved x (rw (count_here q) at e))
 
-    -- Behind a report, by what `next_place` ensures.
-    pub later_found : 1 ≤ o.place.level → ((t : PlaceDecoded c o.place) → NextPlace c (main_forms t.decoded.table) (onward_at t.decoded.levels n) o.place n x) →
+    -- Behind a report, by what `advance` ensures.
+    pub later_found : 1 ≤ o.place.level → ((t : PlaceDecoded c o.place) → NextPlace c (main_forms t.decoded.table) (onward_at t.decoded.levels n) o.place n moved x) →
         (ls : Levels) → standing q.plan o ≡ some ls → Found ls
     later_found one e ls k =
         let (g, u) = stands_decode q.plan q.accepted o ls one k in
         let i = next_onward q.plan o ls n (omega (arith, stands_depth q.plan q.accepted o ls k)) in
         let f = λ (t : Decoded (numbers c.row.now) c.bounds.now c.functions o.place.leaves o.place.earlier o.place.level). e (record { least = one; most = stands_few q.plan q.accepted o ls k; decoded = t }) in
-        rw i (next_place_is q.plan q.accepted (laid_here q) o.place.leaves o.place.earlier o.place.level ls one g u n x (rw (count_here q) at f))
+        rw i (next_place_is q.plan q.accepted (laid_here q) o.place.leaves o.place.earlier o.place.level ls one g u o.place n moved x (rw (count_here q) at f))
 
--- What `next_place` asks for.
+-- What `advance` asks for.
 pub spot_decoded : {c : Code} {o : OpenRelease} → GoodOnCode c o → (o.place.level ≡ 0 → ⊥) → PlaceDecoded c o.place
 spot_decoded {o = o} k some_open =
     let one : 1 ≤ o.place.level = omega (arith, some_open) in
@@ -132,118 +131,96 @@ rest_times : (p : Plan) (o : OpenRelease) (n : ℕ) (ls new : Levels) (old : Lis
 rest_times p o n [] new old e z = first_times p n new old e z
 rest_times p o n (g ∷ ks) new old e z = later_times p n (g ∷ ks) new old e z
 
-module _ {l : LentPlan} {o : OpenRelease} {x : Place} {str : ℕ} (k : Arriving l o x str) where
+module _ {l : LentPlan} {o : OpenRelease} (k : Arriving l o) where
   abbrev here : Plan
-  here = k.costed.rowed.head.plan
+  here = k.whole.costed.rowed.head.plan
 
-  abbrev ok : Accepted k.costed.rowed.head.plan
-  ok = k.costed.rowed.head.accepted
+  abbrev ok : Accepted k.whole.costed.rowed.head.plan
+  ok = k.whole.costed.rowed.head.accepted
 
-  abbrev d : PlanIn (numbers l.code.row.now) l.code.bounds.now k.costed.rowed.head.plan
-  d = laid_here (coded k.costed.rowed)
+  abbrev d : PlanIn (numbers l.code.row.now) l.code.bounds.now k.whole.costed.rowed.head.plan
+  d = laid_here (coded k.whole.costed.rowed)
 
   abbrev depth : ℕ
   depth = length k.new.levels
 
-  new_depth : length k.new.levels ≡ x.level
-  new_depth = depth_is here ok d x.leaves x.earlier x.level k.new.levels k.new.least k.new.decodes
+  new_depth : length k.new.levels ≡ o.place.level
+  new_depth = depth_is here ok d o.place.leaves o.place.earlier o.place.level k.new.levels k.new.least k.new.decodes
 
-  new_points : AllPoints here (frames x.leaves x.earlier 1 x.level)
-  new_points = points here ok d x.leaves x.earlier x.level k.new.levels k.new.least k.new.decodes k.new.marked
+  pub new_points : AllPoints here (frames o.place.leaves o.place.earlier 1 o.place.level)
+  new_points = points here ok d o.place.leaves o.place.earlier o.place.level k.new.levels k.new.least k.new.decodes k.new.marked
 
   lower : TimesAt (main here) o.times (outer_levels k.new.levels)
-  lower = rest_times here o k.point k.levels k.new.levels o.times k.new.found (stands_times here ok o k.levels k.stands)
+  lower = rest_times here k.before k.point k.levels k.new.levels o.times k.new.found (ap (λ y. y.times) k.moved ∙ stands_times here ok k.before k.levels k.stands)
 
-  -- What `next_times` asks for, and what it gives.
-  pub clocked_here : PlaceClocked l.code.row.now l.head.now.totals x o.times
+  -- What `keep_time` asks for, and what it gives.
+  pub clocked_here : PlaceClocked l.code.row.now l.head.now.totals o.place o.times
   clocked_here =
-      let z = clocked here ok d x.leaves x.earlier x.level k.new.levels k.new.least k.new.decodes new_points (filled_here k.costed) {old = o.times} lower in
+      let z = clocked here ok d o.place.leaves o.place.earlier o.place.level k.new.levels k.new.least k.new.decodes new_points (filled_here k.whole.costed) {old = o.times} lower in
       record { least = k.new.least; most = k.new.most; clocked = z }
 
   pub new_times : (new : List ℕ) → length new ≡ 33 →
-      ((q : PlaceClocked l.code.row.now l.head.now.totals x o.times) → TimesAt (main_forms q.clocked.costed.decoded.table) new q.clocked.costed.decoded.levels) →
-      ((j : ℕ) → x.level < j → get_or new j 0 ≡ 0) → new ≡ times (main here) k.new.levels
+      ((q : PlaceClocked l.code.row.now l.head.now.totals o.place o.times) → TimesAt (main_forms q.clocked.costed.decoded.table) new q.clocked.costed.decoded.levels) →
+      ((j : ℕ) → o.place.level < j → get_or new j 0 ≡ 0) → new ≡ times (main here) k.new.levels
   new_times new e t z =
-      let f = λ (q : Clocked (numbers l.code.row.now) (lent_tails l.code.row.now) (lent_turns l.code.row.now) l.head.now.totals x.leaves x.earlier x.level o.times).
+      let f = λ (q : Clocked (numbers l.code.row.now) (lent_tails l.code.row.now) (lent_turns l.code.row.now) l.head.now.totals o.place.leaves o.place.earlier o.place.level o.times).
       t (record { least = k.new.least; most = k.new.most; clocked = q }) in
-      next_times_are here ok d x.leaves x.earlier x.level k.new.levels k.new.least k.new.decodes new_points (filled_here k.costed) k.new.most o.times new lower e f z
+      next_times_are here ok d o.place.leaves o.place.earlier o.place.level k.new.levels k.new.least k.new.decodes new_points (filled_here k.whole.costed) k.new.most o.times new lower e f z
 
-  -- What `last_point` asks for, and what it says.
-  pub decoded_here : PlaceDecoded l.code x
-  decoded_here =
-      let z = decoded here ok d x.leaves x.earlier x.level k.new.levels k.new.least k.new.decodes new_points in
-      record { least = k.new.least; most = k.new.most; decoded = rw (count_here (coded k.costed.rowed)) z }
-
-  last_here : {r : Bool} → ((q : PlaceDecoded l.code x) → r ≡ no_further (whole q.decoded.levels)) → r ≡ no_further (whole k.new.levels)
-  last_here {r} e =
-      let f = λ (q : Decoded (numbers l.code.row.now) l.code.bounds.now l.code.functions x.leaves x.earlier x.level). e (record { least = k.new.least; most = k.new.most; decoded = q }) in
-      last_point_is here ok d x.leaves x.earlier x.level k.new.levels k.new.least k.new.decodes new_points r (rw (count_here (coded k.costed.rowed)) at f)
-
-  new_time : {new : List ℕ} → new ≡ times (main here) k.new.levels → get_or new x.level 0 ≡ total C (whole k.new.levels)
+  new_time : {new : List ℕ} → new ≡ times (main here) k.new.levels → get_or new o.place.level 0 ≡ total C (whole k.new.levels)
   new_time {new} e =
-      ap (λ ts. get_or ts x.level 0) e ∙
+      ap (λ ts. get_or ts o.place.level 0) e ∙
       (ap (λ j. get_or (times (main here) k.new.levels) j 0) (sym new_depth) ∙ top_time (main here) k.new.levels (omega (arith, new_depth, k.new.least)))
 
   -- The stack as the model moves it.
-  module _ (x_33 : length x.leaves ≡ 33) (y_33 : length x.earlier ≡ 33) (s_33 : length o.place.leaves ≡ 33) (t_33 : length o.place.earlier ≡ 33) where
-    move : Moved here (stack_of o) k.point k.new.levels
-    move = next_moves here ok o k.levels k.stands k.point k.new.levels k.new.found
+  move : Moved here (stack_of k.before) k.point k.new.levels
+  move = next_moves here ok k.before k.levels k.stands k.point k.new.levels k.new.found
 
-    leaves_are : x.leaves ≡ put o.place.leaves depth k.point
-    leaves_are = rw new_depth (put_is k.new.leaf s_33 x_33 k.new.most)
+  leaves_are : o.place.leaves ≡ put k.before.place.leaves depth k.point
+  leaves_are = rw new_depth (put_is k.new.leaf k.new.most)
 
-    counts_are : x.earlier ≡ put o.place.earlier depth k.new.count
-    counts_are = rw new_depth (put_is k.new.visited t_33 y_33 k.new.most)
+  counts_are : o.place.earlier ≡ put k.before.place.earlier depth k.new.count
+  counts_are = rw new_depth (put_is k.new.visited k.new.most)
 
-    count_is : k.new.count ≡ (framed k.point (drop (depth - 1) (stack_of o))).earlier
-    count_is =
-        let m = move in
-        let c = (framed k.point (drop (depth - 1) (stack_of o))).earlier in
-        let a = put o.place.leaves depth k.point in
-        let u : decode (main here) [] (frames a (put o.place.earlier depth k.new.count) 1 depth) ≡ some k.new.levels = rw (← leaves_are, ← counts_are, new_depth) k.new.decodes in
-        let v : decode (main here) [] (frames a (put o.place.earlier depth c) 1 depth) ≡ some k.new.levels =
-        ap (decode (main here) []) (stack_moved here ok o.place k.point k.new.levels 0 o.others s_33 t_33 m.low m.high m.fits) ∙ m.decoded in
-        let e = counts_tell (main here) a (put o.place.earlier depth k.new.count) (put o.place.earlier depth c) depth k.new.levels m.low u v in
-        sym (put_at o.place.earlier depth k.new.count t_33 m.high) ∙ (e ∙ put_at o.place.earlier depth c t_33 m.high)
+  count_is : k.new.count ≡ (framed k.point (drop (depth - 1) (stack_of k.before))).earlier
+  count_is =
+      let m = move in
+      let c = (framed k.point (drop (depth - 1) (stack_of k.before))).earlier in
+      let a = put k.before.place.leaves depth k.point in
+      let u : decode (main here) [] (frames a (put k.before.place.earlier depth k.new.count) 1 depth) ≡ some k.new.levels = rw (← leaves_are, ← counts_are, new_depth) k.new.decodes in
+      let v : decode (main here) [] (frames a (put k.before.place.earlier depth c) 1 depth) ≡ some k.new.levels =
+      ap (decode (main here) []) (stack_moved here ok k.before.place k.point k.new.levels 0 k.before.others k.new.leaf.old_33 k.new.visited.old_33 m.low m.high m.fits) ∙ m.decoded in
+      let e = counts_tell (main here) a (put k.before.place.earlier depth k.new.count) (put k.before.place.earlier depth c) depth k.new.levels m.low u v in
+      sym (put_at k.before.place.earlier depth k.new.count k.new.visited.old_33 m.high) ∙ (e ∙ put_at k.before.place.earlier depth c k.new.visited.old_33 m.high)
 
-    earlier_are : x.earlier ≡ put o.place.earlier depth (framed k.point (drop (depth - 1) (stack_of o))).earlier
-    earlier_are = counts_are ∙ ap (λ c. put o.place.earlier depth c) count_is
+  earlier_are : o.place.earlier ≡ put k.before.place.earlier depth (framed k.point (drop (depth - 1) (stack_of k.before))).earlier
+  earlier_are = counts_are ∙ ap (λ c. put k.before.place.earlier depth c) count_is
 
-    -- So the new place and the open release are the document's.
-    moved_on : (new : List ℕ) (reading : ℕ) (others : Others) → new ≡ times (main here) k.new.levels →
-        ◌≡◌ {A = OpenRelease} (record { others = others; reading = reading; place = x; times = new }) (open_at_report here o.place k.point k.new.levels reading others)
-    moved_on new reading others e = λ i.
-        record { others = others; reading = reading; place = record { level = sym new_depth i; leaves = leaves_are i; earlier = earlier_are i }; times = e i }
+  -- So the new place and the open release are the document's.
+  moved_on : (new : List ℕ) (reading : ℕ) (others : Others) → new ≡ times (main here) k.new.levels →
+      ◌≡◌ {A = OpenRelease} (record { others = others; reading = reading; place = o.place; times = new }) (open_at_report here k.before.place k.point k.new.levels reading others)
+  moved_on new reading others e = λ i.
+      record { others = others; reading = reading; place = record { level = sym new_depth i; leaves = leaves_are i; earlier = earlier_are i }; times = e i }
 
-    -- And the decision there is the document's.
-    pub arrived_here : (new : List ℕ) (reading : ℕ) → new ≡ times (main here) k.new.levels → {r : Bool} →
-        ((q : PlaceDecoded l.code x) → r ≡ no_further (whole q.decoded.levels)) → (w : Weighing) →
-        w ≡ weighing here (record { remaining = get_or new x.level 0; stretch = str; last = r }) reading o.others →
-        ◌≡◌ {A = Step}
-        (record { answer = w.answer; state = Open (record { others = w.others; reading = reading; place = x; times = new }) })
-        (as_step (arrived here o k.point k.new.levels reading))
-    arrived_here new reading e {r} f w dec =
-        let u = outlook here (at_report k.point k.new.levels) in
-        let z : ◌≡◌ {A = Outlook} (record { remaining = get_or new x.level 0; stretch = str; last = r }) u =
-        λ i. record { remaining = new_time e i; stretch = k.stretch_is i; last = last_here f i } in
-        let v : w ≡ weighing here u reading o.others = dec ∙ ap (λ y. weighing here y reading o.others) z in
-        let m = moved_on new reading w.others e ∙ ap (λ y. open_at_report here o.place k.point k.new.levels reading y.others) v in
-        λ i. record { answer = (v i).answer; state = Open (m i) }
+  -- And the decision there is the document's.
+  pub arrived_here : (new : List ℕ) (reading : ℕ) → new ≡ times (main here) k.new.levels → {a : Ahead} → a ≡ ahead_at M (whole k.new.levels) → (w : Weighing) →
+      w ≡ weighing here (record { remaining = get_or new o.place.level 0; stretch = a.stretch; last = a.last }) reading o.others →
+      ◌≡◌ {A = Step}
+      (record { answer = w.answer; state = Open (record { others = w.others; reading = reading; place = o.place; times = new }) })
+      (as_step (arrived here k.before k.point k.new.levels reading))
+  arrived_here new reading e {a} f w dec =
+      let u = outlook here (at_report k.point k.new.levels) in
+      let z : ◌≡◌ {A = Outlook} (record { remaining = get_or new o.place.level 0; stretch = a.stretch; last = a.last }) u =
+      λ i. record { remaining = new_time e i; stretch = (f i).stretch; last = (f i).last } in
+      let v : w ≡ weighing here u reading k.before.others = dec ∙ (λ i. weighing here (z i) reading (k.moved i).others) in
+      let m = moved_on new reading w.others e ∙ ap (λ y. open_at_report here k.before.place k.point k.new.levels reading y.others) v in
+      λ i. record { answer = (v i).answer; state = Open (m i) }
 
 -- THE REPORT
 
 module _ {l : LentPlan} (q : WholeTable l) (o : OpenRelease) (n : ℕ) where
   abbrev of : Plan
   of = q.costed.rowed.head.plan
-
-  abbrev fine : Accepted q.costed.rowed.head.plan
-  fine = q.costed.rowed.head.accepted
-
-  -- The row has the point's stretch.
-  pub stretch_there : is_point (all_leaves of.functions) n ≡ true → (n < length l.code.row.now) × (get_or (lent_stretches l.code.row.now) n 0 ≡ stretch M n (main of) 0)
-  stretch_there e =
-      let (x, y) = point_marked of fine n e in
-      (omega (arith, x, row_size (coded q.costed.rowed)), ap (λ c. get_or c n 0) q.stretches_are ∙ stretch_at of fine n e)
 
   module _ (t : ℕ) (ls : Levels) where
     pub stranger : is_point (all_leaves of.functions) n ≡ false → as_step (refuse (Open o) Stranger) ≡ as_step (reply of (Open o) (running_at o ls) (Report n t))
@@ -260,13 +237,12 @@ module _ {l : LentPlan} (q : WholeTable l) (o : OpenRelease) (n : ℕ) where
     astray e b i = rw (e, le-ltb t o.reading b, i)
 
     pub onwards : is_point (all_leaves of.functions) n ≡ true → o.reading ≤ t → (new : Levels) → next_levels of (place_of o ls) n ≡ some new →
-        as_step (arrived of o n new t) ≡ as_step (reply of (Open o) (running_at o ls) (Report n t))
+        {s : Step} → s ≡ as_step (arrived of o n new t) → s ≡ as_step (reply of (Open o) (running_at o ls) (Report n t))
     unfolding respond
-    onwards e b new i = rw (e, le-ltb t o.reading b, i)
+    onwards e b new i z = rw (e, le-ltb t o.reading b, i) z
 
   -- A place comes next.
-  module _ (ls : Levels) (x : Place) (f : NextPlace l.code (main of) (next_levels of (place_of o ls) n) o.place n (Some x)) where
-    abbrev pub arriving : {str : ℕ} → str ≡ get_or (lent_stretches l.code.row.now) n 0 → is_point (all_leaves of.functions) n ≡ true → standing of o ≡ some ls →
-        Arriving l o x str
-    arriving {str} s e k =
-        record { costed = q.costed; levels = ls; stands = k; point = n; new = f; stretch_is = s ∙ (stretch_there e).1 }
+  module _ (ls : Levels) {after : OpenRelease} (m : after ≡ moved_to o after.place)
+      (f : NextPlace l.code (main of) (next_levels of (place_of o ls) n) o.place n true after.place) where
+    abbrev pub arriving : standing of o ≡ some ls → Arriving l after
+    arriving k = record { whole = q; before = o; moved = m; levels = ls; stands = k; point = n; new = f }

@@ -1,15 +1,13 @@
--- The table of an accepted plan is one that crate `place` works on: its functions lie in the row, its columns are filled, its points are marked, and
--- a point's stretch stands at its number. Assumes nothing.
+-- The table of an accepted plan is one that crates `place` and `outlook` work on: its functions lie in the row, its columns are filled, and its points are
+-- marked. Assumes nothing.
 use mathlib.Core.Bool.{true}
-use mathlib.Core.List.{List, [], ◌∷◌, ◌++◌}
-use mathlib.Core.Path.{◌≡◌, ap, sym, ◌∙◌}
-use Prim.Native.Nat.{ℕ, ◌+◌, ◌<◌}
+use mathlib.Core.List.{List, [], ◌∷◌}
+use mathlib.Core.Path.{◌≡◌, refl, sym}
+use Prim.Native.Nat.{ℕ, ◌<◌}
 use native.Mathlib.Omega.{arith}
-use lib.ListN.{length, get_or, length-append, length-map}
-use Rattle.model.specs.Plan.{Block, C, Lines, close, Plan, all_leaves, M}
-use Rattle.model.specs.Forms.{main}
-use Rattle.model.specs.Total.{tally, tallies}
-use Rattle.model.specs.Stretch.{stretch}
+use lib.ListN.{length, get_or, length-append}
+use Rattle.model.specs.Plan.{Block, C, M, Lines, close, Plan, leaves, all_leaves}
+use Rattle.model.specs.Total.{tallies}
 use Rattle.model.specs.Acceptance.{sizes, Accepted}
 use Rattle.model.specs.Controller.{is_point}
 use Rattle.model.proofs.Links.{plan_spans}
@@ -21,17 +19,20 @@ use Rattle.reader.proofs.Tasks.{length_padded, padded_same}
 use Rattle.rows.specs.Rows.{point_at}
 use Rattle.rows.specs.Plans.{PlanIn}
 use Rattle.place.specs.Plans.{PlanColumns}
+use Rattle.outlook.specs.Plans.{PlanLoads}
 use Rattle.place.proofs.Points.{mark_point, point_mark}
-use Rattle.table.specs.Table.{table_of, stretch_of, all_tails, all_turns}
+use Rattle.table.specs.Table.{table_of, all_tails, all_turns}
 use Rattle.rows.proofs.Plans.{plan_leaves}
 use Rattle.table.proofs.Bridge.{formed_plan}
-use Rattle.table.proofs.Written.{turns_size, tails_size, stretches_size}
-use Rattle.control.proofs.Columns.{holds_self, row_entry, priced_all, priced_same}
+use Rattle.table.proofs.Deriving.{tallies_length}
+use Rattle.table.proofs.Holding.{leaves_size}
+use Rattle.table.proofs.Written.{turns_size, tails_size}
+use Rattle.control.proofs.Columns.{holds_self, priced_all, priced_same, rounds_all, rounds_same}
 
-length_tallies : (k : Block → ℕ) (ts : List ℕ) (ls : List Lines) → length (tallies k ts ls) ≡ length ts + length ls
-unfolding tallies
-length_tallies k ts [] = omega arith
-length_tallies k ts (l ∷ ls) = omega (arith, length_tallies k (ts ++ (tally k ts l ∷ [])) ls, length-append ts (tally k ts l ∷ []))
+all_size : (ls : List Lines) → length (all_leaves ls) ≡ sizes ls
+unfolding all_leaves sizes
+all_size [] = refl
+all_size (l ∷ ls) = omega (arith, length-append (leaves l) (all_leaves ls), leaves_size l, all_size ls)
 
 module _ (p : Plan) (a : Accepted p) where
   -- The functions lie in the row between the bounds.
@@ -46,8 +47,8 @@ module _ (p : Plan) (a : Accepted p) where
 
   -- THE COLUMNS
 
-  total_is : (f : ℕ) → get_or (tallies C [] p.functions) f 0 ≡ get_or (padded 16 (tallies C [] p.functions)) f 0
-  total_is f = sym (padded_same 16 (tallies C [] p.functions) f (omega (arith, length_tallies C [] p.functions, a.formed.few_functions)))
+  total_is : (k : Block → ℕ) (f : ℕ) → get_or (tallies k [] p.functions) f 0 ≡ get_or (padded 16 (tallies k [] p.functions)) f 0
+  total_is k f = sym (padded_same 16 (tallies k [] p.functions) f (omega (arith, tallies_length k [] p.functions, a.formed.few_functions)))
 
   pub filled : PlanColumns p (table_of p).tails (table_of p).turns (padded 16 (tallies C [] p.functions))
   filled =
@@ -56,9 +57,19 @@ module _ (p : Plan) (a : Accepted p) where
       record {
         long_tails = omega (arith, tails_size p);
         long_turns = omega (arith, turns_size p);
-        totals_are = λ f h. sym (total_is f);
-        priced = λ f h. priced_same ts (padded 16 ts) total_is (all_tails ts ls) (all_turns ts ls) (get_or ls f close) 0
-            (priced_all ts (all_tails ts ls) (all_turns ts ls) ls 0 (plan_spans p a.formed) (holds_self (all_tails ts ls)) (holds_self (all_turns ts ls)) f h);
+        totals_are = λ f h. sym (total_is C f);
+        priced = λ f h. priced_same ts (padded 16 ts) (total_is C) (all_tails ts ls) (all_turns C ts ls) (get_or ls f close) 0
+            (priced_all ts (all_tails ts ls) (all_turns C ts ls) ls 0 (plan_spans p a.formed) (holds_self (all_tails ts ls)) (holds_self (all_turns C ts ls)) f h);
+      }
+
+  pub filled_loads : PlanLoads M p (padded 16 (tallies M [] p.functions)) (table_of p).max_load_turns
+  filled_loads =
+      let ts = tallies M [] p.functions in
+      let ls = p.functions in
+      record {
+        totals_are = λ f h. sym (total_is M f);
+        rounds = λ f h. rounds_same ts (padded 16 ts) (total_is M) M (all_turns M ts ls) (get_or ls f close)
+            (rounds_all M ts (all_turns M ts ls) ls 0 (plan_spans p a.formed) (holds_self (all_turns M ts ls)) f h);
       }
 
   -- POINTS
@@ -71,14 +82,5 @@ module _ (p : Plan) (a : Accepted p) where
   point_marked n e =
       let (b, i, j, k) = is_point_of p n e in
       let r = row_range 0 (all_leaves p.functions) (spans_all_row p.functions 0 (plan_spans p a.formed)) b i in
-      let h : n < sizes p.functions = omega (arith, r, k, length-map (all_leaves p.functions) (stretch_of p), stretches_size p) in
+      let h : n < sizes p.functions = omega (arith, r, k, all_size p.functions) in
       (h, point_mark p a laid n (omega (arith, h, end_bound)) (b, i, j, k))
-
-  -- The stretch of a point stands at its number.
-  pub stretch_at : (n : ℕ) → is_point (all_leaves p.functions) n ≡ true → get_or (table_of p).stretches n 0 ≡ stretch M n (main p) 0
-  stretch_at n e =
-      let (b, i, j, k) = is_point_of p n e in
-      let ss = (table_of p).stretches in
-      let r = row_entry ss (stretch_of p) (all_leaves p.functions) 0 (spans_all_row p.functions 0 (plan_spans p a.formed)) (holds_self ss) b i in
-      let s : stretch_of p b ≡ stretch M b.number (main p) 0 = rw j in
-      ap (λ m. get_or ss m 0) (sym k) ∙ (r ∙ (s ∙ ap (λ m. stretch M m (main p) 0) k))

@@ -1,9 +1,10 @@
--- The marked cases m1 to m12 of document 01 ('Plans worked through'), m5 and m11 as document 02 (L3) has them, as one table: a plan, and calls from a fresh
--- state on its table with their answers, each worked out by hand from the documents' sentences.
+-- The marked cases m1 to m12 of document 01 ('Plans worked through'), m5 and m11 as document 02 (L3 and L6) has them, as one table: a plan, and calls from a
+-- fresh state on its table with their answers, each worked out by hand from the documents' sentences.
 -- Assumes nothing: these are definitions.
-use Rattle.std.specs.Prelude.{false, List, [], ◌∷◌, ◌≡◌, ℕ, pos, negsuc}
+use Rattle.std.specs.Prelude.{false, List, [], ◌∷◌, map, ◌≡◌, ℕ, pos, negsuc}
 use Rattle.model.specs.declared.Refusal.TheVariants.{Unfit, Astray}
-use Rattle.model.specs.Plan.{Plan}
+use Rattle.model.specs.Plan.{Plan, all_leaves}
+use Rattle.model.specs.Stretch.{stretch_of}
 use Rattle.model.specs.Acceptance.{Accepted}
 use Rattle.model.specs.declared.Call.TheVariants.{Release, Report, End}
 use Rattle.model.specs.declared.Word.TheVariants.{Go, Suspend, Stay}
@@ -16,7 +17,7 @@ use Rattle.table.specs.Table.{table_of}
 use Rattle.control.specs.State.{fresh}
 use Rattle.control.specs.Calls.{controller_of}
 
--- A plan with its totals and the stretches of its leaves (0 where silent), and calls from a fresh state on its table, each with its answer.
+-- A plan with its totals and the printed stretches of its leaves (0 where silent), and calls from a fresh state on its table, each with its answer.
 pub record Case : Type 0 where
   pub plan : Plan
   pub total : ℕ
@@ -25,7 +26,7 @@ pub record Case : Type 0 where
   pub exchanges : List Exchange
 
 -- Calls on plan A: D 100, T 4, stretches 0 (release), 9 and 24. The margin at the loop's visits 1 to 3 is 100 − reading − remaining − 24 − 4; behind visit 4
--- no point can come, and it is 100 − reading − 24.
+-- come leaf 3 and the end, 4 + 8 = 12, and no point, and it is 100 − reading − 12.
 abbrev pub on_A : List Exchange → Case
 on_A xs = record { plan = plan_A; total = 49; max_total = 93; stretches = 9 ∷ 24 ∷ 0 ∷ 0 ∷ []; exchanges = xs }
 
@@ -39,26 +40,26 @@ abbrev pub on_smallest : ℕ → Answer → Case
 on_smallest D a = record { plan = smallest D; total = 7; max_total = 9; stretches = 0 ∷ []; exchanges = (Release gets a) ∷ [] }
 
 -- The worst case of plan A (m3): visit 3 of the loop at 57 has margin −5 and suspends; the worst run then reports visit 4 at 57 + 4 + 2 + 10, with margin
--- 100 − 73 − 24, and ends at 57 + 4 + 20 = 81.
+-- 100 − 73 − 12, and ends at 57 + 4 + 20 = 81.
 unfoldable pub worst_of_A : List Exchange
 worst_of_A =
     (Release gets Decided Go 49 (pos 47) false) ∷ (Report 0 0 gets Decided Go 49 (pos 38) false) ∷ (Report 1 9 gets Decided Go 44 (pos 19) false) ∷
-    (Report 1 33 gets Decided Go 32 (pos 7) false) ∷ (Report 1 57 gets Decided Suspend 20 (negsuc 4) false) ∷ (Report 1 73 gets Decided Stay 8 (pos 3) false) ∷
+    (Report 1 33 gets Decided Go 32 (pos 7) false) ∷ (Report 1 57 gets Decided Suspend 20 (negsuc 4) false) ∷ (Report 1 73 gets Decided Stay 8 (pos 15) false) ∷
     (End 81 gets Closed Resume false) ∷ []
 
 unfoldable pub cases : List Case
 cases =
-    -- m1: remaining at the loop's visits 1 to 4 is 44, 32, 20, 8; m4: a fifth visit gives 17; m5: visit 4 at 76 goes on
+    -- m1: remaining at the loop's visits 1 to 4 is 44, 32, 20, 8; m4: a fifth visit gives 17; m5: visit 4 at 88 goes on
     on_A ((Release gets Decided Go 49 (pos 47) false) ∷ (Report 0 0 gets Decided Go 49 (pos 38) false) ∷ (Report 1 9 gets Decided Go 44 (pos 19) false) ∷
-    (Report 1 33 gets Decided Go 32 (pos 7) false) ∷ (Report 1 50 gets Decided Go 20 (pos 2) false) ∷ (Report 1 76 gets Decided Go 8 (pos 0) false) ∷ (Report 1 76 gets Refused Astray) ∷ []) ∷
+    (Report 1 33 gets Decided Go 32 (pos 7) false) ∷ (Report 1 50 gets Decided Go 20 (pos 2) false) ∷ (Report 1 88 gets Decided Go 8 (pos 0) false) ∷ (Report 1 88 gets Refused Astray) ∷ []) ∷
     -- m2: visit 1 goes on at reading 28, and suspends at 29
     on_A ((Release gets Decided Go 49 (pos 47) false) ∷ (Report 0 0 gets Decided Go 49 (pos 38) false) ∷ (Report 1 28 gets Decided Go 44 (pos 0) false) ∷ []) ∷
     on_A ((Release gets Decided Go 49 (pos 47) false) ∷ (Report 0 0 gets Decided Go 49 (pos 38) false) ∷ (Report 1 29 gets Decided Suspend 44 (negsuc 0) false) ∷ []) ∷
     -- m3
     on_A worst_of_A ∷
-    -- m5: visit 4 at 77 does not go on
+    -- m5: visit 4 at 89 does not go on
     on_A ((Release gets Decided Go 49 (pos 47) false) ∷ (Report 0 0 gets Decided Go 49 (pos 38) false) ∷ (Report 1 9 gets Decided Go 44 (pos 19) false) ∷
-    (Report 1 33 gets Decided Go 32 (pos 7) false) ∷ (Report 1 50 gets Decided Go 20 (pos 2) false) ∷ (Report 1 77 gets Decided Suspend 8 (negsuc 0) false) ∷ []) ∷
+    (Report 1 33 gets Decided Go 32 (pos 7) false) ∷ (Report 1 50 gets Decided Go 20 (pos 2) false) ∷ (Report 1 89 gets Decided Suspend 8 (negsuc 0) false) ∷ []) ∷
     -- m8: reports 1, 4, 0, end are accepted (the margin at point 1 is 200 − 15 − 13 − 5); m9: after 1, 4, 0 remaining is 3 (the margin is 200 − 4)
     on_B ((Release gets Decided Go 15 (pos 180) false) ∷ (Report 1 0 gets Decided Go 15 (pos 167) false) ∷ (Report 4 0 gets Decided Go 4 (pos 189) false) ∷
     (Report 0 0 gets Decided Go 3 (pos 196) false) ∷ (End 9 gets Closed Ended false) ∷ []) ∷
@@ -69,12 +70,12 @@ cases =
     on_smallest 9 (Refused Unfit) ∷ on_smallest 10 (Decided Go 7 (pos 1) false) ∷ on_smallest 18 (Decided Go 7 (pos 9) false) ∷
     on_smallest 19 (Decided Go 7 (pos 10) false) ∷ []
 
--- A case holds: its plan is accepted, its table has these totals and stretches, and the calls on it answer so.
+-- A case holds: its plan is accepted, its table has these totals and its leaves these stretches, and the calls on it answer so.
 pub record CaseHolds (c : Case) : Type 0 where
   pub accepted : Accepted c.plan
   pub total_is : (table_of c.plan).head.total ≡ c.total
   pub max_total_is : (table_of c.plan).head.max_load_total ≡ c.max_total
-  pub stretches_are : (table_of c.plan).stretches ≡ c.stretches
+  pub stretches_are : map (stretch_of c.plan) (all_leaves c.plan.functions) ≡ c.stretches
   pub answered : Answered (controller_of (table_of c.plan)) fresh c.exchanges
 
 unfoldable pub CasesHold : List Case → Type 0

@@ -2,19 +2,22 @@
 -- Assumes nothing: these are definitions.
 use Rattle.std.specs.Prelude.{◌≡◌, [], ◌∷◌, ℕ, replicate, Result, Ok, Err}
 use Rattle.std.proofs.Math.Option.{some}
+use Rattle.model.specs.declared.Answer.{Answer}
+use Rattle.model.specs.declared.Answer.TheVariants.{Refused}
 use Rattle.model.specs.declared.Refusal.{Refusal}
-use Rattle.model.specs.Plan.{M, Plan}
+use Rattle.model.specs.Plan.{Plan}
 use Rattle.model.specs.Forms.{main}
-use Rattle.model.specs.Stretch.{stretch}
 use Rattle.model.specs.Decisions.{at_report, decide}
 use Rattle.model.specs.Acceptance.{Accepted}
 use Rattle.model.specs.declared.Others.{Others}
 use Rattle.model.specs.declared.Outlook.{Outlook}
-use Rattle.model.specs.Calls.{Reply, refuse, others_after}
+use Rattle.model.specs.Calls.{Reply, others_after}
 use Rattle.model.specs.Controller.{next_levels, decided}
 use Rattle.model.specs.Stack.{Levels}
 use Rattle.rows.specs.declared.Code.{Code}
-use Rattle.rows.specs.Leaves.{numbers, lent_turns, lent_tails, lent_stretches}
+use Rattle.rows.specs.declared.Cost.TheVariants.{MaxLoad}
+use Rattle.rows.specs.declared.PricedCode.{PricedCode}
+use Rattle.rows.specs.Leaves.{numbers, lent_turns, lent_tails, lent_max_load_turns}
 use Rattle.rows.specs.Records.{row_of}
 use Rattle.place.specs.Stack.{Stacked}
 use Rattle.place.specs.declared.Place.{Place}
@@ -23,11 +26,11 @@ use Rattle.table.specs.Table.{table_of, head_of}
 use Rattle.control.specs.declared.LentPlan.{LentPlan}
 use Rattle.control.specs.declared.OpenRelease.{OpenRelease}
 use Rattle.control.specs.declared.State.{State}
-use Rattle.control.specs.declared.State.TheVariants.{Open}
+use Rattle.control.specs.declared.State.TheVariants.{Idle, Open}
 use Rattle.control.specs.declared.Step.{Step}
 use Rattle.control.specs.declared.Weighing.{Weighing}
 use Rattle.control.specs.State.{place_at_release, standing}
-use Rattle.control.specs.Calls.{place_of, in_numbers, as_step}
+use Rattle.control.specs.Calls.{place_of, in_numbers}
 
 -- A plan with this D and T: the decision asks no more of a plan.
 abbrev pub terms : ℕ → ℕ → Plan
@@ -41,10 +44,15 @@ weighing p o t others = record { answer = decide p o t others; others = others_a
 abbrev pub opened : ℕ → Others → OpenRelease
 opened total others = record { others = others; reading = 0; place = place_at_release; times = total ∷ replicate 32 0 }
 
--- The step that a private function tells of: the one that it gives, or the refusal of the call, which keeps the state.
-abbrev pub step_of : State → Result Step Refusal → Step
-step_of s (Ok r) = r
-step_of s (Err k) = as_step (refuse s k)
+-- The step of a call that answers so and leaves this state.
+abbrev pub stepped : Result Answer Refusal → State → Step
+stepped (Ok a) s = record { answer = a; state = s }
+stepped (Err k) s = record { answer = Refused k; state = s }
+
+-- The step of an end that answers so: where it is accepted, no release is open then.
+abbrev pub closing : State → Result Answer Refusal → Step
+closing s (Ok a) = record { answer = a; state = Idle }
+closing s (Err k) = record { answer = Refused k; state = s }
 
 -- The head is that of an accepted plan.
 pub record Headed (h : Head) : Type 0 where
@@ -75,10 +83,16 @@ pub record Costed (l : LentPlan) : Type 0 where
   pub turns_are : lent_turns l.code.row.now ≡ (table_of rowed.head.plan).turns
   pub tails_are : lent_tails l.code.row.now ≡ (table_of rowed.head.plan).tails
 
--- And so are the stretches.
+-- And so are the max-load turns.
 pub record WholeTable (l : LentPlan) : Type 0 where
   pub costed : Costed l
-  pub stretches_are : lent_stretches l.code.row.now ≡ (table_of costed.rowed.head.plan).stretches
+  pub max_load_turns_are : lent_max_load_turns l.code.row.now ≡ (table_of costed.rowed.head.plan).max_load_turns
+
+-- The code beside the head, at the max-load cost.
+pub record AtMaxLoad (l : LentPlan) (c : PricedCode) : Type 0 where
+  pub code_is : c.code ≡ l.code
+  pub cost_is : c.cost ≡ MaxLoad
+  pub totals_are : c.totals.now ≡ l.head.now.max_load_totals
 
 -- The open release is good: it stands at some levels of the plan (01, refusal 11).
 abbrev pub GoodState : Plan → OpenRelease → Type 0
@@ -89,24 +103,25 @@ pub record GoodOnCode (c : Code) (o : OpenRelease) : Type 0 where
   pub coded : Coded c
   pub stands : GoodState coded.plan o
 
--- The same beside a head.
-pub record GoodOnRow (l : LentPlan) (o : OpenRelease) : Type 0 where
-  pub rowed : Rowed l
-  pub stands : GoodState rowed.head.plan o
-
 -- The same on a whole table.
 pub record GoodOnTable (l : LentPlan) (o : OpenRelease) : Type 0 where
   pub whole : WholeTable l
   pub stands : GoodState whole.costed.rowed.head.plan o
 
--- A good release that comes to the point next: x is its place then, and str the point's stretch.
-pub record Arriving (l : LentPlan) (o : OpenRelease) (x : Place) (str : ℕ) : Type 0 where
-  pub costed : Costed l
+-- The release at another place, and else as it was.
+abbrev pub moved_to : OpenRelease → Place → OpenRelease
+moved_to o x = record { others = o.others; reading = o.reading; place = x; times = o.times }
+
+-- A release that was good, and came to the place of the point next.
+pub record Arriving (l : LentPlan) (o : OpenRelease) : Type 0 where
+  pub whole : WholeTable l
+  pub before : OpenRelease
+  pub moved : o ≡ moved_to before o.place
   pub levels : Levels
-  pub stands : standing costed.rowed.head.plan o ≡ some levels
+  pub stands : standing whole.costed.rowed.head.plan before ≡ some levels
   pub point : ℕ
-  pub new : Stacked (numbers l.code.row.now) (main costed.rowed.head.plan) (next_levels costed.rowed.head.plan (place_of o levels) point) o.place.leaves o.place.earlier point x.leaves x.earlier x.level
-  pub stretch_is : str ≡ stretch M point (main costed.rowed.head.plan) 0
+  pub new : Stacked (numbers l.code.row.now) (main whole.costed.rowed.head.plan) (next_levels whole.costed.rowed.head.plan (place_of before levels) point)
+      before.place.leaves before.place.earlier point o.place.leaves o.place.earlier o.place.level
 
 -- The reply to the report of n that comes to the levels ls: the decision there.
 abbrev pub arrived : Plan → OpenRelease → ℕ → Levels → ℕ → Reply State

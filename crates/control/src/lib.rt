@@ -7,7 +7,7 @@ ghost use Rattle.std.specs.Int.Signed.{non_neg};
 ghost use Rattle.model.specs.Forms.{main};
 ghost use Rattle.model.specs.Stack.{Levels};
 ghost use Rattle.model.specs.declared.Call.TheVariants.{Release, Report, End};
-ghost use Rattle.model.specs.Calls.{others_by_word, refuse};
+ghost use Rattle.model.specs.Calls.{others_by_word};
 ghost use Rattle.model.specs.Decisions.{reserve, margin, word};
 ghost use Rattle.model.specs.Controller.{idle, next_levels, can_close};
 ghost use Rattle.rows.specs.Rows.{point_at};
@@ -19,15 +19,13 @@ ghost use Rattle.table.specs.Lent.{table_with};
 ghost use Rattle.control.specs.declared.State.TheVariants.{Idle, Open};
 ghost use Rattle.control.specs.State.{standing};
 ghost use Rattle.control.specs.Calls.{place_of, running_at, read_state, reply, on_state, call_on, as_step};
-ghost use Rattle.control.specs.Private.{terms, weighing, opened, arrived, step_of, Headed, Rowed, Coded, Costed, WholeTable, GoodState, GoodOnCode};
-ghost use Rattle.control.specs.Private.{GoodOnRow, GoodOnTable, Arriving};
+ghost use Rattle.control.specs.Private.{terms, weighing, opened, arrived, stepped, closing, Headed, Coded, Costed, WholeTable, AtMaxLoad, GoodState, GoodOnCode};
+ghost use Rattle.control.specs.Private.{GoodOnTable, Arriving, moved_to};
 
 use model::{Answer, Call, Ending, Others, Outlook, Refusal, Word};
-use place::{
-    ByLevel, Place, can_end, first_end, first_place, last_point, next_place, next_times, no_point,
-    place_ok, times_ok, zero_above,
-};
-use rows::{Code, Leaf};
+use outlook::{at_release, at_report};
+use place::{ByLevel, Place, advance, begin, keep_time, place_ok, times_ok, zero_above};
+use rows::{Code, Cost, Leaf, PricedCode};
 use table::{Head, check};
 
 // An open release: what the others do, the last accepted reading, the place of the last point, and the remaining time kept for each level.
@@ -61,6 +59,19 @@ struct LentPlan<'a> {
     head: &'a Head,
 }
 
+impl<'a> LentPlan<'a> {
+    // The code at the max-load cost, which is what a stretch sums.
+    fn at_max_load(&self) -> PricedCode<'a>
+        ensures { AtMaxLoad self.now result }
+    {
+        PricedCode {
+            code: self.code,
+            cost: Cost::MaxLoad,
+            totals: &self.head.max_load_totals,
+        }
+    }
+}
+
 // A decision: its answer, and what the others do then.
 #[derive(Clone, Copy)]
 struct Weighing {
@@ -91,16 +102,6 @@ fn margin_of(deadline: u64, switch: u64, outlook: Outlook, reading: u64) -> i64
     let free = less_reserve(deadline + FLOOR, switch, outlook);
     let left = free.saturating_sub(outlook.stretch).saturating_sub(reading);
     left as i64 - FLOOR as i64
-}
-
-// A refused call: the state keeps every value.
-fn refuse(state: State, refusal: Refusal) -> Step
-    ensures { result ≡ as_step (refuse state refusal) }
-{
-    Step {
-        answer: Answer::Refused(refusal),
-        state,
-    }
 }
 
 // The word of a decision: stay where the others are suspended already; else suspend where the margin is below 0, and go where it is not.
@@ -156,24 +157,23 @@ fn opened(total: u64, others: Others) -> OpenRelease
 }
 
 // A release where none is open: unfit, or the decision.
-fn start(plan: &LentPlan) -> Result<Step, Refusal>
-    requires { Rowed plan.now }
-    ensures { (q : Rowed plan.now) → step_of Idle result ≡ as_step (reply q.head.plan Idle idle Release) }
+fn start(plan: &LentPlan, state: &mut State) -> Result<Answer, Refusal>
+    requires { WholeTable plan.now }
+    ensures { (q : WholeTable plan.now) → stepped result state.new ≡ as_step (reply q.costed.rowed.head.plan state.old idle Release) }
 {
     let head = plan.head;
     if head.deadline < head.total + head.switch {
         return Err(Refusal::Unfit);
     }
+    let ahead = at_release(&plan.at_max_load());
     let outlook = Outlook {
         remaining: head.total,
-        stretch: head.stretch,
-        last: no_point(&plan.code),
+        stretch: ahead.stretch,
+        last: ahead.last,
     };
     let weighing = weigh(head, outlook, 0, Others::Running);
-    Ok(Step {
-        answer: weighing.answer,
-        state: State::Open(opened(head.total, weighing.others)),
-    })
+    *state = State::Open(opened(head.total, weighing.others));
+    Ok(weighing.answer)
 }
 
 // Whether an open release is good: some run stands at its place, and its remaining times are those of that place.
@@ -202,57 +202,57 @@ fn is_point(row: &[Leaf], number: u64) -> bool
     x < row.len() && rows::point(row, x) == 1
 }
 
-// The place of a good release when the point x is reported next; none where x cannot come next.
+// Moves the place of a good release on to the report of the point x, the next one, and says whether it did: where x cannot come next it stays as it was.
 #[tactic(auto, using(crate::proofs::Lending::table_here, crate::proofs::Reporting::first_found, crate::proofs::Reporting::later_found))]
-fn next(code: &Code, release: &OpenRelease, x: usize) -> Option<Place>
+fn proceed(code: &Code, release: &mut OpenRelease, x: usize) -> bool
     requires x_value { point_at (numbers code.now.row.now) x ≡ 1 }
-    requires good_on_code { GoodOnCode code.now release.now }
-    ensures { (q : Coded code.now) (ls : Levels) → standing q.plan release.now ≡ some ls
-        → NextPlace code.now (main q.plan) (next_levels q.plan (place_of release.now ls) x) release.now.place x result }
+    requires good_on_code { GoodOnCode code.now release.old }
+    ensures next { (q : Coded code.now) (ls : Levels) → standing q.plan release.old ≡ some ls
+        → NextPlace code.now (main q.plan) (next_levels q.plan (place_of release.old ls) x) release.old.place x result release.new.place }
+    ensures rest { release.new ≡ moved_to release.old release.new.place }
 {
     if release.place.level == 0 {
-        first_place(code, &release.place, x)
+        begin(code, &mut release.place, x)
     } else {
-        next_place(code, &release.place, x)
+        advance(code, &mut release.place, x)
     }
 }
 
-// The decision at the report of a point, and the release moved on to its place. (The release by value; a reference was tried: of an array behind one that the
-// body does not read, the check knows no length.)
-fn arrive(plan: &LentPlan, release: OpenRelease, place: Place, stretch: u64, reading: u64) -> Step
-    requires { Arriving plan.now release place stretch }
-    ensures { (k : Arriving plan.now release place stretch)
-        → result ≡ as_step (arrived k.costed.rowed.head.plan release k.point k.new.levels reading) }
+// The decision at the report of the point that a good release has come to, and its remaining times there.
+fn arrive(plan: &LentPlan, release: &mut OpenRelease, reading: u64) -> Answer
+    requires { Arriving plan.now release.old }
+    ensures { (k : Arriving plan.now release.old)
+        → record { answer = result; state = Open release.new } ≡ as_step (arrived k.whole.costed.rowed.head.plan k.before k.point k.new.levels reading) }
 {
-    let times = next_times(plan.code.row, &plan.head.totals, &place, &release.times);
+    keep_time(
+        plan.code.row,
+        &plan.head.totals,
+        &release.place,
+        &mut release.times,
+    );
+    let ahead = at_report(&plan.at_max_load(), &release.place);
     let outlook = Outlook {
-        remaining: times[place.level],
-        stretch,
-        last: last_point(&plan.code, &place),
+        remaining: release.times[release.place.level],
+        stretch: ahead.stretch,
+        last: ahead.last,
     };
     let weighing = weigh(plan.head, outlook, reading, release.others);
-    Step {
-        answer: weighing.answer,
-        state: State::Open(OpenRelease {
-            others: weighing.others,
-            reading,
-            place,
-            times,
-        }),
-    }
+    release.others = weighing.others;
+    release.reading = reading;
+    weighing.answer
 }
 
 // A report to a good release: stranger, backward, astray, or the decision.
 fn reported_at(
     plan: &LentPlan,
-    release: &OpenRelease,
+    release: &mut OpenRelease,
     point: u64,
     reading: u64,
-) -> Result<Step, Refusal>
-    requires { GoodOnTable plan.now release.now }
-    ensures { (q : WholeTable plan.now) (ls : Levels) → standing q.costed.rowed.head.plan release.now ≡ some ls
-        → step_of (Open release.now) result
-        ≡ as_step (reply q.costed.rowed.head.plan (Open release.now) (running_at release.now ls) (Report point reading)) }
+) -> Result<Answer, Refusal>
+    requires { GoodOnTable plan.now release.old }
+    ensures { (q : WholeTable plan.now) (ls : Levels) → standing q.costed.rowed.head.plan release.old ≡ some ls
+        → stepped result (Open release.new)
+        ≡ as_step (reply q.costed.rowed.head.plan (Open release.old) (running_at release.old ls) (Report point reading)) }
 {
     if !is_point(plan.code.row, point) {
         return Err(Refusal::Stranger);
@@ -260,103 +260,106 @@ fn reported_at(
     if reading < release.reading {
         return Err(Refusal::Backward);
     }
-    let x = point as usize;
-    let place = next(&plan.code, release, x).ok_or(Refusal::Astray)?;
-    let stretch = rows::stretch(plan.code.row, x);
-    Ok(arrive(plan, *release, place, stretch, reading))
+    if !proceed(&plan.code, release, point as usize) {
+        return Err(Refusal::Astray);
+    }
+    Ok(arrive(plan, release, reading))
 }
 
 // Whether the run of a good release can end here.
-#[tactic(auto, using(crate::proofs::Lending::table_here))]
-fn may_close(code: &Code, release: &OpenRelease) -> bool
-    requires { GoodOnCode code.now release.now }
-    ensures { (q : Coded code.now) (ls : Levels) → standing q.plan release.now ≡ some ls
-        → result ≡ can_close q.plan (place_of release.now ls) }
+fn may_close(plan: &LentPlan, release: &OpenRelease) -> bool
+    requires { GoodOnTable plan.now release.now }
+    ensures { (q : WholeTable plan.now) (ls : Levels) → standing q.costed.rowed.head.plan release.now ≡ some ls
+        → result ≡ can_close q.costed.rowed.head.plan (place_of release.now ls) }
 {
+    let code = plan.at_max_load();
     if release.place.level == 0 {
-        first_end(code)
+        at_release(&code).ends
     } else {
-        can_end(code, &release.place)
+        at_report(&code, &release.place).ends
     }
 }
 
 // The end of a good release: backward, astray, or resume or ended, and then no release is open.
-fn closed_at(plan: &LentPlan, release: &OpenRelease, reading: u64) -> Result<Step, Refusal>
-    requires { GoodOnRow plan.now release.now }
-    ensures { (q : Rowed plan.now) (ls : Levels) → standing q.head.plan release.now ≡ some ls
-        → step_of (Open release.now) result
-        ≡ as_step (reply q.head.plan (Open release.now) (running_at release.now ls) (End reading)) }
+fn closed_at(plan: &LentPlan, release: &OpenRelease, reading: u64) -> Result<Answer, Refusal>
+    requires { GoodOnTable plan.now release.now }
+    ensures { (q : WholeTable plan.now) (ls : Levels) → standing q.costed.rowed.head.plan release.now ≡ some ls
+        → closing (Open release.now) result
+        ≡ as_step (reply q.costed.rowed.head.plan (Open release.now) (running_at release.now ls) (End reading)) }
 {
     if reading < release.reading {
         return Err(Refusal::Backward);
     }
-    if !may_close(&plan.code, release) {
+    if !may_close(plan, release) {
         return Err(Refusal::Astray);
     }
-    Ok(Step {
-        answer: Answer::Closed(Ending::from(release.others), plan.head.deadline < reading),
-        state: State::Idle,
-    })
+    let late = plan.head.deadline < reading;
+    Ok(Answer::Closed(Ending::from(release.others), late))
 }
 
 // A call where no release is open: a release starts one; a report or an end is idle.
 #[tactic(auto, unfolding(model::specs::Controller::respond))]
-fn idle_call(plan: &LentPlan, call: Call) -> Result<Step, Refusal>
-    requires { Rowed plan.now }
-    ensures { (q : Rowed plan.now) → step_of Idle result ≡ as_step (reply q.head.plan Idle idle call) }
+fn idle_call(plan: &LentPlan, state: &mut State, call: Call) -> Result<Answer, Refusal>
+    requires { WholeTable plan.now }
+    ensures { (q : WholeTable plan.now) → stepped result state.new ≡ as_step (reply q.costed.rowed.head.plan state.old idle call) }
 {
     match call {
-        Call::Release => start(plan),
+        Call::Release => start(plan, state),
         Call::Report(_, _) | Call::End(_) => Err(Refusal::Idle),
     }
 }
 
-// A call to a good release: a release is busy; a report or an end is weighed.
-#[tactic(auto, unfolding(model::specs::Controller::respond))]
-fn running_call(plan: &LentPlan, release: &OpenRelease, call: Call) -> Result<Step, Refusal>
-    requires { GoodOnTable plan.now release.now }
-    ensures { (q : WholeTable plan.now) (ls : Levels) → standing q.costed.rowed.head.plan release.now ≡ some ls
-        → step_of (Open release.now) result
-        ≡ as_step (reply q.costed.rowed.head.plan (Open release.now) (running_at release.now ls) call) }
+// A call on the table of an accepted plan, by the state: broken where an open release is not good.
+fn good_call(plan: &LentPlan, state: &mut State, call: Call) -> Result<Answer, Refusal>
+    requires { WholeTable plan.now }
+    ensures { (q : WholeTable plan.now) → stepped result state.new
+        ≡ as_step (on_state q.costed.rowed.head.plan state.old call (read_state q.costed.rowed.head.plan state.old)) }
 {
-    match call {
-        Call::Release => Err(Refusal::Busy),
-        Call::Report(point, reading) => reported_at(plan, release, point, reading),
-        Call::End(reading) => closed_at(plan, release, reading),
+    match state {
+        State::Idle => idle_call(plan, state, call),
+        State::Open(release) if stands(plan, release) => match call {
+            Call::Release => Err(Refusal::Busy),
+            Call::Report(point, reading) => reported_at(plan, release, point, reading),
+            Call::End(reading) => {
+                let answer = closed_at(plan, release, reading)?;
+                *state = State::Idle;
+                Ok(answer)
+            }
+        },
+        State::Open(_) => Err(Refusal::Broken),
     }
 }
 
-// A call on the table of an accepted plan, by the state: broken where an open release is not good.
-fn good_call(plan: &LentPlan, state: &State, call: Call) -> Result<Step, Refusal>
-    requires { WholeTable plan.now }
-    ensures { (q : WholeTable plan.now) → step_of state.now result
-        ≡ as_step (on_state q.costed.rowed.head.plan state.now call (read_state q.costed.rowed.head.plan state.now)) }
+// Answers a call on a table of which it is known whether it is that of an accepted plan, and moves the state on: broken where it is not.
+fn answer_to(checked: bool, row: &[Leaf], head: &Head, state: &mut State, call: Call) -> Answer
+    requires { checked ≡ good (table_with row.now head.now) }
+    ensures { record { answer = result; state = state.new } ≡ as_step (call_on (table_with row.now head.now) state.old call) }
 {
-    match state {
-        State::Idle => idle_call(plan, call),
-        State::Open(release) if stands(plan, release) => running_call(plan, release, call),
-        State::Open(_) => Err(Refusal::Broken),
+    if !checked {
+        return Answer::Refused(Refusal::Broken);
+    }
+    let code = head.code(row);
+    match good_call(&LentPlan { code, head }, state, call) {
+        Ok(answer) => answer,
+        Err(refusal) => Answer::Refused(refusal),
     }
 }
 
 // A call on a table of which it is known whether it is that of an accepted plan: broken where it is not. Release: broken, busy, unfit, or the decision.
 // Report: broken, idle, stranger, backward, astray, or the decision. End: broken, idle, backward, astray, or resume or ended. A refused call keeps the state.
 // `checked` goes beside row and head: both lie in the caller's memory, where they may change before the next piece of a log, so no type can say it of them.
-pub fn checked_call(checked: bool, row: &[Leaf], head: &Head, state: State, call: Call) -> Step
+pub fn checked_call(checked: bool, row: &[Leaf], head: &Head, mut state: State, call: Call) -> Step
     requires { checked ≡ good (table_with row.now head.now) }
     ensures { result ≡ as_step (call_on (table_with row.now head.now) state call) }
 {
-    if !checked {
-        return refuse(state, Refusal::Broken);
-    }
-    let code = head.code(row);
-    let step = good_call(&LentPlan { code, head }, &state, call);
-    step.unwrap_or_else(|refusal| refuse(state, refusal))
+    let answer = answer_to(checked, row, head, &mut state, call);
+    Step { answer, state }
 }
 
 // A call on a table.
-pub fn call(row: &[Leaf], head: &Head, state: State, call: Call) -> Step
+pub fn call(row: &[Leaf], head: &Head, mut state: State, call: Call) -> Step
     ensures { result ≡ as_step (call_on (table_with row.now head.now) state call) }
 {
-    checked_call(check(row, head), row, head, state, call)
+    let answer = answer_to(check(row, head), row, head, &mut state, call);
+    Step { answer, state }
 }

@@ -1,5 +1,5 @@
-// Plays the marked cases m1 to m12 of document 01, m5 and m11 as document 02 (L3) has them, and prints each answer. What must be printed is worked out by
-// hand beside each list of calls, and stands in the file stdout.
+// Plays the marked cases m1 to m12 of document 01, m5 and m11 as document 02 (L3 and L6) has them, and prints each answer. What must be printed is worked out
+// by hand beside each list of calls, and stands in the file stdout.
 #![tactic(auto)]
 
 use control::{State, call};
@@ -42,7 +42,7 @@ fn release(rt: &impl Print, text: &[u8]) -> io::Result<()> {
 }
 
 // Plan A: D 100, T 4; stretches 0 (release), 9 and 24. The margin is 100 less reading, remaining, stretch and 4; at the fourth visit of the loop, behind
-// which no point can come, 100 less reading and 24.
+// which no point can come, 100 less reading and 12.
 fn plan_a(rt: &impl Print, calls: &[Call]) -> io::Result<()> {
     play(
         rt,
@@ -71,8 +71,8 @@ fn rounds_of_a(rt: &impl Print) -> io::Result<()> {
             Call::Report(1, 9),
             Call::Report(1, 33),
             Call::Report(1, 50),
-            Call::Report(1, 76),
-            Call::Report(1, 76),
+            Call::Report(1, 88),
+            Call::Report(1, 88),
         ],
     )
 }
@@ -93,7 +93,7 @@ fn edge_of_a(rt: &impl Print) -> io::Result<()> {
 
 // Plays runs that suspend the others.
 fn suspensions_of_a(rt: &impl Print) -> io::Result<()> {
-    // m3: visit 3 at 57 gives suspend 20 -5, visit 4 at 73 stay 8 3, and the end at 81 resumes.
+    // m3: visit 3 at 57 gives suspend 20 -5, visit 4 at 73 stay 8 15, and the end at 81 resumes.
     plan_a(
         rt,
         &[
@@ -106,7 +106,7 @@ fn suspensions_of_a(rt: &impl Print) -> io::Result<()> {
             Call::End(81),
         ],
     )?;
-    // m5: visit 4 at 77 gives suspend 8 -1.
+    // m5: visit 4 at 89 gives suspend 8 -1.
     plan_a(
         rt,
         &[
@@ -115,7 +115,7 @@ fn suspensions_of_a(rt: &impl Print) -> io::Result<()> {
             Call::Report(1, 9),
             Call::Report(1, 33),
             Call::Report(1, 50),
-            Call::Report(1, 77),
+            Call::Report(1, 89),
         ],
     )
 }

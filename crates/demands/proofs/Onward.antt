@@ -12,13 +12,13 @@ use Rattle.model.specs.Remaining.{Reported, Complete}
 use Rattle.model.specs.Levels.{Standing, so_far, history, Frame, stack}
 use Rattle.model.specs.Acceptance.{Accepted}
 use Rattle.model.specs.Stack.{Levels}
-use Rattle.model.specs.Decisions.{Place, at_release, at_report, last_of}
+use Rattle.model.specs.Decisions.{Place, at_release, at_report}
 use Rattle.model.specs.Controller.{next_levels, can_close}
 use Rattle.model.proofs.Links.{accepted_traceable}
 use Rattle.model.proofs.Histories.{leads_reported}
 use Rattle.model.proofs.Trails.{locate_at, never_at}
 use Rattle.model.proofs.Nexts.{Top, next_found}
-use Rattle.model.proofs.Outlooks.{Stands, stands_top, next_exactly}
+use Rattle.model.proofs.Outlooks.{last_of, Stands, stands_top, next_exactly}
 use Rattle.model.proofs.Decoded.{known_plan}
 use Rattle.model.proofs.Points.{standing_points}
 use Rattle.model.proofs.Reachable.{stack_stands}

@@ -3,22 +3,15 @@ use Rattle.std.specs.Prelude.{Ok, Err}
 use mathlib.Core.List.{List}
 use mathlib.Core.Logic.{◌↔◌}
 use mathlib.Core.Path.{◌≡◌, refl, ap, sym, ◌∙◌, subst}
-use Prim.Native.Nat.{ℕ, ◌≤◌}
-use native.Mathlib.Omega.{arith}
-use Rattle.std.proofs.lemmas.List.{take-map}
-use lib.ListN.{length, get_or, take, drop}
-use lib.Seq.{drop_at, get_or-take}
+use Prim.Native.Nat.{ℕ}
+use lib.ListN.{length, drop}
+use lib.Seq.{drop_at}
 use Rattle.model.specs.declared.Refusal.{Refusal}
-use Rattle.model.specs.Plan.{Plan, M}
+use Rattle.model.specs.Plan.{Plan}
 use Rattle.model.specs.Forms.{main}
 use Rattle.model.specs.Total.{Total, MaxLoadTotal}
-use Rattle.model.specs.Stretch.{Stretch, ReleaseStretch, stretch}
-use Rattle.model.specs.Timed.{PointOf}
 use Rattle.model.specs.Acceptance.{sizes, Accepted}
-use Rattle.model.proofs.Blocks.{point_of_is}
 use Rattle.model.proofs.Theorems as model
-use Rattle.rows.specs.declared.Leaf.{Leaf}
-use Rattle.rows.specs.Leaves.{lent_stretches}
 use Rattle.reader.specs.declared.RefusedAt.{RefusedAt}
 use Rattle.reader.specs.Outcome.{Outcome, plan, refused}
 use Rattle.reader.specs.Print.{print}
@@ -27,10 +20,9 @@ use Rattle.table.specs.Reading.{verdict, head_after}
 use Rattle.table.specs.Lent.{leaves_from, row_after}
 use Rattle.table.proofs.Lent.{length_leaves}
 use Rattle.table.proofs.Theorems as table
-use Rattle.control.proofs.Tabled.{point_marked, stretch_at}
 use Rattle.rolsipay.specs.Lent.{table_in}
 use Rattle.rolsipay.specs.Reading.{answer_of}
-use Rattle.rolsipay.proofs.Theorems.{read_back, read_again, column_held}
+use Rattle.rolsipay.proofs.Theorems.{read_back, read_again}
 use Rattle.demands.specs.Delivered.{Memory, read_answer, after_read, ReadAs}
 use Rattle.demands.specs.Rules.{Ruled, TableOf}
 use Rattle.demands.specs.Tables.{Numbers}
@@ -120,19 +112,6 @@ one_plan p q m o u =
 
 -- WHAT THE TABLE SAYS
 
--- The stretch in the record of a point.
-row_stretch : (p : Plan) (m : Memory) → TableOf p m → (n : ℕ) → PointOf p n → get_or (lent_stretches m.row) n 0 ≡ stretch M n (main p) 0
-row_stretch p m o n w =
-    let f : Leaf → ℕ = λ l. l.stretch in
-    let e = numbers_held p m o in
-    let i = point_of_is p n w in
-    let (h, k) = point_marked p o.accepted n i in
-    let count : m.head.leaves ≡ sizes p.functions = ap (λ (t : Table). t.head.leaves) e in
-    let few : m.head.leaves ≤ 512 = omega (arith, count, o.accepted.formed.few_leaves) in
-    let column : take m.head.leaves (lent_stretches m.row) ≡ (table_of p).stretches =
-    take-map f m.head.leaves m.row ∙ (sym (column_held f m.head.leaves m.row few) ∙ ap (λ (t : Table). t.stretches) e) in
-    sym (get_or-take m.head.leaves (lent_stretches m.row) n 0 (omega (arith, h, count))) ∙ (ap (λ (c : List ℕ). get_or c n 0) column ∙ stretch_at p o.accepted n i)
-
 pub table_numbers : (p : Plan) (m : Memory) → TableOf p m → Numbers p m
 table_numbers p m o =
     let e = numbers_held p m o in
@@ -141,9 +120,4 @@ table_numbers p m o =
       switch = ap (λ (t : Table). t.head.switch) e;
       total = subst (Total (main p)) (sym (ap (λ (t : Table). t.head.total) e)) (model.total_is_largest p).0;
       max_load_total = subst (MaxLoadTotal (main p)) (sym (ap (λ (t : Table). t.head.max_load_total) e)) (model.total_is_largest p).1;
-      release_stretch = subst (ReleaseStretch M (main p)) (sym (ap (λ (t : Table). t.head.stretch) e)) (model.release_stretch_is_largest p);
-      stretch = λ n w. subst (Stretch M (main p) n) (sym (row_stretch p m o n w)) (point_stretch n w);
     }
-  where
-    point_stretch : (n : ℕ) → PointOf p n → Stretch M (main p) n (stretch M n (main p) 0)
-    point_stretch n (b, i, j, k) = subst (λ x. Stretch M (main p) x (stretch M x (main p) 0)) k (model.stretch_is_largest p o.accepted b i j)

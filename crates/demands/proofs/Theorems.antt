@@ -82,7 +82,7 @@ pub later_records_kept : (text : List ℕ) (m : Memory) (p : Plan) → ReadAs te
     drop (sizes p.functions) (after_read text m).row ≡ drop (sizes p.functions) m.row
 later_records_kept = tables.later_records
 
--- Memory that holds the table of p has p's D and T, its totals and its stretches in head and row; and it holds the table of one plan at most.
+-- Memory that holds the table of p has p's D and T and its totals in its head; and it holds the table of one plan at most.
 pub table_says : (p : Plan) (m : Memory) → TableOf p m → Numbers p m
 table_says = tables.table_numbers
 
@@ -131,7 +131,7 @@ module _ (p : Plan) (m : Memory) (o : TableOf p m) where
         (PointOf p n × (last_reading ds ≤ reading) × Reported (main p) (h ++ (n ∷ [])))
     report_accepted_exactly = decisions.report_exactly p m o w
 
-    -- Its answer has as remaining the largest isolated sum over all ways the run can still go, and the point's stretch. It says suspend exactly at the
+    -- Its answer has as remaining the largest isolated sum over all ways the run can still go, and the stretch of this visit. It says suspend exactly at the
     -- first decision where the condition fails, go before that and stay behind it.
     pub report_decides : (n reading : ℕ) → Accepts ((delivered m).respond s (Report n reading)).answer →
         Decides p ds (record { history = h ++ (n ∷ []); reading = reading }) ((delivered m).respond s (Report n reading)).answer

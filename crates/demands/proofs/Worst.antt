@@ -101,7 +101,7 @@ played_A k s e =
 -- The answers are those of m3.
 answers_A : (m : Memory) → TableOf plan_A m → Answered (delivered m) zeros worst_of_A
 unfolding cases EachRight
-answers_A m o = (each_right.2.2.2.1 m o).answered
+answers_A m o = (each_right.1.1.1.0.right_in m o).answered
 
 -- In every memory that holds the table of plan A there is a list of calls with these exchanges.
 pub worst_A : (m : Memory) → TableOf plan_A m → Played plan_A (delivered m) zeros Running closed worst_of_A

@@ -1,6 +1,7 @@
 pub mod Each
 pub mod Numbers
 pub mod Points
+pub mod Stretches
 pub mod Lines
 pub mod Limits
 pub mod Reading

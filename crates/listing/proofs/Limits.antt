@@ -26,11 +26,11 @@ use Rattle.rows.specs.Plans.{lines_of}
 use Rattle.rows.proofs.Plans.{function_kept}
 use Rattle.columns.proofs.Known.{known_tallies, main_most}
 use Rattle.table.proofs.Holding.{joined_size}
-use Rattle.table.proofs.Deriving.{leaves_join}
 use Rattle.table.proofs.Bridge.{formed_plan}
 use Rattle.listing.specs.PlanListing.{task_numbers, point_numbers, points_of, all_points, points}
 use Rattle.listing.proofs.Each.{Each, each_append}
 use Rattle.listing.proofs.Points.{among_all}
+use Rattle.listing.proofs.Stretches.{leaves_join}
 
 -- WHAT IS SMALL
 

@@ -19,35 +19,38 @@ Four x = length x ≡ 4
 -- STORED
 
 -- The points among some leaves and those behind them.
-pub points_append : (i : ℕ) (ls ms : List Leaf) → leaves_points i (ls ++ ms) ≡ leaves_points i ls ++ leaves_points (i + length ls) ms
+pub points_append : (c : List ℕ) (i : ℕ) (ls ms : List Leaf) → leaves_points c i (ls ++ ms) ≡ leaves_points c i ls ++ leaves_points c (i + length ls) ms
 unfolding leaves_points
-points_append i [] ms = let z : i + 0 ≡ i = omega arith in rw z refl
-points_append i (l ∷ ls) ms =
+points_append c i [] ms = let z : i + 0 ≡ i = omega arith in rw z refl
+points_append c i (l ∷ ls) ms =
     let z : i + suc (length ls) ≡ i + 1 + length ls = omega arith in
-    rw (points_append (i + 1) ls ms, z, append_assoc) refl
+    rw (points_append c (i + 1) ls ms, z, append_assoc) refl
 
--- What was stored of the first i of some leaves.
-pub record First (ls : List Leaf) (old : List (List ℕ)) (i : ℕ) (points : List (List ℕ)) (count : ℕ) : Type 0 where
-  pub collected : Collected old (leaves_points 0 (take i ls)) points count
+-- What was stored of the first i of some leaves, whose stretches stand in the column c.
+pub record First (c : List ℕ) (ls : List Leaf) (old : List (List ℕ)) (i : ℕ) (points : List (List ℕ)) (count : ℕ) : Type 0 where
+  pub collected : Collected old (leaves_points c 0 (take i ls)) points count
   pub few : count ≤ i
 
 -- Before the first leaf nothing.
-pub first_none : (ls : List Leaf) (l : List (List ℕ)) → First ls l 0 l 0
+pub first_none : (c : List ℕ) (ls : List Leaf) (l : List (List ℕ)) → First c ls l 0 l 0
 unfolding leaves_points
-first_none ls l = record { collected = record { stored = refl; counted = refl }; few = omega arith }
+first_none c ls l = record { collected = record { stored = refl; counted = refl }; few = omega arith }
 
 -- A leaf more.
-module _ {ls : List Leaf} {l m : List (List ℕ)} {i count : ℕ} (f : First ls l i m count) (inside : i < length ls) where
+module _ {c : List ℕ} {ls : List Leaf} {l m : List (List ℕ)} {i count : ℕ} (f : First c ls l i m count) (inside : i < length ls) where
   abbrev leaf : Leaf
   leaf = get_or ls i blank_leaf
 
-  first_next : (ys : List (List ℕ)) → leaf_points i leaf ≡ ys → length ys ≤ 1 → First ls l (i + 1) (sets m count ys) (count + length ys)
+  abbrev stretch : ℕ
+  stretch = get_or c i 0
+
+  first_next : (ys : List (List ℕ)) → leaf_points i leaf stretch ≡ ys → length ys ≤ 1 → First c ls l (i + 1) (sets m count ys) (count + length ys)
   first_next ys e one =
       let us = take i ls in
-      let before = leaves_points 0 us in
+      let before = leaves_points c 0 us in
       let z : 0 + length us ≡ i = omega (arith, length-take i ls) in
-      let more : leaves_points 0 (take (i + 1) ls) ≡ before ++ ys =
-      rw (add-one i, take-suc ls i blank_leaf inside, points_append 0 us (leaf ∷ []), z) (unfold leaves_points in rw (append-nil, e) refl) in
+      let more : leaves_points c 0 (take (i + 1) ls) ≡ before ++ ys =
+      rw (add-one i, take-suc ls i blank_leaf inside, points_append c 0 us (leaf ∷ []), z) (unfold leaves_points in rw (append-nil, e) refl) in
       record {
         collected = record {
           stored = rw more (ap (λ (u : List (List ℕ)). sets u count ys) f.collected.stored ∙ sets_behind before ys l 0 count (omega (arith, f.collected.counted)));
@@ -57,11 +60,11 @@ module _ {ls : List Leaf} {l m : List (List ℕ)} {i count : ℕ} (f : First ls 
       }
 
   -- A point is stored,
-  pub first_point : leaf.point ≡ 1 → First ls l (i + 1) (set m count (i ∷ leaf.level ∷ leaf.tail ∷ leaf.stretch ∷ [])) (count + 1)
-  first_point e = first_next ((i ∷ leaf.level ∷ leaf.tail ∷ leaf.stretch ∷ []) ∷ []) (rw (eq-eqb leaf.point 1 e) refl) (omega arith)
+  pub first_point : leaf.point ≡ 1 → First c ls l (i + 1) (set m count (i ∷ leaf.level ∷ leaf.tail ∷ stretch ∷ [])) (count + 1)
+  first_point e = first_next ((i ∷ leaf.level ∷ leaf.tail ∷ stretch ∷ []) ∷ []) (rw (eq-eqb leaf.point 1 e) refl) (omega arith)
 
   -- and a silent leaf is passed over.
-  pub first_silent : (leaf.point ≡ 1 → ⊥) → First ls l (i + 1) m count
+  pub first_silent : (leaf.point ≡ 1 → ⊥) → First c ls l (i + 1) m count
   first_silent e = let z : count + 0 ≡ count = omega arith in rw z at (first_next [] (rw (ne_eqb leaf.point 1 e) refl) (omega arith))
 
 -- TAKEN BACK

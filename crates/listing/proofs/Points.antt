@@ -1,21 +1,22 @@
 -- The numbers that are listed from the leaves that `read` leaves in memory are those of the plan that it read: leaf number i of the plan is at place i of the
--- row, and the points among the leaves, one after the other, are those of the functions. Assumes nothing.
+-- row, and the points among the leaves, one after the other, are those of the functions, where a column has the stretches of the plan's leaves.
+-- Assumes nothing.
 use mathlib.Core.Bool.{Bool, true, false}
 use mathlib.Core.List.{List, [], ◌∷◌, ◌++◌, map, map-append}
+use mathlib.Core.Option.{some}
 use mathlib.Core.Path.{◌≡◌, refl, sym, ap, ◌∙◌, subst}
 use Prim.Native.Nat.{ℕ, zero, suc, ◌+◌, ◌≤◌, ◌<◌}
 use native.Mathlib.Omega.{arith}
 use lib.Dec.{eqb}
 use lib.ListN.{length, get_or, take, drop, length-append, length-map, get_or-append, get_or-map}
-use lib.Seq.{sets, take_at, get_or-append-add}
-use Rattle.model.specs.Plan.{Block, C, M, Lines, close, leaf_line, call_line, loop_line, if_line, Plan, leaves, all_leaves}
-use Rattle.model.specs.Forms.{main}
+use lib.Seq.{sets, take_at, get_or-take, get_or-append-add}
+use Rattle.model.specs.Plan.{Block, C, Lines, close, leaf_line, call_line, loop_line, if_line, Plan, leaves, all_leaves}
 use Rattle.model.specs.Runs.{Among}
 use Rattle.model.specs.Total.{tallies}
-use Rattle.model.specs.Stretch.{stretch}
+use Rattle.model.specs.Stretch.{stretch_of}
 use Rattle.model.specs.Tail.{tail}
 use Rattle.model.specs.Levels.{Leveled, own_levels, blocks}
-use Rattle.model.specs.Acceptance.{size, sizes, Formed}
+use Rattle.model.specs.Acceptance.{size, sizes, Formed, Accepted}
 use Rattle.model.specs.Places.{pick, bit}
 use Rattle.model.proofs.Among.{among_left, among_right}
 use Rattle.reader.specs.Outcome.{Outcome, plan, refused}
@@ -23,13 +24,13 @@ use Rattle.rows.specs.declared.Leaf.{Leaf}
 use Rattle.reader.specs.Records.{leveled_leaves, no_leaf}
 use Rattle.reader.proofs.Theorems.{row_leaf}
 use Rattle.table.specs.declared.Head.{Head}
-use Rattle.table.specs.Table.{Table, table_of, head_of, all_tails, stretch_of}
+use Rattle.table.specs.Table.{Table, table_of, head_of, all_tails, plan_of}
 use Rattle.table.specs.Reading.{verdict, result_of}
-use Rattle.table.specs.Lent.{leaf_of, leaves_from, row_after}
+use Rattle.table.specs.Lent.{table_with, leaf_of, leaves_from, row_after}
 use Rattle.table.proofs.Holding.{leaves_size}
 use Rattle.table.proofs.Lent.{length_leaves}
 use Rattle.std.specs.Prelude.{Ok}
-use Rattle.table.proofs.Theorems.{read_as_plan}
+use Rattle.table.proofs.Theorems.{read_as_plan, plan_of_table, read_back}
 use Rattle.listing.specs.PlanListing.{point_numbers, points_of, all_points, points, outcome_points}
 use Rattle.listing.specs.Summary.{summary_of}
 use Rattle.listing.specs.Private.{leaf_points, leaves_points, Collected}
@@ -85,17 +86,6 @@ shown v t s = pick v.block.point ((v.block.number ∷ v.level ∷ t ∷ s ∷ []
 abbrev point_of : Plan → Lines → Leveled → List (List ℕ)
 point_of p l v = pick v.block.point (point_numbers p l v ∷ []) []
 
--- The stretch that a table has of a silent leaf is not listed.
-shown_point : (p : Plan) (l : Lines) (v : Leveled) →
-    shown v (tail (tallies C [] p.functions) v.block.number l 0) (stretch_of p v.block) ≡ point_of p l v
-shown_point p l v =
-    by v.block.point (λ s. (v.block.number ∷ v.level ∷ tail (tallies C [] p.functions) v.block.number l 0 ∷ s ∷ []) ∷ [])
-    (stretch M v.block.number (main p) 0)
-  where
-    by : (b : Bool) (f : ℕ → List (List ℕ)) (s : ℕ) → pick b (f (pick b s 0)) [] ≡ pick b (f s) []
-    by true f s = refl
-    by false f s = refl
-
 -- Among no leaves there is none.
 none : (p : Plan) (l : Lines) → points_of p l [] ≡ []
 unfolding points_of
@@ -129,31 +119,32 @@ leaves_join t k (suc m) n =
     let y : k + suc m ≡ k + 1 + m = omega arith in
     rw (z, y) (ap (λ (u : List Leaf). leaf_of t k ∷ u) (leaves_join t (k + 1) m n))
 
-module _ (p : Plan) where
+-- Consider a plan, and a column.
+module _ (p : Plan) (c : List ℕ) where
   -- The points among leaves of the plan's table that are a function's.
   points_from : (l : Lines) (vs : List Leveled) (k : ℕ) →
-      ((j : ℕ) → j < length vs → leaf_points (k + j) (leaf_of (table_of p) (k + j)) ≡ point_of p l (get_or vs j no_leaf)) →
-      leaves_points k (leaves_from (table_of p) k (length vs)) ≡ points_of p l vs
+      ((j : ℕ) → j < length vs → leaf_points (k + j) (leaf_of (table_of p) (k + j)) (get_or c (k + j) 0) ≡ point_of p l (get_or vs j no_leaf)) →
+      leaves_points c k (leaves_from (table_of p) k (length vs)) ≡ points_of p l vs
   unfolding leaves_points
   points_from l [] k h = sym (none p l)
   points_from l (v ∷ vs) k h =
       let z : k + 0 ≡ k = omega arith in
-      let first : leaf_points k (leaf_of (table_of p) k) ≡ point_of p l v = rw z at (h 0 (omega arith)) in
+      let first : leaf_points k (leaf_of (table_of p) k) (get_or c k 0) ≡ point_of p l v = rw z at (h 0 (omega arith)) in
       rw (
         first,
         points_from l vs (k + 1) (λ j lt. let z : k + 1 + j ≡ k + suc j = omega arith in rw z (h (suc j) (omega arith))),
         first_point p l v vs,
       )
 
-  -- From leaf number k on the leaves of the table are those of the functions.
+  -- From leaf number k on the leaves of the table are those of the functions, with their stretches in the column.
   abbrev Shown : ℕ → List Lines → Type 0
   Shown k ls =
-      (j : ℕ) → j < sizes ls → leaf_points (k + j) (leaf_of (table_of p) (k + j)) ≡
+      (j : ℕ) → j < sizes ls → leaf_points (k + j) (leaf_of (table_of p) (k + j)) (get_or c (k + j) 0) ≡
       shown (get_or (leveled_leaves ls) j no_leaf) (get_or (all_tails (tallies C [] p.functions) ls) j 0) (get_or (map (stretch_of p) (all_leaves ls)) j 0)
 
   -- So those of the first function are its own, and behind them are those of the others.
   shown_first : (l : Lines) (ls : List Lines) (k : ℕ) → Shown k (l ∷ ls) →
-      (j : ℕ) → j < size l → leaf_points (k + j) (leaf_of (table_of p) (k + j)) ≡ point_of p l (get_or (own_levels 1 l) j no_leaf)
+      (j : ℕ) → j < size l → leaf_points (k + j) (leaf_of (table_of p) (k + j)) (get_or c (k + j) 0) ≡ point_of p l (get_or (own_levels 1 l) j no_leaf)
   unfolding sizes leveled_leaves all_tails all_leaves
   shown_first l ls k h j lt =
       let g : Block → ℕ = λ b. tail (tallies C [] p.functions) b.number l 0 in
@@ -165,7 +156,7 @@ module _ (p : Plan) where
             (omega (arith, length-map (leaves l) (stretch_of p), leaves_size l)),
         own_number g l j lt,
         own_number (stretch_of p) l j lt,
-      ) (shown_point p l (get_or (own_levels 1 l) j no_leaf)))
+      ) refl)
 
   shown_later : (l : Lines) (ls : List Lines) (k : ℕ) → Shown k (l ∷ ls) → Shown (k + size l) ls
   unfolding sizes leveled_leaves all_tails all_leaves
@@ -180,17 +171,17 @@ module _ (p : Plan) where
       ))
 
   -- The points of all functions.
-  all_from : (ls : List Lines) (k : ℕ) → Shown k ls → leaves_points k (leaves_from (table_of p) k (sizes ls)) ≡ all_points p ls
+  all_from : (ls : List Lines) (k : ℕ) → Shown k ls → leaves_points c k (leaves_from (table_of p) k (sizes ls)) ≡ all_points p ls
   unfolding sizes all_points leaves_points
   all_from [] k h = refl
   all_from (l ∷ ls) k h =
       let us = leaves_from (table_of p) k (size l) in
       let e : k + length us ≡ k + size l = omega (arith, length_leaves (table_of p) k (size l)) in
-      let first : leaves_points k us ≡ points_of p l (own_levels 1 l) =
+      let first : leaves_points c k us ≡ points_of p l (own_levels 1 l) =
       rw (own_size l) at (points_from l (own_levels 1 l) k (λ j lt. shown_first l ls k h j (omega (arith, own_size l)))) in
       rw (
         leaves_join (table_of p) k (size l) (sizes ls),
-        points_append k us (leaves_from (table_of p) (k + size l) (sizes ls)),
+        points_append c k us (leaves_from (table_of p) (k + size l) (sizes ls)),
         first,
         e,
         all_from ls (k + size l) (shown_later l ls k h),
@@ -228,23 +219,26 @@ few_of_text text = by (verdict 512 text) (λ p e. ((read_as_plan 512 text p).0 e
 
 -- FROM THE LENT MEMORY
 
--- The leaves of the table of a plan are the plan's.
-plan_shown : (p : Plan) → Formed p → Shown p 0 p.functions
-plan_shown p f j lt =
-    let (number, shows) = row_leaf p f j lt in
-    let z : 0 + j ≡ j = omega arith in
-    rw (z, shows.point, shows.level, number) (marked (get_or (leveled_leaves p.functions) j no_leaf).block.point _)
+-- The leaves of the table of a plan are the plan's, with their stretches in a column that begins with them.
+module _ (p : Plan) (f : Formed p) (c : List ℕ) (stretched : take (sizes p.functions) c ≡ map (stretch_of p) (all_leaves p.functions)) where
+  plan_shown : Shown p c 0 p.functions
+  plan_shown j lt =
+      let (number, shows) = row_leaf p f j lt in
+      let z : 0 + j ≡ j = omega arith in
+      let own : get_or c j 0 ≡ get_or (map (stretch_of p) (all_leaves p.functions)) j 0 =
+      sym (get_or-take (sizes p.functions) c j 0 lt) ∙ ap (λ (u : List ℕ). get_or u j 0) stretched in
+      rw (z, own, shows.point, shows.level, number) (marked (get_or (leveled_leaves p.functions) j no_leaf).block.point _)
 
-plan_collected : (p : Plan) → Formed p → (row : List Leaf) → leaves_points 0 (take (sizes p.functions) (row_after (plan p) row)) ≡ points p
-plan_collected p f row =
-    let n = sizes p.functions in
-    ap (leaves_points 0) (take_at (leaves_from (table_of p) 0 n) (drop n row) n (length_leaves (table_of p) 0 n)) ∙ all_from p p.functions 0 (plan_shown p f)
+  plan_collected : (row : List Leaf) → leaves_points c 0 (take (sizes p.functions) (row_after (plan p) row)) ≡ points p
+  plan_collected row =
+      let n = sizes p.functions in
+      ap (leaves_points c 0) (take_at (leaves_from (table_of p) 0 n) (drop n row) n (length_leaves (table_of p) 0 n)) ∙ all_from p c p.functions 0 plan_shown
 
 -- A head is that of a plan, which is accepted.
 pub record Read (text : List ℕ) (h : Head) : Type 0 where
   pub of : Plan
   pub is : verdict 512 text ≡ plan of
-  pub formed : Formed of
+  pub accepted : Accepted of
   pub head : h ≡ head_of of
   pub few : h.leaves ≤ 512
 
@@ -253,20 +247,26 @@ head_read text {h} e = by (verdict 512 text) refl e
   where
     by : (o : Outcome) → verdict 512 text ≡ o → Ok h ≡ result_of o → Read text h
     by (plan p) o e =
-        let f = ((read_as_plan 512 text p).0 o).1.formed in
+        let a = ((read_as_plan 512 text p).0 o).1 in
         let z : h ≡ head_of p = cc in
-        record { of = p; is = o; formed = f; head = z; few = omega (arith, ap (λ (y : Head). y.leaves) z, f.few_leaves) }
+        record { of = p; is = o; accepted = a; head = z; few = omega (arith, ap (λ (y : Head). y.leaves) z, a.formed.few_leaves) }
     by (refused k j) o e = cc
 
--- The numbers that were collected where `read` left its leaves are those of the plan.
-module _ {text : List ℕ} {h : Head} (r : Read text h) (row : List Leaf) {read : List Leaf} (left : read ≡ row_after (verdict 512 text) row) {l m : List (List ℕ)} {count : ℕ}
-    (g : Collected l (leaves_points 0 (take h.leaves read)) m count)
-  where
-    all : leaves_points 0 (take h.leaves read) ≡ points r.of
-    all = rw (left, r.is, r.head) (plan_collected r.of r.formed row)
+-- Consider the row as `read` leaves it.
+module _ {text : List ℕ} {h : Head} (r : Read text h) (row : List Leaf) {read : List Leaf} (left : read ≡ row_after (verdict 512 text) row) where
+  -- Row and head hold the table of the plan.
+  pub planned : plan_of (table_with read h) ≡ some r.of
+  planned = (plan_of_table (table_with read h) r.of).1 (r.accepted, rw (left, r.is, r.head) (read_back r.of row))
 
-    pub collected_summary : Ok (record { task = h.total ∷ h.max_load_total ∷ h.deadline ∷ h.switch ∷ []; count = count }) ≡ summary_of (verdict 512 text)
-    collected_summary = rw (r.is, r.head, g.counted, all) refl
+  -- The numbers that were collected there, with a column that begins with the stretches of the plan's leaves, are those of the plan.
+  module _ (c : List ℕ) (stretched : take (sizes r.of.functions) c ≡ map (stretch_of r.of) (all_leaves r.of.functions)) {l m : List (List ℕ)} {count : ℕ}
+      (g : Collected l (leaves_points c 0 (take h.leaves read)) m count)
+    where
+      all : leaves_points c 0 (take h.leaves read) ≡ points r.of
+      all = rw (left, r.is, r.head) (plan_collected r.of r.accepted.formed c stretched row)
 
-    pub collected_points : m ≡ sets l 0 (outcome_points (verdict 512 text))
-    collected_points = g.stored ∙ rw (all, r.is) refl
+      pub collected_summary : Ok (record { task = h.total ∷ h.max_load_total ∷ h.deadline ∷ h.switch ∷ []; count = count }) ≡ summary_of (verdict 512 text)
+      collected_summary = rw (r.is, r.head, g.counted, all) refl
+
+      pub collected_points : m ≡ sets l 0 (outcome_points (verdict 512 text))
+      collected_points = g.stored ∙ rw (all, r.is) refl

@@ -9,9 +9,9 @@ use lib.ListN.{length, get_or, take}
 use lib.Seq.{sets}
 use Rattle.model.specs.Plan.{Block, C, M, close, Plan, leaves}
 use Rattle.model.specs.Forms.{done, linked, main}
-use Rattle.model.specs.Runs.{Among}
+use Rattle.model.specs.Runs.{Largest, Among}
 use Rattle.model.specs.Total.{Total, MaxLoadTotal, total, tallies}
-use Rattle.model.specs.Stretch.{Stretch, stretch}
+use Rattle.model.specs.Stretch.{Stretch, OwnStretch, stretch}
 use Rattle.model.specs.Tail.{Tail, tail}
 use Rattle.model.specs.Acceptance.{Accepted}
 use Rattle.model.proofs.Theorems as model
@@ -33,9 +33,12 @@ pub task_line_means : (p : Plan) → Total (main p) (total C (main p)) × MaxLoa
 task_line_means = model.total_is_largest
 
 -- The line of a point of an accepted plan: the third number is the largest isolated sum from a first visit of it to the end of its own function, the fourth
--- the largest sum of M from a visit of it up to the next point or the end.
+-- the largest sum of M from a visit of it up to the next point or the end, and so the largest of its visits' own stretches.
 pub point_line_means : (p : Plan) → Accepted p → (f : ℕ) → f < length p.functions → (b : Block) → Among b (leaves (get_or p.functions f close)) →
     b.point ≡ true →
     Tail (get_or (linked [] p.functions) f done) b.number (tail (tallies C [] p.functions) b.number (get_or p.functions f close) 0) ×
-    Stretch M (main p) b.number (stretch M b.number (main p) 0)
-point_line_means p a f h b m k = (model.tail_is_largest p a f h b m, model.stretch_is_largest p a b (among_all p.functions f h b m) k)
+    Stretch M (main p) b.number (stretch M b.number (main p) 0) ×
+    Largest (λ (v : OwnStretch M (main p) b.number). v.stretch) (stretch M b.number (main p) 0)
+point_line_means p a f h b m k =
+    let i = among_all p.functions f h b m in
+    (model.tail_is_largest p a f h b m, model.stretch_is_largest p a b i k, model.stretch_is_largest_visit p a b i k)

@@ -1,19 +1,19 @@
--- What the private functions promise: the numbers that are listed, from the leaves that reading a plan leaves in memory.
+-- What the private functions promise: the numbers that are listed, from the leaves that reading a plan leaves in memory and a column of their stretches.
 -- Assumes nothing: these are definitions.
-use Rattle.std.specs.Prelude.{ℕ, ◌+◌, ◌≡◌, eqb, length}
+use Rattle.std.specs.Prelude.{ℕ, ◌+◌, ◌≡◌, eqb, length, get_or}
 use mathlib.Core.List.{List, [], ◌∷◌, ◌++◌}
 use Rattle.std.proofs.lemmas.List.Edits.{sets}
 use Rattle.model.specs.Places.{pick}
 use Rattle.rows.specs.declared.Leaf.{Leaf}
 
--- Leaf number i, where it is a point.
-abbrev pub leaf_points : ℕ → Leaf → List (List ℕ)
-leaf_points i l = pick (eqb l.point 1) ((i ∷ l.level ∷ l.tail ∷ l.stretch ∷ []) ∷ []) []
+-- Leaf number i with its stretch, where it is a point.
+abbrev pub leaf_points : ℕ → Leaf → ℕ → List (List ℕ)
+leaf_points i l stretch = pick (eqb l.point 1) ((i ∷ l.level ∷ l.tail ∷ stretch ∷ []) ∷ []) []
 
--- The points among these leaves, the first of which is number i.
-unfoldable pub leaves_points : ℕ → List Leaf → List (List ℕ)
-leaves_points i [] = []
-leaves_points i (l ∷ ls) = leaf_points i l ++ leaves_points (i + 1) ls
+-- The points among these leaves, the first of which is number i, with the stretches in a column that begins with leaf number 0.
+unfoldable pub leaves_points : List ℕ → ℕ → List Leaf → List (List ℕ)
+leaves_points stretches i [] = []
+leaves_points stretches i (l ∷ ls) = leaf_points i l (get_or stretches i 0) ++ leaves_points stretches (i + 1) ls
 
 -- Some points were stored at the beginning, and so many there are.
 pub record Collected (old : List (List ℕ)) (points new : List (List ℕ)) (count : ℕ) : Type 0 where

@@ -2,11 +2,17 @@
 // sheet, and their lines.
 #![tactic(auto)]
 
-ghost use Rattle.std.specs.Prelude.{◌≡◌, ◌*◌, ◌≤◌, ◌<◌, length};
-ghost use mathlib.Core.List.{flat_map};
+ghost use Rattle.std.specs.Prelude.{◌≡◌, ◌*◌, ◌≤◌, ◌<◌, length, take};
+ghost use Rattle.std.proofs.Math.Option.{some};
+ghost use mathlib.Core.List.{flat_map, map};
 ghost use Rattle.std.proofs.lemmas.List.Edits.{sets};
+ghost use Rattle.model.specs.Plan.{Plan, all_leaves};
+ghost use Rattle.model.specs.Acceptance.{sizes};
+ghost use Rattle.model.specs.Stretch.{stretch_of};
 ghost use Rattle.print.specs.Lines.{point_line};
 ghost use Rattle.print.specs.Printed.{PrintedWithin};
+ghost use Rattle.table.specs.Table.{plan_of};
+ghost use Rattle.table.specs.Lent.{table_with};
 ghost use Rattle.table.specs.Reading.{verdict};
 ghost use Rattle.listing.specs.PlanListing.{outcome_points, outcome_listing};
 ghost use Rattle.listing.specs.Summary.{summary_of};
@@ -14,8 +20,8 @@ ghost use Rattle.listing.specs.Private.{leaves_points, Collected};
 
 use print::{numbers_line, refused_plan_line};
 use reader::RefusedAt;
-use rows::{Leaf, MAX_LEAVES};
-use table::read;
+use rows::{Cost, Leaf, MAX_LEAVES, PricedCode};
+use table::{Head, read};
 
 // How many numbers are listed of a point: its number, its level, its tail and its stretch. They stand in an array, as a line of either listing has them: a
 // line is printed from a list of numbers.
@@ -35,15 +41,35 @@ pub struct Summary {
     pub count: usize,
 }
 
-// Stores what is listed of these leaves, the first of which is number 0, and gives how many points there are among them.
-fn collect_leaves(points: &mut [[u64; FIELDS]; MAX_LEAVES], leaves: &[Leaf]) -> usize
+// The stretches of the leaves of the plan whose table this row and this head hold: of each point the largest over all its visits.
+fn stretch_column(row: &[Leaf], head: &Head) -> [u64; MAX_LEAVES]
+    requires { (p : Plan) × (plan_of (table_with row.now head.now) ≡ some p) }
+    ensures { (p : Plan) → plan_of (table_with row.now head.now) ≡ some p
+        → take (sizes p.functions) result ≡ map (stretch_of p) (all_leaves p.functions) }
+{
+    let priced = PricedCode {
+        code: head.code(row),
+        cost: Cost::MaxLoad,
+        totals: &head.max_load_totals,
+    };
+    let mut stretch = [0; MAX_LEAVES];
+    stretches::stretches(&priced, &mut stretch);
+    stretch
+}
+
+// Stores what is listed of these leaves, the first of which is number 0 and whose stretches stand in a column, and gives how many points there are among them.
+fn collect_leaves(
+    points: &mut [[u64; FIELDS]; MAX_LEAVES],
+    leaves: &[Leaf],
+    stretch: &[u64; MAX_LEAVES],
+) -> usize
     requires { length leaves.now ≤ 512 }
-    ensures { Collected points.old (leaves_points 0 leaves.now) points.new result }
+    ensures { Collected points.old (leaves_points stretch.now 0 leaves.now) points.new result }
 {
     let mut count = 0;
     for (i, leaf) in leaves.iter().enumerate() {
         if leaf.point == 1 {
-            points[count] = [i as u64, leaf.level, leaf.tail, leaf.stretch];
+            points[count] = [i as u64, leaf.level, leaf.tail, stretch[i]];
             count += 1;
         }
     }
@@ -58,7 +84,8 @@ pub fn collect(points: &mut [[u64; FIELDS]; MAX_LEAVES], text: &[u8]) -> Result<
 {
     let mut row = [Leaf::default(); MAX_LEAVES];
     let head = read(text, &mut row)?;
-    let count = collect_leaves(points, &row[..head.leaves]);
+    let stretch = stretch_column(&row, &head);
+    let count = collect_leaves(points, &row[..head.leaves], &stretch);
     Ok(Summary {
         task: [head.total, head.max_load_total, head.deadline, head.switch],
         count,

@@ -5,21 +5,25 @@ use mathlib.Core.Path.{◌≡◌, refl, ap, sym, ◌∙◌}
 use Prim.Native.Nat.{ℕ}
 use Rattle.model.specs.Plan.{C, M, Plan}
 use Rattle.model.specs.Forms.{main}
-use Rattle.model.specs.Runs.{reports}
 use Rattle.model.specs.Places.{locate, Traceable}
 use Rattle.model.specs.Stack.{Levels, below, whole, seek_at}
-use Rattle.model.specs.Decisions.{Place, at_release, at_report, last_of, OutlookAt, outlook}
+use Rattle.model.specs.Decisions.{Place, at_release, at_report, OutlookAt, outlook}
 use Rattle.model.specs.Controller.{next_levels}
 use Rattle.model.proofs.Total.{total_largest}
-use Rattle.model.proofs.Steps.{block, passed, visit_of, ⊕-done}
+use Rattle.model.proofs.Steps.{⊕-done}
 use Rattle.model.proofs.Silence.{release_stretch}
-use Rattle.model.proofs.Stretches.{stretch_visited}
+use Rattle.model.proofs.Visits.{visit_largest}
 use Rattle.model.proofs.Places.{remaining_total}
 use Rattle.model.proofs.Located.{locate_sound}
 use Rattle.model.proofs.Final.{no_more_exact, no_further_exact}
 use Rattle.model.proofs.Histories.{locate_first, locate_more}
 use Rattle.model.proofs.Trails.{locate_at, follow_at, and_then, locate_snoc, locate_flat}
 use Rattle.model.proofs.Nexts.{Top, TopPlace, found, next_top}
+
+-- The point reported last.
+abbrev pub last_of : ℕ → List ℕ → ℕ
+last_of n [] = n
+last_of n (m ∷ h) = last_of m h
 
 module _ (p : Plan) where
   -- The place is that of the history.
@@ -39,10 +43,6 @@ module _ (p : Plan) where
   last_of_more : (k : ℕ) (h : List ℕ) (n : ℕ) → last_of k (h ++ (n ∷ [])) ≡ n
   last_of_more k [] n = refl
   last_of_more k (m ∷ h) n = last_of_more m h n
-
-  last_of_is : (u : List ℕ) (x n : ℕ) (k : List ℕ) → u ++ (x ∷ []) ≡ n ∷ k → last_of n k ≡ x
-  last_of_is [] x n k e = let a : x ≡ n = cc in let b : [] ≡ k = cc in rw (a, ← b)
-  last_of_is (m ∷ u) x n k e = let b : u ++ (x ∷ []) ≡ k = cc in rw (← b) (last_of_more n u x)
 
   -- What is found next behind the place of a history is what the history with that report leads to, in all that is left and level by level.
   pub next_exactly : (x : Place) (h : List ℕ) (n : ℕ) → Stands x h → locate (main p) (h ++ (n ∷ [])) ≡ found p x n
@@ -73,11 +73,4 @@ module _ (p : Plan) where
   outlook_is t (at_report m ls) h st =
       let (n, k, e, d, l, s) = st in
       let (v, r) = locate_sound (main p) (n ∷ k) (whole ls) t (rw e at (stands_located m ls h st)) in
-      let (u, a, b, c) = visit_of v.before v.step v.behind in
-      let q : (block v.step).number ≡ m = sym (last_of_is (reports (passed v.before)) (block v.step).number n k v.history) ∙ d in
-      rw e
-      (record {
-        remaining_is = rw r at (remaining_total t v);
-        stretch_is = rw d (stretch_visited M m (main p) (record { at = u; point = ap (λ z. z.point) b ∙ v.point; number = ap (λ z. z.number) b ∙ q }));
-        last_is = rw r at (no_further_exact t v);
-      })
+      rw e (record { remaining_is = rw r at (remaining_total t v); stretch_is = rw r at (visit_largest M t v); last_is = rw r at (no_further_exact t v) })

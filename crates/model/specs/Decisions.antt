@@ -1,4 +1,4 @@
--- The decision (01; 02, L3): what a release and a report weigh, the condition and the margin (001, formula 1: the safety condition), and the answer.
+-- The decision (01; 02, L3 and L6): what a release and a report weigh, the condition and the margin (001, formula 1: the safety condition), and the answer.
 -- Assumes nothing: these are definitions.
 use Rattle.std.specs.Prelude.{Bool, true, false, List, [], ◌∷◌, ◌↔◌, ◌≡◌, ℕ, ◌+◌, ◌-◌, ◌^◌, ◌≤◌, leb, ltb, ℤ, negsuc}
 use Rattle.std.proofs.Math.IntN.{sub_ℕ}
@@ -7,29 +7,25 @@ use Rattle.model.specs.Plan.{C, M, Plan}
 use Rattle.model.specs.Forms.{Forms, main}
 use Rattle.model.specs.Total.{Total, total}
 use Rattle.model.specs.Remaining.{Final, Remaining}
-use Rattle.model.specs.Stretch.{Stretch, ReleaseStretch, silence, stretch}
+use Rattle.model.specs.Stretch.{VisitStretch, ReleaseStretch, silence, visit_stretch}
 use Rattle.model.specs.Places.{pick, no_more, no_further}
 use Rattle.model.specs.Stack.{Levels, whole}
--- Outlook: what a decision weighs, the remaining time and the stretch (01), and whether no further point can come (02, L3), a struct of the code.
+-- Outlook: what a decision weighs, the remaining time (01), the stretch (01; 02, L6), and whether no further point can come (02, L3), a struct of the
+-- code.
 pub use Rattle.model.specs.declared.Outlook.{Outlook}
 use Rattle.model.specs.Calls.{Word, Go, Suspend, Stay, Answer, Decided, Others, Running, Suspended}
 
 -- MEANING, over the runs with a history of reports, which is empty at the release
-
--- The point reported last.
-abbrev pub last_of : ℕ → List ℕ → ℕ
-last_of n [] = n
-last_of n (m ∷ h) = last_of m h
 
 -- Remaining at a decision (01): at release it is the total.
 abbrev pub RemainingAt : Plan → List ℕ → ℕ → Type 0
 RemainingAt p [] = Total (main p)
 RemainingAt p (n ∷ h) = Remaining (main p) (n ∷ h)
 
--- The stretch at a decision (01): the release's, or that of the point reported.
+-- The stretch at a decision: the release's (01), or that of this visit (02, L6).
 abbrev pub StretchAt : Plan → List ℕ → ℕ → Type 0
 StretchAt p [] = ReleaseStretch M (main p)
-StretchAt p (n ∷ h) = Stretch M (main p) (last_of n h)
+StretchAt p (n ∷ h) = VisitStretch M (main p) (n ∷ h)
 
 -- This is the outlook at a decision with this history.
 pub record OutlookAt (p : Plan) (h : List ℕ) (o : Outlook) : Type 0 where
@@ -48,10 +44,14 @@ pub data Place : Type 0 where
 abbrev pub ahead : Forms → Outlook
 ahead fs = record { remaining = total C fs; stretch = silence M fs 0; last = no_more fs }
 
--- The outlook at a decision there.
+-- The outlook at the visit that the forms open with.
+abbrev pub at_visit : Forms → Outlook
+at_visit fs = record { remaining = total C fs; stretch = visit_stretch M fs 0; last = no_further fs }
+
+-- The outlook at a decision, by its place: at release that of the whole main function, at a report that of the visit which all that is left opens with.
 abbrev pub outlook : Plan → Place → Outlook
 outlook p at_release = ahead (main p)
-outlook p (at_report n ls) = record { remaining = total C (whole ls); stretch = stretch M n (main p) 0; last = no_further (whole ls) }
+outlook p (at_report n ls) = at_visit (whole ls)
 
 -- THE RULE
 

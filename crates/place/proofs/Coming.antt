@@ -1,19 +1,20 @@
--- Some run stands at each stack of frames.
+-- Some run stands at each stack of frames; and what is left there costs no more than what was left before. Assumes nothing.
 use mathlib.Core.Bool.{Bool, true, false}
 use mathlib.Core.List.{List, [], ◌∷◌}
 use mathlib.Core.Logic.{◌⊎◌, inl, inr}
 use mathlib.Core.Option.{Option, none, some}
 use mathlib.Core.Path.{◌≡◌, refl, ap, sym, ◌∙◌, subst}
-use Prim.Native.Nat.{ℕ, zero, suc}
+use Prim.Native.Nat.{ℕ, zero, suc, ◌≤◌}
 use native.Mathlib.Omega.{arith}
 use lib.Dec.{eqb}
 use Rattle.model.specs.Plan.{Block}
 use Rattle.model.specs.Forms.{Forms, done, leaf, call, loop, cond, ◌⊕◌}
+use Rattle.model.specs.Total.{total}
 use Rattle.model.specs.Places.{pick, ◌or◌, ◌⊕?◌, bind}
 use Rattle.model.specs.Levels.{Frame}
 use Rattle.model.specs.Stack.{Levels, behind, below, whole, from, suffix, turned, inside_of, then_at, decode}
 use Rattle.model.proofs.Places.{never, known, or_some, ⊕?-some, ⊕-assoc}
-use Rattle.model.proofs.Steps.{Step, past, into, out, again, first, second, after, Prefix, here, past_by, remains}
+use Rattle.model.proofs.Steps.{Step, past, into, out, again, first, second, after, Prefix, here, past_by, remains, total-⊕, step_falls, ⊕-done}
 
 -- A run of f can come to where g is left.
 abbrev pub Comes : Forms → Forms → Type 0
@@ -132,3 +133,23 @@ stands f ks (s ∷ t ∷ ss) ls e =
     let (x, a, b) = then_some (inside_of g) (λ x. decode x (g ∷ ks) (t ∷ ss)) ls j in
     comes_then (g ⊕ below ks) (whole ls) (spot_some f s (below ks) _ i g refl)
     (comes_then (x ⊕ (behind g ⊕ below ks)) (whole ls) (comes_inside g (below ks) x a) (stands x (g ∷ ks) (t ∷ ss) ls b))
+
+-- WHAT IS LEFT, AT ANY COST OF A VISIT
+
+falls : (k : Block → ℕ) {f : Forms} (p : Prefix f) → total k (remains p) ≤ total k f
+unfolding remains
+falls k here = omega arith
+falls k (past_by s p) = omega (arith, falls k p, step_falls k s)
+
+pub comes_less : (k : Block → ℕ) {f g : Forms} → Comes f g → total k g ≤ total k f
+comes_less k (p, e) = omega (arith, falls k p, ap (total k) e)
+
+-- From a leaf of the level on; after more visits of it; inside a loop or call.
+pub suffix_less : (k : Block → ℕ) (f : Forms) (n : ℕ) (g : Forms) → suffix f n ≡ some g → total k g ≤ total k f
+suffix_less k f n g e = omega (arith, comes_less k (comes_suffix f done n g e), ap (total k) (⊕-done f), ap (total k) (⊕-done g))
+
+pub turned_less : (k : Block → ℕ) (v : ℕ) (f g : Forms) → turned f v ≡ some g → total k g ≤ total k f
+turned_less k v f g e = omega (arith, comes_less k (comes_turned v f done g e), ap (total k) (⊕-done f), ap (total k) (⊕-done g))
+
+pub inside_less : (k : Block → ℕ) (g f : Forms) → inside_of g ≡ some f → total k f ≤ total k g
+inside_less k g f e = omega (arith, comes_less k (comes_inside g done f e), total-⊕ k f (behind g ⊕ done), ap (total k) (⊕-done g))

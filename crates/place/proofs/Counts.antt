@@ -9,7 +9,7 @@ use Rattle.model.specs.Plan.{Block}
 use Rattle.model.specs.Forms.{Forms, done, leaf, call, loop, cond}
 use Rattle.model.specs.Stack.{Levels, suffix, turned, decode}
 use Rattle.place.specs.Stack.{frames}
-use Rattle.place.specs.Private.{Level}
+use Rattle.place.specs.Spans.{Level}
 use Rattle.place.proofs.Falling.{top_of}
 use Rattle.place.proofs.Pricing.{turned_back}
 use Rattle.place.proofs.Decode.{levels_stand}

@@ -14,7 +14,7 @@ use Rattle.model.proofs.Located.{traceable_remains}
 use Rattle.model.proofs.Steps.{Prefix, remains, ⊕-done}
 use Rattle.place.proofs.Coming.{Comes, stands}
 use Rattle.place.specs.Stack.{frames}
-use Rattle.place.specs.Private.{Level, Stands, ground}
+use Rattle.place.specs.Spans.{Level, Stands, ground}
 
 abbrev up : Option Levels → (Levels → Option Levels) → Option Levels
 up none k = none

@@ -54,7 +54,7 @@ pub decoded_A : decode (main plan_A) [] (frames leaves_A counts_A 1 1) ≡ some 
 unfolding plan_A linked forms last decode frames suffix turned
 decoded_A = refl
 
-points_A : AllPoints plan_A (frames leaves_A counts_A 1 1)
+pub points_A : AllPoints plan_A (frames leaves_A counts_A 1 1)
 unfolding plan_A AllPoints frames all_leaves leaves
 points_A = ((point_block 1 2 4, (point_block 0 5 9 ∷ [], silent_block 2 10 20 ∷ silent_block 3 6 8 ∷ [], refl), refl, refl), tt)
 

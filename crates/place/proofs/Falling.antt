@@ -4,7 +4,7 @@ use mathlib.Core.Bool.{Bool, true, false}
 use mathlib.Core.List.{List, [], ◌∷◌}
 use mathlib.Core.Logic.{inl, inr}
 use mathlib.Core.Option.{Option, none, some}
-use Prim.Native.Nat.{ℕ, zero, suc, ◌+◌, ◌-◌, ◌*◌, ◌≤◌}
+use Prim.Native.Nat.{ℕ, zero, suc, ◌+◌, ◌-◌, ◌*◌, ◌≤◌, ◌<◌}
 use native.Mathlib.Omega.{arith}
 use native.Mathlib.Numerals.{add-one}
 use lib.Dec.{eqb}
@@ -21,32 +21,22 @@ use Rattle.model.proofs.Places.{never}
 use Rattle.rows.specs.Rows.{kind_at, point_at, detail_at, block_at, Piece}
 use Rattle.place.specs.Pieces.{Spanned}
 use Rattle.place.specs.declared.Sight.{Sight}
-use Rattle.place.specs.Private.{Nonempty, sight_beyond, sight_behind, next_beyond, quits, Level, Stands, Running, ground, return_at, fall_at, visits_there, Moved, Lands, Enterable, base_from, base_to}
-use Rattle.place.specs.Stack.{FunctionTable}
-use Rattle.place.proofs.Suffixes.{truth, suffix_headed, next_suffix}
-use Rattle.place.proofs.Sights.{Saw, beyond_saw, there_some, there_none}
-use Rattle.place.proofs.Views.{View, a_leaf, a_call, a_loop, an_if, view, level_spanned}
+use Rattle.place.specs.Spans.{Level, Stands, Running, ground, Enterable, base_from, base_to}
+use Rattle.place.specs.Private.{Nonempty, there, sight_beyond, sight_behind, next_beyond, quits, return_at, fall_at, Lands}
+use Rattle.place.proofs.Suffixes.{truth, next_suffix}
+use Rattle.place.proofs.Sights.{met, unmet, free_as}
+use Rattle.place.proofs.Views.{View, a_leaf, a_call, a_loop, an_if, view, view_headed, turned_suc, level_spanned}
 
 -- Visits of a loop do not change what comes when it is left.
-pub turned_next : (v : ℕ) (s g : Forms) (x : ℕ) → turned s v ≡ some g → Nonempty s → (next_beyond s x ≡ next_beyond g x) × Nonempty g
-unfolding turned next_beyond
-turned_next zero s g x e h = let q : s ≡ g = cc in (ap (λ (f : Forms). next_beyond f x) q, rw q at h)
-turned_next (suc v) done g x e h = never e
-turned_next (suc v) (leaf b r) g x e h = never e
-turned_next (suc v) (call b fun r) g x e h = never e
-turned_next (suc v) (loop b zero body r) g x e h = never e
-turned_next (suc v) (loop b (suc n) body r) g x e h = turned_next v (loop b n body r) g x e tt
-turned_next (suc v) (cond b t s r) g x e h = never e
+turned_next : (v : ℕ) (s g : Forms) (x : ℕ) → turned s v ≡ some g → (next_beyond s x ≡ next_beyond g x) × (quits s ≡ quits g)
+unfolding turned next_beyond quits
+turned_next zero s g x e = let q : s ≡ g = cc in (ap (λ (f : Forms). next_beyond f x) q, ap quits q)
+turned_next (suc v) s g x e =
+    let (b, n, m, body, r, d, z) = turned_suc v s g e in
+    (ap (λ (f : Forms). next_beyond f x) d ∙ sym (ap (λ (f : Forms). next_beyond f x) z), ap quits d ∙ sym (ap quits z))
 
-turned_sight : (v : ℕ) (s g : Forms) (x : RustOption ℕ) → turned s v ≡ some g → sight_beyond s x ≡ sight_beyond g x
-unfolding turned sight_beyond
-turned_sight zero s g x e = let q : s ≡ g = cc in ap (λ (f : Forms). sight_beyond f x) q
-turned_sight (suc v) done g x e = never e
-turned_sight (suc v) (leaf b r) g x e = never e
-turned_sight (suc v) (call b fun r) g x e = never e
-turned_sight (suc v) (loop b zero body r) g x e = never e
-turned_sight (suc v) (loop b (suc n) body r) g x e = turned_sight v (loop b n body r) g x e
-turned_sight (suc v) (cond b t s r) g x e = never e
+turned_sight : (v : ℕ) (s g : Forms) (x : ℕ) → turned s v ≡ some g → sight_beyond s x ≡ sight_beyond g x
+turned_sight v s g x e = let q = turned_next v s g x e in λ i. record { free = q.1 i; meets = there (q.0 i) }
 
 -- One visit more of a loop.
 pub turned_once : (v : ℕ) (s : Forms) (b : Block) (m : ℕ) (body r : Forms) → turned s v ≡ some (loop b (suc m) body r) → turned s (suc v) ≡ some (loop b m body r)
@@ -106,46 +96,41 @@ module _ {w starts leaves : List ℕ} {n l : ℕ} where
       Spanned w q.table.funs n (base_from w starts n leaves l) (base_to w starts n leaves l) (top q h).level.level
   spanned q h = let t = top q h in rw t.depth at (level_spanned q.table leaves q.counts t.under t.stands t.level.level t.level.opens).0
 
+  -- Its record, which is a form's.
+  pub top_view : (q : Running w starts n leaves l) (h : 1 ≤ l) →
+      (e : ℕ) × View w q.table.funs n (get_or leaves l 0) (get_or q.counts l 0) e (top q h).place × (get_or leaves l 0 < e) × (e * 8 ≤ length w)
+  top_view q h =
+      let t = top q h in
+      let sp = spanned q h in
+      let (v, lt) = view sp (get_or leaves l 0) (get_or q.counts l 0) t.level.start t.place t.level.found t.level.turns in
+      (_, v, lt, sp.room)
+
+  pub top_headed : (q : Running w starts n leaves l) (h : 1 ≤ l) → Nonempty (top q h).place
+  top_headed q h = view_headed (top_view q h).1
+
   pub head_of : (q : Running w starts n leaves l) → 2 ≤ l → Enterable w starts (get_or leaves (l - 1) 0)
   head_of q h =
       let t = top q (omega arith) in
       let e : length t.under ≡ l - 1 = omega (arith, t.depth) in
       rw e at ((level_spanned q.table leaves q.counts t.under t.stands t.level.level t.level.opens).1 (omega (arith, t.depth)))
 
-  pub lower : (q : Running w starts n leaves l) → 2 ≤ l → Running w starts n leaves (l - 1)
-  lower q h =
-      let t = top q (omega arith) in
-      record {
-        table = q.table;
-        counts = q.counts;
-        levels = t.under;
-        depth = omega (arith, t.depth);
-        stands = t.stands;
-        marked = λ k a b. q.marked k a (omega arith);
-      }
-
--- What is met behind the leaf of the innermost level.
-module _ {w starts leaves : List ℕ} {n l : ℕ} (q : Running w starts n leaves l) (h : 1 ≤ l) where
-  pub level_read : (x : RustOption ℕ) {i e p : ℕ} {r : RustOption Sight} → i ≡ base_from w starts n leaves l → e ≡ base_to w starts n leaves l → p ≡ get_or leaves l 0 →
-      ((z : Piece w 62 i e) (G : List Forms) → r ≡ sight_behind (suffix (forms G z.part.lines) p) x) → r ≡ Some (sight_beyond (top q h).place x)
+-- What `fall` learns at its level: what is met behind the leaf of the innermost level.
+module _ {w starts leaves : List ℕ} {n l : ℕ} (q : Running w starts n leaves l) (h : 1 ≤ l) (x : ℕ) where
+  pub level_read : {i e : ℕ} {r : RustOption Sight} → i ≡ base_from w starts n leaves l → e ≡ base_to w starts n leaves l →
+      ((z : Piece w 62 i e) (G : List Forms) → r ≡ sight_behind (suffix (forms G z.part.lines) (get_or leaves l 0)) x) → r ≡ Some (sight_beyond (top q h).place x)
   unfolding sight_behind
-  level_read x {i} {e} {p} hi he hp hr =
+  level_read {i} {e} hi he hr =
       let t = top q h in
       let sp = spanned q h in
       let lv = t.level in
       let z : Piece w 62 i e = record { heights = sp.piece.heights; level = sp.piece.level; part = rw (hi, he) sp.piece.part } in
-      hr z q.table.funs ∙ ap (λ (f : Forms). sight_behind (suffix f p) x) (sym sp.same) ∙ ap (λ (p : ℕ). sight_behind (suffix lv.level p) x) hp ∙
-      ap (λ (o : Option Forms). sight_behind o x) lv.found ∙ ap Some (turned_sight (get_or q.counts l 0) lv.start t.place x lv.turns)
+      hr z q.table.funs ∙ ap (λ (f : Forms). sight_behind (suffix f (get_or leaves l 0)) x) (sym sp.same) ∙ ap (λ (o : Option Forms). sight_behind o x) lv.found ∙
+      ap Some (turned_sight (get_or q.counts l 0) lv.start t.place x lv.turns)
 
--- What `fall` learns at its level.
-module _ {w starts leaves : List ℕ} {n l : ℕ} (q : Running w starts n leaves l) (h : 1 ≤ l) (x : ℕ) where
-  pub level_saw : {v : Sight} → Some v ≡ Some (sight_beyond (top q h).place (Some x)) → Saw v (next_beyond (top q h).place x) (quits (top q h).place)
-  level_saw {v} e =
-      let t = top q h in
-      let lv = t.level in
-      let y : v ≡ sight_beyond t.place (Some x) = cc in
-      let o = turned_next (get_or q.counts l 0) lv.start t.place x lv.turns (suffix_headed lv.level (get_or leaves l 0) lv.start lv.found) in
-      rw y (beyond_saw t.place x o.1)
+  -- So it is a leaf of its level.
+  pub level_saw : {i e : ℕ} {r : RustOption Sight} {v : Sight} → i ≡ base_from w starts n leaves l → e ≡ base_to w starts n leaves l → r ≡ Some v →
+      ((z : Piece w 62 i e) (G : List Forms) → r ≡ sight_behind (suffix (forms G z.part.lines) (get_or leaves l 0)) x) → v ≡ sight_beyond (top q h).place x
+  level_saw hi he rv hr = let e = sym rv ∙ level_read hi he hr in cc
 
   -- x comes next at this level.
   comes_here : (g : Forms) → next_beyond (top q h).place x ≡ some g → Lands (get_or q.table.funs (n - 1) done) leaves q.counts ((top q h).place ∷ (top q h).under) x (Some l)
@@ -154,7 +139,7 @@ module _ {w starts leaves : List ℕ} {n l : ℕ} (q : Running w starts n leaves
       let t = top q h in
       let sp = spanned q h in
       let lv = t.level in
-      let o = turned_next (get_or q.counts l 0) lv.start t.place x lv.turns (suffix_headed lv.level (get_or leaves l 0) lv.start lv.found) in
+      let o = turned_next (get_or q.counts l 0) lv.start t.place x lv.turns in
       let (f, lt) = next_suffix w sp.piece.level _ _ sp.piece.part.lines q.table.funs (get_or leaves l 0) x sp.piece.part.rep lv.start g (rw sp.same at lv.found) (o.0 ∙ c) in
       let z : eqb (get_or leaves l 0) x ≡ false = ne_eqb (get_or leaves l 0) x (λ y. omega arith) in
       let f' : suffix lv.level x ≡ some g = ap (λ (f : Forms). suffix f x) sp.same ∙ f in (
@@ -175,7 +160,7 @@ module _ {w starts leaves : List ℕ} {n l : ℕ} (q : Running w starts n leaves
       )
 
 -- The loop or call that is open below a level.
-pub as_loop : {w : List ℕ} {G : List Forms} {k p v e : ℕ} {g : Forms} → View w G k p v e g → (f : Forms) → inside_of g ≡ some f → kind_at w p ≡ 2 →
+as_loop : {w : List ℕ} {G : List Forms} {k p v e : ℕ} {g : Forms} → View w G k p v e g → (f : Forms) → inside_of g ≡ some f → kind_at w p ≡ 2 →
     (m : ℕ) × (body : Forms) × (r : Forms) × (g ≡ loop (block_at w p) (suc m) body r)
 unfolding inside_of
 as_loop (a_leaf k r z) f c h = absurd (omega arith)
@@ -184,7 +169,7 @@ as_loop (a_loop k q cs le zero s r z) f c h = never (rw z at c)
 as_loop {G = G} (a_loop k q cs le (suc m) s r z) f c h = (m, forms G q.part.lines, r, z)
 as_loop (an_if k t s r z) f c h = absurd (omega arith)
 
-pub as_call : {w : List ℕ} {G : List Forms} {k p v e : ℕ} {g : Forms} → View w G k p v e g → (f : Forms) → inside_of g ≡ some f → (kind_at w p ≡ 2 → ⊥) →
+as_call : {w : List ℕ} {G : List Forms} {k p v e : ℕ} {g : Forms} → View w G k p v e g → (f : Forms) → inside_of g ≡ some f → (kind_at w p ≡ 2 → ⊥) →
     (fun : Forms) × (r : Forms) × (g ≡ call (block_at w p) fun r)
 unfolding inside_of
 as_call (a_leaf k r z) f c h = never (rw z at c)
@@ -219,23 +204,23 @@ module _ {w starts leaves : List ℕ} {n l : ℕ} (q : Running w starts n leaves
       Lands (get_or q.table.funs (n - 1) done) leaves q.counts q.levels x r
   whole_lands r z = rw (top q h).same z
 
-  pub fall_found : {v : Sight} → Saw v (next_beyond (top q h).place x) (quits (top q h).place) → v.meets ≡ true →
+  pub fall_found : {v : Sight} → v ≡ sight_beyond (top q h).place x → v.meets ≡ true →
       Lands (get_or q.table.funs (n - 1) done) leaves q.counts q.levels x (Some l)
-  fall_found s m = let (g, c) = there_some (next_beyond (top q h).place x) (sym s.meets ∙ m) in whole_lands (Some l) (comes_here q h x g c)
+  fall_found s m = let (g, c) = met s m in whole_lands (Some l) (comes_here q h x g c)
 
-  pub fall_stuck : {v : Sight} → Saw v (next_beyond (top q h).place x) (quits (top q h).place) → v.meets ≡ false → v.free ≡ false →
+  pub fall_stuck : {v : Sight} → v ≡ sight_beyond (top q h).place x → v.meets ≡ false → v.free ≡ false →
       Lands (get_or q.table.funs (n - 1) done) leaves q.counts q.levels x None
   unfolding fall_at
   fall_stuck s m f =
-      let a = there_none (next_beyond (top q h).place x) (sym s.meets ∙ m) in
-      let b : quits (top q h).place ≡ false = sym s.free ∙ f in
+      let a = unmet s m in
+      let b : quits (top q h).place ≡ false = free_as s f in
       whole_lands None (rw (a, b))
 
-  down : {v : Sight} → Saw v (next_beyond (top q h).place x) (quits (top q h).place) → v.meets ≡ false → v.free ≡ true →
+  down : {v : Sight} → v ≡ sight_beyond (top q h).place x → v.meets ≡ false → v.free ≡ true →
       fall_at ((top q h).place ∷ (top q h).under) x ≡ return_at (top q h).under x
-  down s m f = pass_down (top q h).place (top q h).under x (there_none (next_beyond (top q h).place x) (sym s.meets ∙ m)) (sym s.free ∙ f)
+  down s m f = pass_down (top q h).place (top q h).under x (unmet s m) (free_as s f)
 
-  pub fall_out : {v : Sight} → Saw v (next_beyond (top q h).place x) (quits (top q h).place) → v.meets ≡ false → l ≡ 1 →
+  pub fall_out : {v : Sight} → v ≡ sight_beyond (top q h).place x → v.meets ≡ false → l ≡ 1 →
       Lands (get_or q.table.funs (n - 1) done) leaves q.counts q.levels x None
   fall_out {v} s m low =
       elim (truth v.free) [
@@ -243,121 +228,111 @@ module _ {w starts leaves : List ℕ} {n l : ℕ} (q : Running w starts n leaves
         | inr f ↦ fall_stuck s m f
       ]
 
--- The record of the leaf that was reported last at level k.
-pub leaf_view : {w starts : List ℕ} {n : ℕ} (pr : FunctionTable w starts n) (leaves counts : List ℕ) (g : Forms) (ks : Levels) (k : ℕ) →
-    Stands (get_or pr.funs (n - 1) done) leaves counts ks → Level (get_or pr.funs (n - 1) done) ks (get_or leaves k 0) (get_or counts k 0) g →
-    (e : ℕ) × View w pr.funs n (get_or leaves k 0) (get_or counts k 0) e g
-leaf_view pr leaves counts g ks k st lv =
-    (_, (view (level_spanned pr leaves counts ks st lv.level lv.opens).0 (get_or leaves k 0) (get_or counts k 0) lv.start g lv.found lv.turns).0)
-
--- At the head of a level, one level down: g is the open loop or call, k its level.
-module _ {w starts : List ℕ} {n : ℕ} (pr : FunctionTable w starts n) (leaves counts : List ℕ) (g : Forms) (ks : Levels) (k : ℕ)
-    (st : Stands (get_or pr.funs (n - 1) done) leaves counts ks) (lv : Level (get_or pr.funs (n - 1) done) ks (get_or leaves k 0) (get_or counts k 0) g)
-    (deep : length ks + 1 ≡ k) (f : Forms) (ins : inside_of g ≡ some f) (mark : point_at w (get_or leaves k 0) ≡ 1) (x : ℕ) where
-  abbrev head_view : (e : ℕ) × View w pr.funs n (get_or leaves k 0) (get_or counts k 0) e g
-  head_view = leaf_view pr leaves counts g ks k st lv
-
-  head_again : kind_at w (get_or leaves k 0) ≡ 2 → get_or leaves k 0 ≡ x →
-      (zs : Levels) × (return_at (g ∷ ks) x ≡ some zs) × Moved (get_or pr.funs (n - 1) done) leaves counts k x (visits_there leaves counts k x) zs
-  head_again kind hx =
-      let (m, body, r, e) = as_loop head_view.1 f ins kind in
-      let b = block_at w (get_or leaves k 0) in
-      let z : eqb (get_or leaves k 0) x ≡ true = eq-eqb (get_or leaves k 0) x hx in
-      let c = return_loop b m body r g ks x e (eq-eqb (point_at w (get_or leaves k 0)) 1 mark) in
-      let o = turned_once (get_or counts k 0) lv.start b m body r (lv.turns ∙ ap some e) in (
-        loop b m body r ∷ ks,
-        c ∙ rw z,
-        record {
-          under = ks;
-          place = loop b m body r;
-          same = refl;
-          depth = deep;
-          stands = st;
-          level = record {
-            level = lv.level;
-            opens = lv.opens;
-            start = lv.start;
-            found = ap (λ (p : ℕ). suffix lv.level p) (sym hx) ∙ lv.found;
-            turns = rw z (ap (λ (v : ℕ). turned lv.start v) (add-one (get_or counts k 0)) ∙ o);
-          };
-        },
-      )
-
-  head_other : kind_at w (get_or leaves k 0) ≡ 2 → (get_or leaves k 0 ≡ x → ⊥) → return_at (g ∷ ks) x ≡ none
-  head_other kind hx =
-      let (m, body, r, e) = as_loop head_view.1 f ins kind in
-      let z : eqb (get_or leaves k 0) x ≡ false = ne_eqb (get_or leaves k 0) x hx in
-      return_loop (block_at w (get_or leaves k 0)) m body r g ks x e (eq-eqb (point_at w (get_or leaves k 0)) 1 mark) ∙ rw z
-
-  head_call : (kind_at w (get_or leaves k 0) ≡ 2 → ⊥) → return_at (g ∷ ks) x ≡ fall_at (g ∷ ks) x
-  head_call kind =
-      let (fun, r, e) = as_call head_view.1 f ins kind in
-      return_call (block_at w (get_or leaves k 0)) fun r g ks x e
-
--- What is under the innermost level.
-module _ {w starts leaves : List ℕ} {n l : ℕ} (q : Running w starts n leaves l) (one_up : 1 ≤ l) (h : 2 ≤ l) (x : ℕ) where
-  abbrev pub main_of : Forms
-  main_of = get_or q.table.funs (n - 1) done
-
-  pub record Under (ks : Levels) : Type 0 where
-    pub again : kind_at w (get_or leaves (l - 1) 0) ≡ 2 → get_or leaves (l - 1) 0 ≡ x →
-        (zs : Levels) × (return_at ks x ≡ some zs) × Moved main_of leaves q.counts (l - 1) x (visits_there leaves q.counts (l - 1) x) zs
-    pub other : kind_at w (get_or leaves (l - 1) 0) ≡ 2 → (get_or leaves (l - 1) 0 ≡ x → ⊥) → return_at ks x ≡ none
-    pub calling : (kind_at w (get_or leaves (l - 1) 0) ≡ 2 → ⊥) → return_at ks x ≡ fall_at ks x
-
-  under_of : (ks : Levels) → length ks ≡ l - 1 → Stands main_of leaves q.counts ks → (f : Forms) → ground main_of ks ≡ some f → Under ks
-  unfolding Stands ground
-  under_of [] d st f c = absurd (omega arith)
-  under_of (g ∷ ks) d st f c =
-      let e : length ks + 1 ≡ l - 1 = omega arith in
-      let mark = q.marked (l - 1) (omega arith) (omega arith) in
-      let lv : Level main_of ks (get_or leaves (l - 1) 0) (get_or q.counts (l - 1) 0) g = rw e at st.1 in
+-- The loop or call that is open at the level below.
+module _ {w starts leaves : List ℕ} {n l : ℕ} (q : Running w starts n leaves l) (one : 1 ≤ l) (two : 2 ≤ l) where
+  abbrev pub lower : Running w starts n leaves (l - 1)
+  lower =
+      let t = top q one in
       record {
-        again = head_again q.table leaves q.counts g ks (l - 1) st.0 lv e f c mark x;
-        other = head_other q.table leaves q.counts g ks (l - 1) st.0 lv e f c mark x;
-        calling = head_call q.table leaves q.counts g ks (l - 1) st.0 lv e f c mark x;
+        table = q.table;
+        counts = q.counts;
+        levels = t.under;
+        depth = omega (arith, t.depth);
+        stands = t.stands;
+        marked = λ k a b. q.marked k a (omega arith);
       }
 
-  pub under : Under (top q one_up).under
-  under = let t = top q one_up in under_of t.under (omega (arith, t.depth)) t.stands t.level.level t.level.opens
+  abbrev pub head : Top (get_or q.table.funs (n - 1) done) leaves q.counts (l - 1) (top q one).under
+  head = top lower (omega arith)
 
-  -- The answers down there.
-  fall_again : {v : Sight} {hd : ℕ} → Saw v (next_beyond (top q one_up).place x) (quits (top q one_up).place) → v.meets ≡ false → v.free ≡ true →
-      hd ≡ get_or leaves (l - 1) 0 → kind_at w hd ≡ 2 → hd ≡ x → Lands main_of leaves q.counts q.levels x (Some (l - 1))
-  fall_again s m f hh k hx =
-      let (zs, c, y) = under.again (ap (λ (p : ℕ). kind_at w p) (sym hh) ∙ k) (sym hh ∙ hx) in
-      whole_lands q one_up x (Some (l - 1)) (omega arith, omega (arith, (top q one_up).depth), (zs, down q one_up x s m f ∙ c, y))
+  head_view : (e : ℕ) × View w q.table.funs n (get_or leaves (l - 1) 0) (get_or q.counts (l - 1) 0) e head.place
+  head_view = let v = top_view lower (omega arith) in (v.0, v.1)
 
-  fall_other : {v : Sight} {hd : ℕ} → Saw v (next_beyond (top q one_up).place x) (quits (top q one_up).place) → v.meets ≡ false → v.free ≡ true →
-      hd ≡ get_or leaves (l - 1) 0 → kind_at w hd ≡ 2 → (hd ≡ x → ⊥) → Lands main_of leaves q.counts q.levels x None
-  fall_other s m f hh k hx =
-      whole_lands q one_up x None (down q one_up x s m f ∙ under.other (ap (λ (p : ℕ). kind_at w p) (sym hh) ∙ k) (λ z. hx (hh ∙ z)))
+  head_opens : inside_of head.place ≡ some (top q one).level.level
+  unfolding ground
+  head_opens = rw head.same at (top q one).level.opens
+
+  pub head_point : (block_at w (get_or leaves (l - 1) 0)).point ≡ true
+  head_point = eq-eqb (point_at w (get_or leaves (l - 1) 0)) 1 (q.marked (l - 1) (omega arith) (omega arith))
+
+  pub head_loop : kind_at w (get_or leaves (l - 1) 0) ≡ 2 → (m : ℕ) × (body : Forms) × (r : Forms) × (head.place ≡ loop (block_at w (get_or leaves (l - 1) 0)) (suc m) body r)
+  head_loop kind = as_loop head_view.1 (top q one).level.level head_opens kind
+
+  pub head_call : (kind_at w (get_or leaves (l - 1) 0) ≡ 2 → ⊥) → (fun : Forms) × (r : Forms) × (head.place ≡ call (block_at w (get_or leaves (l - 1) 0)) fun r)
+  head_call kind = as_call head_view.1 (top q one).level.level head_opens kind
+
+-- What is found there.
+module _ {w starts leaves : List ℕ} {n l : ℕ} (q : Running w starts n leaves l) (one : 1 ≤ l) (two : 2 ≤ l) (x : ℕ) where
+  abbrev main_of : Forms
+  main_of = get_or q.table.funs (n - 1) done
+
+  abbrev p : ℕ
+  p = get_or leaves (l - 1) 0
+
+  return_as : {o : Option Levels} → return_at ((head q one two).place ∷ (head q one two).under) x ≡ o → return_at (top q one).under x ≡ o
+  return_as e = ap (λ (ks : Levels). return_at ks x) (head q one two).same ∙ e
+
+  fall_again : {v : Sight} → v ≡ sight_beyond (top q one).place x → v.meets ≡ false → v.free ≡ true → kind_at w p ≡ 2 → p ≡ x → Lands main_of leaves q.counts q.levels x (Some (l - 1))
+  fall_again s mt f kind hx =
+      let h = head q one two in
+      let lv = h.level in
+      let b = block_at w p in
+      let (m, body, r, e) = head_loop q one two kind in
+      let z : eqb p x ≡ true = eq-eqb p x hx in
+      let c : return_at (top q one).under x ≡ some (loop b m body r ∷ h.under) = return_as (return_loop b m body r h.place h.under x e (head_point q one two) ∙ rw z) in
+      let o = turned_once (get_or q.counts (l - 1) 0) lv.start b m body r (lv.turns ∙ ap some e) in
+      whole_lands q one x (Some (l - 1)) (
+        omega arith,
+        omega (arith, (top q one).depth),
+        (
+          loop b m body r ∷ h.under,
+          down q one x s mt f ∙ c,
+          record {
+            under = h.under;
+            place = loop b m body r;
+            same = refl;
+            depth = h.depth;
+            stands = h.stands;
+            level = record {
+              level = lv.level;
+              opens = lv.opens;
+              start = lv.start;
+              found = ap (λ (p : ℕ). suffix lv.level p) (sym hx) ∙ lv.found;
+              turns = rw z (ap (λ (v : ℕ). turned lv.start v) (add-one (get_or q.counts (l - 1) 0)) ∙ o);
+            };
+          },
+        ),
+      )
+
+  fall_other : {v : Sight} → v ≡ sight_beyond (top q one).place x → v.meets ≡ false → v.free ≡ true → kind_at w p ≡ 2 → (p ≡ x → ⊥) → Lands main_of leaves q.counts q.levels x None
+  fall_other s mt f kind hx =
+      let h = head q one two in
+      let (m, body, r, e) = head_loop q one two kind in
+      let z : eqb p x ≡ false = ne_eqb p x hx in
+      whole_lands q one x None (down q one x s mt f ∙ return_as (return_loop (block_at w p) m body r h.place h.under x e (head_point q one two) ∙ rw z))
 
   -- Both of them, as the code tells them apart.
-  pub fall_head : {v : Sight} {hd : ℕ} {r : RustOption ℕ} → Saw v (next_beyond (top q one_up).place x) (quits (top q one_up).place) → v.meets ≡ false → v.free ≡ true →
-      hd ≡ get_or leaves (l - 1) 0 → kind_at w hd ≡ 2 → r ≡ then_some (eqb hd x) (l - 1) → Lands main_of leaves q.counts q.levels x r
-  fall_head {hd = hd} {r = r} s m f hh k e = by (eqb hd x) refl e
+  pub fall_head : {v : Sight} {r : RustOption ℕ} → v ≡ sight_beyond (top q one).place x → v.meets ≡ false → v.free ≡ true → kind_at w p ≡ 2 → r ≡ then_some (eqb p x) (l - 1) →
+      Lands main_of leaves q.counts q.levels x r
+  fall_head {r = r} s m f kind e = by (eqb p x) refl e
     where
-      by : (b : Bool) → eqb hd x ≡ b → r ≡ then_some b (l - 1) → Lands main_of leaves q.counts q.levels x r
-      by true z e = rw e (fall_again s m f hh k (eqb-true hd x z))
-      by false z e = rw e (fall_other s m f hh k (eqb-false hd x z))
+      by : (b : Bool) → eqb p x ≡ b → r ≡ then_some b (l - 1) → Lands main_of leaves q.counts q.levels x r
+      by true z e = rw e (fall_again s m f kind (eqb-true p x z))
+      by false z e = rw e (fall_other s m f kind (eqb-false p x z))
 
-  lands_down : (r : RustOption ℕ) → fall_at ((top q one_up).place ∷ (top q one_up).under) x ≡ fall_at (top q one_up).under x →
-      Lands main_of leaves q.counts (top q one_up).under x r → Lands main_of leaves q.counts ((top q one_up).place ∷ (top q one_up).under) x r
+  lands_down : (r : RustOption ℕ) → fall_at ((top q one).place ∷ (top q one).under) x ≡ fall_at (top q one).under x →
+      Lands main_of leaves q.counts (top q one).under x r → Lands main_of leaves q.counts ((top q one).place ∷ (top q one).under) x r
   lands_down None a y = a ∙ y
-  lands_down (Some r) a y = (y.0, omega (arith, (top q one_up).depth, y.1), (y.2.0, a ∙ y.2.1, y.2.2))
+  lands_down (Some r) a y = (y.0, omega (arith, (top q one).depth, y.1), (y.2.0, a ∙ y.2.1, y.2.2))
 
-  pub fall_on : (r : RustOption ℕ) {v : Sight} {hd : ℕ} → Saw v (next_beyond (top q one_up).place x) (quits (top q one_up).place) → v.meets ≡ false → v.free ≡ true →
-      hd ≡ get_or leaves (l - 1) 0 → (kind_at w hd ≡ 2 → ⊥) →
+  pub fall_on : (r : RustOption ℕ) {v : Sight} → v ≡ sight_beyond (top q one).place x → v.meets ≡ false → v.free ≡ true → (kind_at w p ≡ 2 → ⊥) →
       ((z : Running w starts n leaves (l - 1)) → Lands (get_or z.table.funs (n - 1) done) leaves z.counts z.levels x r) →
       Lands main_of leaves q.counts q.levels x r
-  unfolding lower
-  fall_on r s m f hh k rec =
-      let a = down q one_up x s m f ∙ under.calling (λ z. k (ap (λ (p : ℕ). kind_at w p) hh ∙ z)) in
-      let t = top q one_up in
-      let z : Running w starts n leaves (l - 1) =
-      record { table = q.table; counts = q.counts; levels = t.under; depth = omega (arith, t.depth); stands = t.stands; marked = λ k a b. q.marked k a (omega arith) } in
-      whole_lands q one_up x r (lands_down r a (rec z))
+  fall_on r s m f kind rec =
+      let h = head q one two in
+      let (fun, rest, e) = head_call q one two kind in
+      let c = return_as (return_call (block_at w p) fun rest h.place h.under x e) ∙ ap (λ (ks : Levels). fall_at ks x) (sym h.same) in
+      whole_lands q one x r (lands_down r (down q one x s m f ∙ c) (rec (lower q one two)))
 
 -- The records of the level, for a scan.
 pub ready : {w starts leaves : List ℕ} {n l : ℕ} (q : Running w starts n leaves l) (h : 1 ≤ l) {i e : ℕ} → i ≡ base_from w starts n leaves l → e ≡ base_to w starts n leaves l →

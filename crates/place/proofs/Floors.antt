@@ -13,7 +13,7 @@ use Rattle.model.specs.Stack.{Levels, suffix, turned, inside_of}
 use Rattle.model.proofs.Places.{never}
 use Rattle.rows.specs.Rows.{kind_at, isolated_at, detail_at, block_at}
 use Rattle.place.specs.Stack.{FunctionTable}
-use Rattle.place.specs.Private.{Stands, ground}
+use Rattle.place.specs.Spans.{Stands, ground}
 use Rattle.place.specs.Times.{Columns}
 use Rattle.place.proofs.Views.{View, a_leaf, a_call, a_loop, an_if, view, level_spanned}
 use Rattle.place.proofs.Pricing.{Inner, At, inner_same, priced_suffix, rules_below, turned_back}

@@ -3,15 +3,13 @@ use mathlib.Core.Path.{subst, ◌≡◌, refl, sym, ap, ◌∙◌}
 use mathlib.Core.Bool.{Bool, true, false}
 use mathlib.Core.List.{List, [], ◌∷◌}
 use mathlib.Core.Logic.{inl, inr}
-use mathlib.Core.Option.{Option, none, some}
+use mathlib.Core.Option.{some}
 use Prim.Native.Nat.{ℕ, zero, suc, ◌+◌, ◌-◌, ◌*◌, ◌≤◌, ◌<◌}
 use native.Mathlib.Omega.{arith}
 use native.Mathlib.Decide.{dec_le}
 use lib.Dec.{eqb}
 use lib.ListN.{length, get_or}
 use borrow.Author.Tests.{eq-eqb, ne_eqb}
-use Rattle.std.specs.Prelude.{Option as RustOption}
-use Rattle.std.specs.Option.{is_some}
 use Rattle.model.specs.Plan.{Block}
 use Rattle.model.specs.Forms.{Forms, done, loop, forms}
 use Rattle.model.specs.Stack.{Levels, suffix, turned, inside_of}
@@ -20,25 +18,15 @@ use Rattle.rows.specs.Rows.{point_at, block_at, Piece}
 use Rattle.rows.specs.Answers.{Says}
 use Rattle.place.specs.Pieces.{Spanned}
 use Rattle.place.specs.Lent.{main_forms}
-use Rattle.place.specs.declared.Sight.{Sight}
-use Rattle.place.specs.Private.{sight_behind, Level, Stands, Placed, ground, Enters, Counted, Settled, StackStands, Enterable, inner_from, inner_to, base_from, base_to}
+use Rattle.place.specs.Spans.{Level, Stands, ground, Enterable, inner_from, inner_to, base_from, base_to}
+use Rattle.place.specs.Private.{Placed, there, Enters, Counted, Settled, StackStands}
 use Rattle.place.specs.Stack.{FunctionTable, Decodes}
 use Rattle.place.proofs.Suffixes.{suffix_in}
-use Rattle.place.proofs.Views.{View, a_leaf, a_call, a_loop, an_if, view, level_spanned}
+use Rattle.place.proofs.Sights.{some_there, none_there}
+use Rattle.place.proofs.Views.{View, a_leaf, a_call, a_loop, an_if, view, main_spanned, level_spanned, turned_suc}
 use Rattle.place.proofs.Falling.{spanned}
-use Rattle.place.proofs.Finding.{running, turned_suc, front, leaf_room, call_top, loop_top, zero_or}
-use Rattle.place.proofs.Ending.{main_spanned}
+use Rattle.place.proofs.Finding.{running, front, leaf_room, call_top, loop_top, zero_or}
 use Rattle.place.proofs.Decode.{stands_levels, levels_stand}
-
--- Whether there is a leaf of the level, from what is met behind it.
-behind_read : {w : List ℕ} {G : List Forms} {n i e : ℕ} {f : Forms} → Spanned w G n i e f → (p : ℕ) (x : RustOption ℕ) {r : RustOption Sight} →
-    ((q : Piece w 62 i e) (G : List Forms) → r ≡ sight_behind (suffix (forms G q.part.lines) p) x) → r ≡ sight_behind (suffix f p) x
-behind_read {G = G} sp p x hr = hr sp.piece G ∙ ap (λ (f : Forms). sight_behind (suffix f p) x) (sym sp.same)
-
-behind_some : (o : Option Forms) (x : RustOption ℕ) {r : RustOption Sight} → r ≡ sight_behind o x → is_some r ≡ true → (s : Forms) × (o ≡ some s)
-unfolding sight_behind
-behind_some none x e h = absurd (let z : false ≡ true = rw e at h in let y : ◌≡◌ {A = ℕ} 0 1 = cc in omega arith)
-behind_some (some s) x e h = (s, refl)
 
 -- Visits that a form can have had.
 turned_to : (v n : ℕ) (b : Block) (body r : Forms) → v ≤ n → turned (loop b n body r) v ≡ some (loop b (n - v) body r)
@@ -65,7 +53,7 @@ turned_some {s = s} (an_if k x y r z) count (inr c) = (s, same_zero count s c.1)
 
 not_again : (count : ℕ) (s g : Forms) → turned s count ≡ some g → ((b : Block) (m : ℕ) (body r : Forms) → g ≡ loop b m body r → ⊥) → count ≡ 0
 not_again zero s g t nay = refl
-not_again (suc v) s g t nay = let (b, m, body, r, e) = turned_suc v s g t in absurd (nay b m body r e)
+not_again (suc v) s g t nay = let (b, n, m, body, r, d, e) = turned_suc v s g t in absurd (nay b m body r e)
 
 settled_count : {w : List ℕ} {G : List Forms} {k p count e : ℕ} {g : Forms} → View w G k p count e g → (s : Forms) → turned s count ≡ some g → Counted w p count
 settled_count {count = count} {g = g} (a_leaf k r z) s t =
@@ -76,20 +64,20 @@ settled_count (a_loop k q cs le m e r z) s t = inl (k, omega arith)
 settled_count {count = count} {g = g} (an_if k x y r z) s t =
     inr ((λ h. omega arith), not_again count s g t (λ b m body u e. let y = sym z ∙ e in let z : ◌≡◌ {A = ℕ} 0 1 = cc in omega arith))
 
-module _ {w : List ℕ} {G : List Forms} {n i e : ℕ} {f : Forms} (sp : Spanned w G n i e f) (p count : ℕ) (x : RustOption ℕ) {r : RustOption Sight}
-    (hr : (q : Piece w 62 i e) (G : List Forms) → r ≡ sight_behind (suffix (forms G q.part.lines) p) x) where
-  pub absent : is_some r ≡ false → Settled w f p count → ⊥
-  unfolding sight_behind
-  absent e s =
-      let z : true ≡ false = rw (behind_read sp p x hr ∙ ap (λ (o : Option Forms). sight_behind o x) s.found) at e in
-      let y : ◌≡◌ {A = ℕ} 0 1 = cc in
-      omega arith
+-- The leaf p of a level, from the answer whether it is one.
+module _ {w : List ℕ} {G : List Forms} {n i e : ℕ} {f : Forms} (sp : Spanned w G n i e f) (p count : ℕ) {r : Bool}
+    (hr : (q : Piece w 62 i e) (G : List Forms) → r ≡ there (suffix (forms G q.part.lines) p)) where
+  of_level : r ≡ there (suffix f p)
+  of_level = hr sp.piece G ∙ ap (λ (f : Forms). there (suffix f p)) (sym sp.same)
+
+  pub absent : r ≡ false → Settled w f p count → ⊥
+  absent e s = never (sym (none_there (suffix f p) (sym of_level ∙ e)) ∙ s.found)
 
   -- Its visits.
-  pub counts_so : is_some r ≡ true → point_at w p ≡ 1 → Counted w p count → Settled w f p count
+  pub counts_so : r ≡ true → point_at w p ≡ 1 → Counted w p count → Settled w f p count
   unfolding turned
   counts_so e mk cs =
-      let (s, c) = behind_some (suffix f p) x (behind_read sp p x hr) e in
+      let (s, c) = some_there (suffix f p) (sym of_level ∙ e) in
       let (vw, lt) = view sp p 0 s s c refl in
       let (g, t) = turned_some vw count cs in
       record { mark = mk; start = s; found = c; left = g; turns = t }
@@ -99,16 +87,16 @@ module _ {w : List ℕ} {G : List Forms} {n i e : ℕ} {f : Forms} (sp : Spanned
       let (vw, lt) = view sp p count s.start s.left s.found s.turns in
       nay (settled_count vw s.start s.turns)
 
--- a leaf that is there lies in the row.
-pub in_room : {w : List ℕ} {left i e : ℕ} → Piece w left i e → e * 8 ≤ length w → (p : ℕ) (x : RustOption ℕ) {r : RustOption Sight} →
-    ((q : Piece w left i e) (G : List Forms) → r ≡ sight_behind (suffix (forms G q.part.lines) p) x) → is_some r ≡ true → p * 8 + 8 ≤ length w
-in_room {w} {i} {e} q room p x hr h =
-    let c = behind_some (suffix (forms [] q.part.lines) p) x (hr q []) h in
+-- It lies in the row.
+pub in_room : {w : List ℕ} {left i e : ℕ} → Piece w left i e → e * 8 ≤ length w → (p : ℕ) {r : Bool} →
+    ((q : Piece w left i e) (G : List Forms) → r ≡ there (suffix (forms G q.part.lines) p)) → r ≡ true → p * 8 + 8 ≤ length w
+in_room {w} {i} {e} q room p hr h =
+    let c = some_there (suffix (forms [] q.part.lines) p) (sym (hr q []) ∙ h) in
     omega (arith, suffix_in w q.level i e q.part.lines [] p c.0 q.part.rep c.1)
 
 -- The levels of a stack that holds.
 abbrev pub placed_held : {w starts : List ℕ} {n : ℕ} (p : FunctionTable w starts n) {leaves counts : List ℕ} {l : ℕ} → StackStands w (get_or p.funs (n - 1) done) leaves counts l → Placed w starts n leaves counts l
-placed_held p h = record { table = p; levels = h.levels; depth = h.depth; stands = h.stands; marked = h.marked }
+placed_held p h = record { table = p; stack = h }
 
 pub held_none : (w : List ℕ) (main : Forms) (leaves counts : List ℕ) (l : ℕ) → l ≡ 0 → StackStands w main leaves counts l
 unfolding Stands
@@ -213,11 +201,11 @@ module _ {w starts : List ℕ} {n : ℕ} (p : FunctionTable w starts n) {leaves 
         c.head,
       )
 
-  pub head_room : StackStands w (main_forms p) leaves counts (l - 1) → {hd : ℕ} → hd ≡ get_or leaves (l - 1) 0 → hd * 8 + 8 ≤ length w
-  head_room h hh = leaf_room (placed_held p h) (omega arith) hh
+  pub head_room : StackStands w (main_forms p) leaves counts (l - 1) → get_or leaves (l - 1) 0 * 8 + 8 ≤ length w
+  head_room h = leaf_room (placed_held p h) (omega arith)
 
-  pub head_open : StackStands w (main_forms p) leaves counts (l - 1) → {hd c : ℕ} → hd ≡ get_or leaves (l - 1) 0 → c ≡ get_or counts (l - 1) 0 → Enters w hd c → Enterable w starts hd
-  head_open h hh hc en = rw hh (enters_open h (rw (hh, hc) at en)).1
+  pub head_open : StackStands w (main_forms p) leaves counts (l - 1) → Enters w (get_or leaves (l - 1) 0) (get_or counts (l - 1) 0) → Enterable w starts (get_or leaves (l - 1) 0)
+  head_open h en = (enters_open h en).1
 
 -- The outermost level runs the main function.
 ground_main : (main : Forms) (ks : Levels) → length ks ≡ 0 → ground main ks ≡ some main

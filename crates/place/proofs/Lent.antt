@@ -9,7 +9,8 @@ use Rattle.rows.specs.Leaves.{numbers}
 use Rattle.rows.proofs.Leaves.{numbers_length}
 use Rattle.place.specs.declared.Place.{Place}
 use Rattle.place.specs.Lent.{PlaceDecoded}
-use Rattle.place.specs.Private.{CodeRunning, PlaceStands, LevelOpen}
+use Rattle.place.specs.Spans.{CodeRunning, LevelOpen}
+use Rattle.place.specs.Private.{PlaceStands}
 use Rattle.place.proofs.Falling.{head_of}
 use Rattle.place.proofs.Finding.{running}
 use Rattle.place.proofs.Stacking.{placed}

@@ -2,6 +2,7 @@ pub mod Lent
 pub mod Shape
 pub mod Suffixes
 pub mod Sights
+pub mod Siblings
 pub mod Views
 pub mod Falling
 pub mod Coming
@@ -11,7 +12,6 @@ pub mod Lowness
 pub mod Finding
 pub mod Stacking
 pub mod Putting
-pub mod Ending
 pub mod Holding
 pub mod Pricing
 pub mod Counts

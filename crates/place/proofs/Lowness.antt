@@ -11,7 +11,7 @@ use Rattle.model.specs.Places.{◌or◌, ◌⊕?◌, seek}
 use Rattle.model.specs.Stack.{Levels, suffix, turned, inside_of}
 use Rattle.model.proofs.Places.{never, or_some, ⊕?-some}
 use Rattle.place.specs.Stack.{Shallow}
-use Rattle.place.specs.Private.{Stands, ground}
+use Rattle.place.specs.Spans.{Stands, ground}
 use Rattle.place.proofs.Suffixes.{from_cases}
 
 low-⊕ : (k : ℕ) (f g : Forms) → Shallow k f → Shallow k g → Shallow k (f ⊕ g)

@@ -1,5 +1,5 @@
 -- What the contracts mean for an accepted plan, in the model's words: for any accepted plan p whose functions lie in the row w, with bounds in starts.
--- Each statement takes what a function ensures (its contract, at results named r, new and more), and says what that is for p.
+-- Each statement takes what a function ensures (its contract, at results named r, moved and new), and says what that is for p.
 -- Assumes nothing.
 use mathlib.Core.Bool.{Bool, true, false}
 use mathlib.Core.List.{List, []}
@@ -8,13 +8,12 @@ use mathlib.Core.Path.{◌≡◌, sym, ap, ◌∙◌, subst}
 use Prim.Native.Nat.{ℕ, ◌-◌, ◌≤◌, ◌<◌}
 use native.Mathlib.Omega.{arith}
 use lib.ListN.{length, get_or}
-use Rattle.std.specs.Prelude.{Option as RustOption}
 use Rattle.model.specs.Plan.{Plan}
 use Rattle.model.specs.Forms.{Forms, done, linked, main}
 use Rattle.model.specs.Levels.{Standing, so_far, stack}
 use Rattle.model.specs.Acceptance.{Accepted}
-use Rattle.model.specs.Places.{passes, seek, can_end, no_more, no_further}
-use Rattle.model.specs.Stack.{Levels, whole, onto, seek_at, onward_at, decode, times}
+use Rattle.model.specs.Places.{seek}
+use Rattle.model.specs.Stack.{Levels, onto, seek_at, onward_at, decode, times}
 use Rattle.model.proofs.Points.{AllPoints}
 use Rattle.model.proofs.Statics.{main_last}
 use Rattle.model.proofs.Theorems.{standing_has_stack, stack_is_of_points, stack_has_run}
@@ -68,19 +67,11 @@ module _ {w starts : List ℕ} (p : Plan) (a : Accepted p) (d : PlanIn w starts 
       abbrev pub decoded : Decoded w starts count leaves counts l
       decoded = record { table = table_of p a d; levels = ls; decodes = by_table; marked = marks u }
 
-      -- `next_place`: the new stack decodes to the model's next place, `onward_at ls x`; or there is none.
-      pub next_place_is : (x : ℕ) (r : RustOption Place) →
-          ((q : Decoded w starts count leaves counts l) → NextStack w (get_or q.table.funs (count - 1) done) (onward_at q.levels x) leaves counts x r) →
-          NextStack w (main p) (onward_at ls x) leaves counts x r
-      next_place_is x r e = rw (main_last p) (e decoded)
-
-      -- `can_end`: the model's possible end of what is left to run.
-      pub can_end_is : (r : Bool) → ((q : Decoded w starts count leaves counts l) → r ≡ can_end (whole q.levels)) → r ≡ can_end (whole ls)
-      can_end_is r e = e decoded
-
-      -- `last_point`: whether the model meets no further point in it.
-      pub last_point_is : (r : Bool) → ((q : Decoded w starts count leaves counts l) → r ≡ no_further (whole q.levels)) → r ≡ no_further (whole ls)
-      last_point_is r e = e decoded
+      -- `advance`: the new stack decodes to the model's next place, `onward_at ls x`; or there is none, and the place is as it was.
+      pub next_place_is : (old : Place) (x : ℕ) (moved : Bool) (new : Place) →
+          ((q : Decoded w starts count leaves counts l) → NextStack w (get_or q.table.funs (count - 1) done) (onward_at q.levels x) old x moved new) →
+          NextStack w (main p) (onward_at ls x) old x moved new
+      next_place_is old x moved new e = rw (main_last p) (e decoded)
 
       module _ {tails turns totals : List ℕ} (c : PlanColumns p tails turns totals) where
         abbrev pub costed : CostedStack w tails turns totals leaves counts count l
@@ -89,7 +80,7 @@ module _ {w starts : List ℕ} (p : Plan) (a : Accepted p) (d : PlanIn w starts 
         abbrev pub clocked : {old : List ℕ} → TimesAt (main p) old (outer_levels ls) → Clocked w tails turns totals leaves counts l old
         clocked {old} t = record { n = count; costed = costed; lower = rw (sym (main_last p)) t }
 
-        -- `next_times`, where the old times are right up to the level below: all 33 are the model's.
+        -- `keep_time`, where the old times are right up to the level below: all 33 are the model's.
         pub next_times_are : l ≤ 32 → (old new : List ℕ) → TimesAt (main p) old (outer_levels ls) → length new ≡ 33 →
             ((q : Clocked w tails turns totals leaves counts l old) → TimesAt (get_or q.costed.decoded.table.funs (q.n - 1) done) new q.costed.decoded.levels) →
             ((k : ℕ) → l < k → get_or new k 0 ≡ 0) → new ≡ times (main p) ls
@@ -103,20 +94,12 @@ module _ {w starts : List ℕ} (p : Plan) (a : Accepted p) (d : PlanIn w starts 
         times_ok_is most ts e above true h = all_times (main p) ts ls e (omega (arith, depth_is)) (rw (main_last p) (h costed)) (λ k lt. above k (omega (arith, depth_is)))
         times_ok_is most ts e above false h = λ z. h costed (rw (sym (main_last p)) (times_are (main p) ts ls z))
 
-  -- `first_place`: the new stack decodes to the model's first place, `seek_at (main p) [] x`; or there is none.
-  pub first_place_is : (leaves counts : List ℕ) (x : ℕ) (r : RustOption Place) →
-      ((t : FunctionTable w starts count) → NextStack w (get_or t.funs (count - 1) done) (onto [] (seek (get_or t.funs (count - 1) done) x)) leaves counts x r) →
-      NextStack w (main p) (seek_at (main p) [] x) leaves counts x r
+  -- `begin`: the new stack decodes to the model's first place, `seek_at (main p) [] x`; or there is none, and the place is as it was.
+  pub first_place_is : (old : Place) (x : ℕ) (moved : Bool) (new : Place) →
+      ((t : FunctionTable w starts count) → NextStack w (get_or t.funs (count - 1) done) (onto [] (seek (get_or t.funs (count - 1) done) x)) old x moved new) →
+      NextStack w (main p) (seek_at (main p) [] x) old x moved new
   unfolding seek_at
-  first_place_is leaves counts x r e = rw (main_last p) (e (table_of p a d))
-
-  -- `first_end`: whether the main function can be passed in silence.
-  pub first_end_is : (r : Bool) → ((t : FunctionTable w starts count) → r ≡ passes (get_or t.funs (count - 1) done)) → r ≡ passes (main p)
-  first_end_is r e = e (table_of p a d) ∙ ap passes (sym (main_last p))
-
-  -- `no_point`: whether it has no point that a run meets.
-  pub no_point_is : (r : Bool) → ((t : FunctionTable w starts count) → r ≡ no_more (get_or t.funs (count - 1) done)) → r ≡ no_more (main p)
-  no_point_is r e = e (table_of p a d) ∙ ap no_more (sym (main_last p))
+  first_place_is old x moved new e = rw (main_last p) (e (table_of p a d))
 
   -- `place_ok`: whether some run of the plan stands at exactly this stack.
   pub place_ok_is : (leaves counts : List ℕ) (l : ℕ) (r : Bool) → ((t : FunctionTable w starts count) → Says r (Decodes w (get_or t.funs (count - 1) done) leaves counts l)) →

@@ -10,7 +10,7 @@ use lib.ListN.{length, get_or}
 use Rattle.model.specs.Plan.{Block, C, Lines, close, leaf_line, call_line, loop_line, if_line}
 use Rattle.model.specs.Forms.{Forms, done, leaf, call, loop, cond, forms, ◌⊕◌}
 use Rattle.model.specs.Total.{total, tally}
-use Rattle.model.specs.Places.{◌or◌, ◌⊕?◌}
+use Rattle.model.specs.Places.{◌⊕?◌}
 use Rattle.model.specs.Stack.{suffix, turned}
 use Rattle.model.proofs.Places.{never, or_some, ⊕?-some}
 use Rattle.model.proofs.Steps.{total-⊕}
@@ -31,28 +31,6 @@ rules_below hs left lv n (call_line b f r) q h = (omega (arith, h.2), rules_belo
 rules_below hs left lv n (loop_line b m body r) q h = (rules_below hs (left - 1) (suc lv) n body q h.5, rules_below hs left lv n r q h.6)
 rules_below hs left lv n (if_line b t s r) q h =
     (rules_below hs (left - 2) lv n t q h.3, rules_below hs (left - 2) lv n s q h.4, rules_below hs left lv n r q h.5)
-
--- No more is left from a leaf on than from the start of its level.
-pub suffix_less : (f : Forms) (x : ℕ) (s : Forms) → suffix f x ≡ some s → total C s ≤ total C f
-unfolding suffix total
-suffix_less done x s c = never c
-suffix_less (leaf b r) x s c =
-    elim (from_cases b x (leaf b r) (suffix r x) s c) [ inl q ↦ omega (arith, ap (total C) q.1) | inr q ↦ omega (arith, suffix_less r x s q.1) ]
-suffix_less (call b fun r) x s c =
-    elim (from_cases b x (call b fun r) (suffix r x) s c) [ inl q ↦ omega (arith, ap (total C) q.1) | inr q ↦ omega (arith, suffix_less r x s q.1) ]
-suffix_less (loop b n body r) x s c =
-    elim (from_cases b x (loop b n body r) (suffix r x) s c) [ inl q ↦ omega (arith, ap (total C) q.1) | inr q ↦ omega (arith, suffix_less r x s q.1) ]
-suffix_less (cond b t e r) x s c =
-    elim (from_cases b x (cond b t e r) (suffix t x ⊕? r or suffix e x ⊕? r or suffix r x) s c) [
-      | inl q ↦ omega (arith, ap (total C) q.1)
-      | inr q ↦ elim (or_some (suffix t x ⊕? r) (suffix e x ⊕? r or suffix r x) s q.1) [
-        | inl j ↦ let (k, a, d) = ⊕?-some (suffix t x) r s j in omega (arith, suffix_less t x k a, total-⊕ C k r, ap (total C) d)
-        | inr j ↦ elim (or_some (suffix e x ⊕? r) (suffix r x) s j.1) [
-          | inl j ↦ let (k, a, d) = ⊕?-some (suffix e x) r s j in omega (arith, suffix_less e x k a, total-⊕ C k r, ap (total C) d)
-          | inr j ↦ omega (arith, suffix_less r x s j.1)
-        ]
-      ]
-    ]
 
 -- What a leaf's first visit had left, v visits on.
 flat_split : (v : ℕ) (s g : Forms) (c : ℕ) → ((m : ℕ) → turned s (suc m) ≡ none) → turned s v ≡ some g → total C s ≡ v * c + total C g

@@ -10,9 +10,10 @@ use Rattle.std.specs.Prelude.{Some}
 use Rattle.model.specs.Forms.{Forms, done}
 use Rattle.model.specs.Stack.{Levels}
 use Rattle.rows.specs.Rows.{point_at}
-use Rattle.place.specs.Stack.{Decoded, Put, NextStack}
+use Rattle.place.specs.Stack.{Decoded, Put, Stacked}
 use Rattle.place.specs.declared.Found.{Found}
-use Rattle.place.specs.Private.{Level, Stands, Placed, Moved, Finds}
+use Rattle.place.specs.Spans.{Level, Stands}
+use Rattle.place.specs.Private.{Placed, Moved, Finds}
 use Rattle.place.proofs.Decode.{stands_levels, levels_stand}
 
 module _ (main : Forms) (leaves counts new more : List ℕ) (l : ℕ)
@@ -36,11 +37,11 @@ moved_stands main leaves counts new more r x v ks m p c =
 abbrev pub placed : {w starts : List ℕ} {n : ℕ} {leaves counts : List ℕ} {l : ℕ} → 1 ≤ l → Decoded w starts n leaves counts l → Placed w starts n leaves counts l
 placed {n = n} {leaves = leaves} {counts = counts} {l = l} h q =
     let (st, d) = levels_stand (get_or q.table.funs (n - 1) done) leaves counts l q.levels h q.decodes in
-    record { table = q.table; levels = q.levels; depth = d; stands = st; marked = q.marked }
+    record { table = q.table; stack = record { levels = q.levels; depth = d; stands = st; marked = q.marked } }
 
 module _ (w : List ℕ) (l : ℕ) {main : Forms} {leaves counts : List ℕ} {o : Option Levels} {x : ℕ} {f : Found} (z : Finds l main leaves counts o x (Some f)) where
   pub next_some : ((k : ℕ) → 1 ≤ k → k ≤ l → point_at w (get_or leaves k 0) ≡ 1) → point_at w x ≡ 1 →
-      {new more : List ℕ} → Put leaves new f.at x → Put counts more f.at f.count → NextStack w main o leaves counts x (Some (record { level = f.at; leaves = new; earlier = more }))
+      {new more : List ℕ} → Put leaves new f.at x → Put counts more f.at f.count → Stacked w main o leaves counts x new more f.at
   next_some marks px {new} {more} p c =
       let r = f.at in
       let (ks, e, m) = z.2 in

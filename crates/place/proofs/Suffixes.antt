@@ -15,7 +15,10 @@ use Rattle.model.specs.Forms.{Forms, done, leaf, call, loop, cond, ◌⊕◌, fo
 use Rattle.model.specs.Places.{pick, ◌or◌, when, ◌⊕?◌, passes, seek}
 use Rattle.model.specs.Stack.{from, suffix}
 use Rattle.model.proofs.Places.{⊕-assoc, never, known, or_some, ⊕?-some, when_some, at_some, seek-⊕}
-use Rattle.rows.specs.Rows.{other_at, after_at, Rep}
+use Rattle.model.proofs.Steps.{⊕-done}
+use Rattle.rows.specs.Rows.{kind_at, other_at, after_at, Rep}
+use Rattle.rows.specs.First.{rest}
+use Rattle.place.specs.Spans.{first_form}
 use Rattle.place.specs.Private.{Nonempty, next_beyond}
 use Rattle.rows.proofs.Shape.{rep_le}
 
@@ -116,6 +119,86 @@ suffix_past w lv i e (if_line b t s r) G p h le =
     let n = rep_le w lv (after_at w i) e r h.4 in
     suffix_rest b (forms G t) (forms G s) (forms G r) p (λ z. omega (arith, number_of h.0.1)) (suffix_past w lv (i + 1) (other_at w i) t G p h.2 (omega arith))
     (suffix_past w lv (other_at w i) (after_at w i) s G p h.3 (omega arith)) ∙ suffix_past w lv (after_at w i) e r G p h.4 le
+
+-- p lies behind the first form.
+pub suffix_skip : (w : List ℕ) (lv i e : ℕ) (l : Lines) (G : List Forms) (p : ℕ) → Rep w lv i e l → i < e → after_at w i ≤ p → suffix (forms G l) p ≡ suffix (forms G (rest l)) p
+unfolding Rep forms suffix rest
+suffix_skip w lv i e close G p h lt le = refl
+suffix_skip w lv i e (leaf_line b r) G p h lt le = from_on b p _ _ (λ z. omega (arith, number_of h.0.1))
+suffix_skip w lv i e (call_line b f r) G p h lt le = from_on b p _ _ (λ z. omega (arith, number_of h.0.1))
+suffix_skip w lv i e (loop_line b n body r) G p h lt le = let k = rep_le w (suc lv) (i + 1) (after_at w i) body h.3 in from_on b p _ _ (λ z. omega (arith, number_of h.0.1))
+suffix_skip w lv i e (if_line b t s r) G p h lt le =
+    let k = rep_le w lv (i + 1) (other_at w i) t h.2 in
+    let m = rep_le w lv (other_at w i) (after_at w i) s h.3 in
+    suffix_rest b (forms G t) (forms G s) (forms G r) p (λ z. omega (arith, number_of h.0.1)) (suffix_past w lv (i + 1) (other_at w i) t G p h.2 (omega arith))
+    (suffix_past w lv (other_at w i) (after_at w i) s G p h.3 le)
+
+-- THE FIRST FORM ALONE
+
+from_both : (b : Block) (p : ℕ) (f g r : Forms) (o q : Option Forms) → f ≡ g ⊕ r → o ≡ q ⊕? r → from b p f o ≡ from b p g q ⊕? r
+from_both b p f g r o q e h = go (eqb b.number p)
+  where
+    go : (k : Bool) → pick k (some f) o ≡ pick k (some g) q ⊕? r
+    go true = ap some e
+    go false = h
+
+parts_alone : (u v : Option Forms) (r : Forms) → (u ⊕? r or v ⊕? r or none) ≡ (u ⊕? done or v ⊕? done or none) ⊕? r
+parts_alone (some f) v r = ap (λ (g : Forms). some (g ⊕ r)) (sym (⊕-done f))
+parts_alone none (some f) r = ap (λ (g : Forms). some (g ⊕ r)) (sym (⊕-done f))
+parts_alone none none r = refl
+
+alone : (o : Option Forms) → (o ⊕? done or none) ≡ o
+alone none = refl
+alone (some f) = ap some (⊕-done f)
+
+-- A leaf p of the first form: its suffix, and then the rest.
+pub suffix_first : (w : List ℕ) (lv i e : ℕ) (l : Lines) (G : List Forms) (p : ℕ) → Rep w lv i e l → i < e → p < after_at w i →
+    suffix (forms G l) p ≡ suffix (first_form (forms G l)) p ⊕? forms G (rest l)
+unfolding Rep forms suffix rest first_form ◌⊕◌
+suffix_first w lv i e close G p h lt le = absurd (omega arith)
+suffix_first w lv i e (leaf_line b r) G p h lt le =
+    let R = forms G r in from_both b p (leaf b R) (leaf b done) R (suffix R p) none refl (suffix_before w lv (after_at w i) e r G p h.4 le)
+suffix_first w lv i e (call_line b f r) G p h lt le =
+    let R = forms G r in
+    let F = get_or G f done in
+    from_both b p (call b F R) (call b F done) R (suffix R p) none refl (suffix_before w lv (after_at w i) e r G p h.4 le)
+suffix_first w lv i e (loop_line b n body r) G p h lt le =
+    let R = forms G r in
+    let B = forms G body in
+    from_both b p (loop b n B R) (loop b n B done) R (suffix R p) none refl (suffix_before w lv (after_at w i) e r G p h.4 le)
+suffix_first w lv i e (if_line b t s r) G p h lt le =
+    let R = forms G r in
+    let T = forms G t in
+    let S = forms G s in
+    from_both b p (cond b T S R) (cond b T S done) R (suffix T p ⊕? R or suffix S p ⊕? R or suffix R p) (suffix T p ⊕? done or suffix S p ⊕? done or none) refl
+    (rw (suffix_before w lv (after_at w i) e r G p h.4 le) (parts_alone (suffix T p) (suffix S p) R))
+
+-- The first form's own leaf; no other leaf of a form that is no if; one of a part of an if.
+pub first_own : (w : List ℕ) (lv i e : ℕ) (l : Lines) (G : List Forms) (p : ℕ) → Rep w lv i e l → i < e → p ≡ i → suffix (first_form (forms G l)) p ≡ some (first_form (forms G l))
+unfolding Rep forms suffix first_form
+first_own w lv i e close G p h lt q = absurd (omega arith)
+first_own w lv i e (leaf_line b r) G p h lt q = from_here b p _ _ (number_of h.0.1 ∙ sym q)
+first_own w lv i e (call_line b f r) G p h lt q = from_here b p _ _ (number_of h.0.1 ∙ sym q)
+first_own w lv i e (loop_line b n body r) G p h lt q = from_here b p _ _ (number_of h.0.1 ∙ sym q)
+first_own w lv i e (if_line b t s r) G p h lt q = from_here b p _ _ (number_of h.0.1 ∙ sym q)
+
+pub first_flat : (w : List ℕ) (lv i e : ℕ) (l : Lines) (G : List Forms) (p : ℕ) → Rep w lv i e l → i < e → (p ≡ i → ⊥) → (kind_at w i ≡ 3 → ⊥) → suffix (first_form (forms G l)) p ≡ none
+unfolding Rep forms suffix first_form
+first_flat w lv i e close G p h lt q k = absurd (omega arith)
+first_flat w lv i e (leaf_line b r) G p h lt q k = from_on b p _ _ (λ z. q (sym z ∙ number_of h.0.1))
+first_flat w lv i e (call_line b f r) G p h lt q k = from_on b p _ _ (λ z. q (sym z ∙ number_of h.0.1))
+first_flat w lv i e (loop_line b n body r) G p h lt q k = from_on b p _ _ (λ z. q (sym z ∙ number_of h.0.1))
+first_flat w lv i e (if_line b t s r) G p h lt q k = absurd (k h.0.0)
+
+pub first_then : (G : List Forms) (p : ℕ) (l : Lines) (b : Block) (t s r : Lines) → l ≡ if_line b t s r → (p ≡ b.number → ⊥) → suffix (forms G s) p ≡ none →
+    suffix (first_form (forms G l)) p ≡ suffix (forms G t) p
+unfolding forms suffix first_form
+first_then G p l b t s r e q h = ap (λ (l : Lines). suffix (first_form (forms G l)) p) e ∙ rw (ne_eqb b.number p (λ z. q (sym z)), h) (alone (suffix (forms G t) p))
+
+pub first_else : (G : List Forms) (p : ℕ) (l : Lines) (b : Block) (t s r : Lines) → l ≡ if_line b t s r → (p ≡ b.number → ⊥) → suffix (forms G t) p ≡ none →
+    suffix (first_form (forms G l)) p ≡ suffix (forms G s) p
+unfolding forms suffix first_form
+first_else G p l b t s r e q h = ap (λ (l : Lines). suffix (first_form (forms G l)) p) e ∙ rw (ne_eqb b.number p (λ z. q (sym z)), h) (alone (suffix (forms G s) p))
 
 pub suffix_in : (w : List ℕ) (lv i e : ℕ) (l : Lines) (G : List Forms) (p : ℕ) (g : Forms) → Rep w lv i e l → suffix (forms G l) p ≡ some g → (i ≤ p) × (p < e)
 suffix_in w lv i e l G p g h s =

@@ -16,6 +16,7 @@ use Rattle.model.proofs.Statics.{plan_whole, plan_totals, main_last}
 use Rattle.rows.specs.Plans.{PlanIn}
 use Rattle.rows.proofs.Measures.{function_part}
 use Rattle.rows.proofs.Plans.{length_heights, function_kept, function_in, bound_in, leaves_in}
+use Rattle.rows.specs.Costs.{limit}
 use Rattle.place.specs.Stack.{Shallow, FunctionTable}
 use Rattle.place.specs.Times.{Columns}
 use Rattle.place.specs.Plans.{PlanColumns}
@@ -67,10 +68,10 @@ pub low_plan : (p : Plan) → Accepted p → Shallow 32 (get_or (linked [] p.fun
 unfolding Shallow
 low_plan p a = low_all p.functions [] [] 0 refl (λ f. tt) (λ f. tt) a.formed.each (length p.functions - 1)
 
-pub short_main : (p : Plan) → Accepted p → total C (get_or (linked [] p.functions) (length p.functions - 1) done) ≤ 1099511627776
+pub short_main : (p : Plan) → Accepted p → total C (get_or (linked [] p.functions) (length p.functions - 1) done) ≤ limit
 short_main p a =
     let (r, e) = (total_largest C (main p)).met in
-    let z : 2 ^ 40 ≡ 1099511627776 = refl in
+    let z : 2 ^ 40 ≡ limit = refl in
     omega (arith, a.short r, e, z, ap (total C) (main_last p))
 
 module _ {w starts : List ℕ} (p : Plan) (a : Accepted p) (d : PlanIn w starts p) where

@@ -14,24 +14,20 @@ use Rattle.model.specs.Forms.{Forms, done, call, loop}
 use Rattle.model.specs.Total.{total}
 use Rattle.model.specs.Stack.{Levels, below, whole}
 use Rattle.model.proofs.Levels.{behind_call, behind_loop, remaining_level, first_level, inside_call, inside_loop}
-use Rattle.model.proofs.Steps.{Prefix, here, past_by, remains, step_falls}
 use Rattle.rows.specs.Rows.{kind_at, isolated_at, detail_at, block_at}
+use Rattle.rows.specs.Costs.{limit}
 use Rattle.place.specs.Stack.{Put}
-use Rattle.place.specs.Private.{Stands, ground, inner_time, first_time, level_time, LevelFits, Fares}
+use Rattle.place.specs.Private.{inner_time, first_time, level_time, LevelFits, Fares}
+use Rattle.place.specs.Spans.{Stands, ground}
 use Rattle.place.specs.Times.{TimesAt, outer_levels, CostedStack, Clocked}
 use Rattle.place.proofs.Views.{leaf_low}
 use Rattle.place.proofs.Falling.{Top, head_of}
 use Rattle.place.proofs.Finding.{running, front}
 use Rattle.place.proofs.Decode.{stands_comes}
 use Rattle.place.proofs.Stacking.{placed}
-use Rattle.place.proofs.Pricing.{At, suffix_less, turned_split}
+use Rattle.place.proofs.Coming.{suffix_less, comes_less}
+use Rattle.place.proofs.Pricing.{At, turned_split}
 use Rattle.place.proofs.Floors.{Under, lowest, in_call, in_loop, Floor, floor, at_leaf}
-
--- A run never has more left than at its start.
-falls : {fs : Forms} (p : Prefix fs) → total C (remains p) ≤ total C fs
-unfolding remains
-falls here = omega arith
-falls (past_by s p) = omega (arith, falls p, step_falls C s)
 
 -- At a first visit inside the loop or call at p, from what remained at its visit.
 pub record Inside (w tails totals : List ℕ) (p time tail left : ℕ) : Type 0 where
@@ -39,10 +35,10 @@ pub record Inside (w tails totals : List ℕ) (p time tail left : ℕ) : Type 0 
   pub least : left ≤ time
   pub loop_fits : kind_at w p ≡ 2 → (tail ≤ get_or tails p 0) × (get_or tails p 0 - tail ≤ time)
   pub call_fits : (kind_at w p ≡ 2 → ⊥) →
-      (detail_at w p < 16) × (isolated_at w p + get_or totals (detail_at w p) 0 ≤ time) × (time - isolated_at w p - get_or totals (detail_at w p) 0 + tail ≤ 1099511627776)
+      (detail_at w p < 16) × (isolated_at w p + get_or totals (detail_at w p) 0 ≤ time) × (time - isolated_at w p - get_or totals (detail_at w p) 0 + tail ≤ limit)
 
 inside_first : (w tails totals : List ℕ) (n p time tail : ℕ) (ks : Levels) (f s : Forms) (e : ℕ) → Under w tails totals n p ks f e → 1 ≤ length ks →
-    tail ≡ total C s + e → total C s ≤ total C f → time ≡ total C (whole ks) → time ≤ 1099511627776 → n ≤ 16 →
+    tail ≡ total C s + e → total C s ≤ total C f → time ≡ total C (whole ks) → time ≤ limit → n ≤ 16 →
     Inside w tails totals p time tail (total C (whole (s ∷ ks)))
 inside_first w tails totals n p time tail ks f s e (lowest z d) one ht le hw small few = absurd (omega (arith, ap length z))
 inside_first w tails totals n p time tail ks f s e (in_call k lt tot r ls z d) one ht le hw small few =
@@ -99,7 +95,7 @@ down q one =
     record {
       starts = q.starts;
       columns = q.columns;
-      placed = record { table = q.placed.table; levels = t.under; depth = omega (arith, t.depth); stands = t.stands; marked = λ k a b. q.placed.marked k a (omega arith) };
+      placed = record { table = q.placed.table; stack = record { levels = t.under; depth = omega (arith, t.depth); stands = t.stands; marked = λ k a b. q.placed.stack.marked k a (omega arith) } };
     }
 
 -- The time of the innermost level, from those of the levels below.
@@ -107,13 +103,11 @@ module _ {w tails turns totals leaves counts : List ℕ} {n l : ℕ} (q : Fares 
   abbrev main : Forms
   main = get_or q.placed.table.funs (n - 1) done
 
-  abbrev pub tip : Top (get_or q.placed.table.funs (n - 1) done) leaves counts l q.placed.levels
+  abbrev pub tip : Top (get_or q.placed.table.funs (n - 1) done) leaves counts l q.placed.stack.levels
   tip = front q.placed one
 
-  whole_small : (ls : Levels) → 1 ≤ length ls → Stands main leaves counts ls → total C (whole ls) ≤ 1099511627776
-  whole_small ls h st =
-      let (r, e) = stands_comes main leaves counts ls h st in
-      omega (arith, falls r, ap (total C) e, q.columns.bounded)
+  whole_small : (ls : Levels) → 1 ≤ length ls → Stands main leaves counts ls → total C (whole ls) ≤ limit
+  whole_small ls h st = omega (arith, comes_less C (stands_comes main leaves counts ls h st), q.columns.bounded)
 
   stage : Floor q.placed.table q.columns leaves tip.under tip.level.level
   stage = floor q.placed.table q.columns leaves counts tip.under tip.stands tip.level.level tip.level.opens
@@ -122,7 +116,7 @@ module _ {w tails turns totals leaves counts : List ℕ} {n l : ℕ} (q : Fares 
   own = at_leaf q.placed.table q.columns stage.inner (get_or leaves l 0) tip.level.start tip.level.found
 
   leaf_small : (m : ℕ) → ((f : ℕ) → f < n → get_or q.starts (f + 1) 0 ≤ m) → (k : ℕ) → 1 ≤ k → k ≤ l → get_or leaves k 0 < m
-  leaf_small m h k lo hi = leaf_low q.placed.table m h leaves counts q.placed.levels q.placed.stands k lo (omega (arith, q.placed.depth))
+  leaf_small m h k lo hi = leaf_low q.placed.table m h leaves counts q.placed.stack.levels q.placed.stack.stands k lo (omega (arith, q.placed.stack.depth))
 
 module _ {w tails turns totals leaves counts : List ℕ} {n l : ℕ} (q : Fares w tails turns totals leaves counts n l) (one : 1 ≤ l) where
   -- The visits made took as many rounds.
@@ -136,7 +130,7 @@ module _ {w tails turns totals leaves counts : List ℕ} {n l : ℕ} (q : Fares 
         let z : length (tip q one).under ≡ l - 1 = omega (arith, (tip q one).depth) in
         let t : get_or times (l - 1) 0 ≡ total C (whole (tip q one).under) = rw z at (times_top (main q one) times (tip q one).under (omega arith) lower) in
         let s = whole_small q one (tip q one).under (omega arith) (tip q one).stands in
-        inside_first w tails totals n (get_or leaves (l - 1) 0) (get_or times (l - 1) 0) (get_or tails (get_or leaves l 0) 0) (tip q one).under (tip q one).level.level (tip q one).level.start (stage q one).e (rw z at (stage q one).under) (omega arith) (own q one).tail (suffix_less (tip q one).level.level (get_or leaves l 0) (tip q one).level.start (tip q one).level.found) t (omega (arith, t, s)) q.columns.few_functions
+        inside_first w tails totals n (get_or leaves (l - 1) 0) (get_or times (l - 1) 0) (get_or tails (get_or leaves l 0) 0) (tip q one).under (tip q one).level.level (tip q one).level.start (stage q one).e (rw z at (stage q one).under) (omega arith) (own q one).tail (suffix_less C (tip q one).level.level (get_or leaves l 0) (tip q one).level.start (tip q one).level.found) t (omega (arith, t, s)) q.columns.few_functions
 
     first_is : first_time w tails totals leaves times l ≡ total C (whole ((tip q one).level.start ∷ (tip q one).under))
     first_is =
@@ -149,7 +143,7 @@ module _ {w tails turns totals leaves counts : List ℕ} {n l : ℕ} (q : Fares 
               rw o (omega (arith, (own q one).tail, d, y))
         ]
 
-    first_small : total C (whole ((tip q one).level.start ∷ (tip q one).under)) ≤ 1099511627776
+    first_small : total C (whole ((tip q one).level.start ∷ (tip q one).under)) ≤ limit
     first_small =
         elim (dec_le 2 l) [
           | yes h ↦
@@ -160,11 +154,11 @@ module _ {w tails turns totals leaves counts : List ℕ} {n l : ℕ} (q : Fares 
               let (z, d) = under_none (stage q one).under (omega (arith, (tip q one).depth)) in
               let y : total C (whole ((tip q one).level.start ∷ (tip q one).under)) ≡ total C (tip q one).level.start = ap (λ (ks : Levels). total C (whole ((tip q one).level.start ∷ ks))) z ∙ first_level C (tip q one).level.start in
               let g = ground_none (main q one) (tip q one).under (tip q one).level.level z (tip q one).level.opens in
-              let s = suffix_less (tip q one).level.level (get_or leaves l 0) (tip q one).level.start (tip q one).level.found in
+              let s = suffix_less C (tip q one).level.level (get_or leaves l 0) (tip q one).level.start (tip q one).level.found in
               omega (arith, y, s, ap (total C) g, q.columns.bounded)
         ]
 
-    both : (total C (whole q.placed.levels) ≡ total C (tip q one).place + total C (below (tip q one).under)) ×
+    both : (total C (whole q.placed.stack.levels) ≡ total C (tip q one).place + total C (below (tip q one).under)) ×
         (total C (whole ((tip q one).level.start ∷ (tip q one).under)) ≡ total C (tip q one).level.start + total C (below (tip q one).under))
     both = (
       ap (λ (ls : Levels). total C (whole ls)) (tip q one).same ∙ remaining_level C (tip q one).place (tip q one).under,
@@ -187,41 +181,41 @@ module _ {w tails turns totals leaves counts : List ℕ} {n l : ℕ} (q : Fares 
           bounded = omega (arith, first_is, first_small);
         }
 
-    pub time_is : level_time w tails turns totals leaves counts times l ≡ total C (whole q.placed.levels)
+    pub time_is : level_time w tails turns totals leaves counts times l ≡ total C (whole q.placed.stack.levels)
     time_is = omega (arith, first_is, split, both)
 
 -- The new time, put at its level.
 module _ {w tails turns totals leaves counts : List ℕ} {n l : ℕ} (q : Fares w tails turns totals leaves counts n l) (one : 1 ≤ l) (times : List ℕ) where
-  pub joined : TimesAt (main q one) times (tip q one).under → get_or times l 0 ≡ total C (whole q.placed.levels) → TimesAt (main q one) times q.placed.levels
+  pub joined : TimesAt (main q one) times (tip q one).under → get_or times l 0 ≡ total C (whole q.placed.stack.levels) → TimesAt (main q one) times q.placed.stack.levels
   unfolding TimesAt
   joined z e =
       rw (tip q one).same (ap (λ (k : ℕ). get_or times k 0) (tip q one).depth ∙ e ∙ ap (λ (ls : Levels). total C (whole ls)) (tip q one).same, z)
 
-  pub lower_part : TimesAt (main q one) times q.placed.levels → TimesAt (main q one) times (tip q one).under
+  pub lower_part : TimesAt (main q one) times q.placed.stack.levels → TimesAt (main q one) times (tip q one).under
   unfolding TimesAt
   lower_part z = (rw (tip q one).same at z).1
 
-  pub top_part : TimesAt (main q one) times q.placed.levels → get_or times l 0 ≡ total C (whole q.placed.levels)
+  pub top_part : TimesAt (main q one) times q.placed.stack.levels → get_or times l 0 ≡ total C (whole q.placed.stack.levels)
   unfolding TimesAt
   top_part z =
       ap (λ (k : ℕ). get_or times k 0) (sym (tip q one).depth) ∙ (rw (tip q one).same at z).0 ∙ ap (λ (ls : Levels). total C (whole ls)) (sym (tip q one).same)
 
 module _ {w tails turns totals leaves counts : List ℕ} {n l : ℕ} (q : Fares w tails turns totals leaves counts n l) (one : 1 ≤ l) (times : List ℕ) where
   pub put_times : TimesAt (main q one) times (tip q one).under → {t : ℕ} {new : List ℕ} → t ≡ level_time w tails turns totals leaves counts times l → Put times new l t →
-      TimesAt (main q one) new q.placed.levels
+      TimesAt (main q one) new q.placed.stack.levels
   put_times z {t} {new} h p =
       joined q one new (times_same (main q one) times new l p.under (tip q one).under (omega (arith, (tip q one).depth)) z) (p.here ∙ h ∙ time_is q one times z)
 
   -- The kept times up to level l, where those below it are right.
   pub time_right : TimesAt (main q one) times (tip q one).under → {t : ℕ} → t ≡ level_time w tails turns totals leaves counts times l → get_or times l 0 ≡ t →
-      TimesAt (main q one) times q.placed.levels
+      TimesAt (main q one) times q.placed.stack.levels
   time_right z h e = joined q one times z (e ∙ h ∙ time_is q one times z)
 
   pub time_wrong : TimesAt (main q one) times (tip q one).under → {t : ℕ} → t ≡ level_time w tails turns totals leaves counts times l → (get_or times l 0 ≡ t → ⊥) →
-      TimesAt (main q one) times q.placed.levels → ⊥
+      TimesAt (main q one) times q.placed.stack.levels → ⊥
   time_wrong z h e y = e (top_part q one times y ∙ sym (h ∙ time_is q one times z))
 
-  pub lower_wrong : (TimesAt (main q one) times (tip q one).under → ⊥) → TimesAt (main q one) times q.placed.levels → ⊥
+  pub lower_wrong : (TimesAt (main q one) times (tip q one).under → ⊥) → TimesAt (main q one) times q.placed.stack.levels → ⊥
   lower_wrong h z = h (lower_part q one times z)
 
 -- Level 0 holds the total.
@@ -234,11 +228,11 @@ module _ {w tails turns totals leaves counts : List ℕ} {n l : ℕ} (q : Fares 
   main_total : get_or totals (n - 1) 0 ≡ total C (get_or q.placed.table.funs (n - 1) done)
   main_total = q.columns.totals_are (n - 1) (omega (arith, q.placed.table.count))
 
-  pub base_right : (times : List ℕ) → l ≡ 0 → get_or times 0 0 ≡ get_or totals (n - 1) 0 → TimesAt (get_or q.placed.table.funs (n - 1) done) times q.placed.levels
-  base_right times h e = (times_none _ times q.placed.levels (q.placed.depth ∙ h)).0 (e ∙ main_total)
+  pub base_right : (times : List ℕ) → l ≡ 0 → get_or times 0 0 ≡ get_or totals (n - 1) 0 → TimesAt (get_or q.placed.table.funs (n - 1) done) times q.placed.stack.levels
+  base_right times h e = (times_none _ times q.placed.stack.levels (q.placed.stack.depth ∙ h)).0 (e ∙ main_total)
 
-  pub base_wrong : (times : List ℕ) → l ≡ 0 → (get_or times 0 0 ≡ get_or totals (n - 1) 0 → ⊥) → TimesAt (get_or q.placed.table.funs (n - 1) done) times q.placed.levels → ⊥
-  base_wrong times h e z = e ((times_none _ times q.placed.levels (q.placed.depth ∙ h)).1 z ∙ sym main_total)
+  pub base_wrong : (times : List ℕ) → l ≡ 0 → (get_or times 0 0 ≡ get_or totals (n - 1) 0 → ⊥) → TimesAt (get_or q.placed.table.funs (n - 1) done) times q.placed.stack.levels → ⊥
+  base_wrong times h e z = e ((times_none _ times q.placed.stack.levels (q.placed.stack.depth ∙ h)).1 z ∙ sym main_total)
 
 -- The same of a stack that decodes.
 abbrev pub fares : {w tails turns totals leaves counts : List ℕ} {n l : ℕ} → 1 ≤ l → CostedStack w tails turns totals leaves counts n l → Fares w tails turns totals leaves counts n l
@@ -252,11 +246,11 @@ module _ {w tails turns totals leaves counts : List ℕ} {l : ℕ} {times : List
 -- The kept times level by level, from level 0 up: they are right up to level k, or wrong there.
 abbrev pub Right : (w tails turns totals leaves counts : List ℕ) (n : ℕ) (times : List ℕ) → ℕ → Type 0
 Right w tails turns totals leaves counts n times k =
-    (z : Fares w tails turns totals leaves counts n k) → TimesAt (get_or z.placed.table.funs (n - 1) done) times z.placed.levels
+    (z : Fares w tails turns totals leaves counts n k) → TimesAt (get_or z.placed.table.funs (n - 1) done) times z.placed.stack.levels
 
 abbrev pub Wrong : (w tails turns totals leaves counts : List ℕ) (n : ℕ) (times : List ℕ) → ℕ → Type 0
 Wrong w tails turns totals leaves counts n times k =
-    (z : Fares w tails turns totals leaves counts n k) → TimesAt (get_or z.placed.table.funs (n - 1) done) times z.placed.levels → ⊥
+    (z : Fares w tails turns totals leaves counts n k) → TimesAt (get_or z.placed.table.funs (n - 1) done) times z.placed.stack.levels → ⊥
 
 module _ {w tails turns totals leaves counts : List ℕ} {n : ℕ} (times : List ℕ) where
   pub right_none : get_or times 0 0 ≡ get_or totals (n - 1) 0 → (k : ℕ) → k < 1 → Right w tails turns totals leaves counts n times k

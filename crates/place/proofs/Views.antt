@@ -19,7 +19,8 @@ use Rattle.model.proofs.Steps.{⊕-done}
 use Rattle.rows.specs.Rows.{kind_at, detail_at, other_at, after_at, block_at, Rep, Rules, Piece}
 use Rattle.place.specs.Pieces.{Spanned}
 use Rattle.place.specs.Stack.{FunctionTable}
-use Rattle.place.specs.Private.{Stands, ground, Enterable, inner_from, inner_to, base_from, base_to}
+use Rattle.place.specs.Spans.{Stands, ground, Enterable, inner_from, inner_to, base_from, base_to}
+use Rattle.place.specs.Private.{Nonempty}
 use Rattle.rows.proofs.Shape.{rep_le}
 use Rattle.place.proofs.Shape.{rules_more}
 use Rattle.place.proofs.Suffixes.{number_of}
@@ -103,6 +104,16 @@ turned_loop zero b n body r g e = (n, omega arith, cc)
 turned_loop (suc v) b zero body r g e = never e
 turned_loop (suc v) b (suc n) body r g e = let (m, p, q) = turned_loop v b n body r g e in (m, omega arith, q)
 
+-- Only a loop is visited again, and a loop is left then.
+pub turned_suc : (v : ℕ) (s g : Forms) → turned s (suc v) ≡ some g → (b : Block) × (n : ℕ) × (m : ℕ) × (body : Forms) × (r : Forms) × (s ≡ loop b n body r) × (g ≡ loop b m body r)
+unfolding turned
+turned_suc v done g e = never e
+turned_suc v (leaf b r) g e = never e
+turned_suc v (call b fun r) g e = never e
+turned_suc v (loop b zero body r) g e = never e
+turned_suc v (loop b (suc n) body r) g e = let (m, p, q) = turned_loop v b n body r g e in (b, suc n, m, body, r, refl, q)
+turned_suc v (cond b t s r) g e = never e
+
 -- The forms that a level opens with, by the kind of its leaf's record.
 pub data View (w : List ℕ) (G : List Forms) (k p v e : ℕ) (g : Forms) : Type 0 where
   a_leaf : kind_at w p ≡ 0 → (r : Forms) → g ≡ leaf (block_at w p) r → View w G k p v e g
@@ -134,6 +145,12 @@ pub view : {w : List ℕ} {G : List Forms} {k i e : ℕ} {f : Forms} → Spanned
 view {w} {G} {k} {i} {e} {f} q p v s g c t =
     let d = stood w q.piece.heights G 62 q.piece.level i e q.piece.part.lines p s q.piece.part.rep q.piece.part.rules (rw q.same at c) in
     (view_lines w q.piece.heights G k d.level p v d.stop e g q.few d.lines d.rep d.rules d.there d.within d.behind s d.same t, omega (arith, d.there, d.within))
+
+pub view_headed : {w : List ℕ} {G : List Forms} {k p v e : ℕ} {g : Forms} → View w G k p v e g → Nonempty g
+view_headed (a_leaf k r z) = rw z tt
+view_headed (a_call k t r z) = rw z tt
+view_headed (a_loop k q cs le m s r z) = rw z tt
+view_headed (an_if k t s r z) = rw z tt
 
 -- Inside the loop or call that a level opens with.
 module _ {w starts : List ℕ} {n : ℕ} (pr : FunctionTable w starts n) where
@@ -173,15 +190,20 @@ module _ {w starts : List ℕ} {n : ℕ} (pr : FunctionTable w starts n) where
       Spanned w pr.funs n (base_from w starts n leaves l) (base_to w starts n leaves l) f
   base_up leaves l h f s = let o : eqb l 1 ≡ false = ne_eqb l 1 (λ y. omega arith) in rw o s
 
+  -- The main function.
+  pub main_spanned : {i e : ℕ} → i ≡ get_or starts (n - 1) 0 → e ≡ get_or starts n 0 → Spanned w pr.funs n i e (get_or pr.funs (n - 1) done)
+  main_spanned hi he =
+      let h : n - 1 + 1 ≡ n = omega (arith, pr.count) in
+      let sp = rw h at (pr.each (n - 1) (omega (arith, pr.count))) in
+      rw (hi, he) sp
+
   pub level_spanned : (leaves counts : List ℕ) (ks : Levels) → Stands (get_or pr.funs (n - 1) done) leaves counts ks → (f : Forms) → ground (get_or pr.funs (n - 1) done) ks ≡ some f →
       Spanned w pr.funs n (base_from w starts n leaves (length ks + 1)) (base_to w starts n leaves (length ks + 1)) f ×
       (1 ≤ length ks → Enterable w starts (get_or leaves (length ks) 0))
   unfolding Stands ground
   level_spanned leaves counts [] st f c =
       let d : get_or pr.funs (n - 1) done ≡ f = cc in
-      let h : n - 1 + 1 ≡ n = omega (arith, pr.count) in
-      let sp = pr.each (n - 1) (omega (arith, pr.count)) in
-      (rw d at (rw h at sp), λ y. absurd (omega arith))
+      (spanned_same d (main_spanned refl refl), λ y. absurd (omega arith))
   level_spanned leaves counts (g ∷ ks) st f c =
       let lv = st.1 in
       let p = get_or leaves (length ks + 1) 0 in

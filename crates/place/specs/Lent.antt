@@ -1,6 +1,5 @@
 -- The same of lent code, a place and a row of leaf records: what the contracts say over lists of numbers. Assumes nothing: these are definitions.
-use Rattle.std.specs.Prelude.{ℕ, ◌-◌, ◌≤◌, List, get_or}
-use Rattle.std.specs.Prelude.{Option as RustOption}
+use Rattle.std.specs.Prelude.{ℕ, ◌-◌, ◌≤◌, Bool, List, get_or}
 use Rattle.std.proofs.Math.Option.{Option}
 use Rattle.model.specs.Forms.{Forms, done}
 use Rattle.model.specs.Stack.{Levels}
@@ -29,9 +28,9 @@ pub record PlaceDecoded (c : Code) (p : Place) : Type 0 where
 abbrev pub PlaceDecodes : Code → Forms → Place → Type 0
 PlaceDecodes c main p = Decodes (numbers c.row.now) main p.leaves p.earlier p.level
 
--- The new place is that of the levels o, over the arrays of the old one; or there is no such place.
-abbrev pub NextPlace : Code → Forms → Option Levels → Place → ℕ → RustOption Place → Type 0
-NextPlace c main o old x new = NextStack (numbers c.row.now) main o old.leaves old.earlier x new
+-- The place was moved on to that of the levels o, over its own arrays (true); or there is no such place, and it is as it was.
+abbrev pub NextPlace : Code → Forms → Option Levels → Place → ℕ → Bool → Place → Type 0
+NextPlace c main o old x moved new = NextStack (numbers c.row.now) main o old x moved new
 
 -- The place decodes at one of the 32 levels, and the tails and turns in the code's leaves and these totals are those of the plan.
 pub record PlaceCosted (c : Code) (totals : List ℕ) (p : Place) : Type 0 where

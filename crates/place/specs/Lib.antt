@@ -1,5 +1,6 @@
 pub mod Pieces
 pub mod Stack
+pub mod Spans
 pub mod Times
 pub mod Plans
 pub mod Lent

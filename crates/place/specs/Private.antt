@@ -1,81 +1,76 @@
 -- What only the private functions promise. Nothing of this stands in the contract of a public one.
 -- Assumes nothing: these are definitions.
-use Rattle.model.specs.Forms.{Forms, done, leaf, call, loop, cond, ◌⊕◌}
 use Rattle.std.specs.Prelude.{Some, None, ℕ, ◌+◌, ◌-◌, ◌*◌, ◌≤◌, ◌<◌, Bool, true, false, ◌||◌, ◌&&◌, eqb, ◌≡◌, List, [], ◌∷◌, ◌⊎◌, length, get_or}
 use Rattle.std.specs.Prelude.{Option as RustOption}
 use Rattle.std.proofs.Math.Option.{Option, none, some}
-use Rattle.model.specs.Places.{pick, ◌or◌, passes, seek, can_end, no_more, no_further}
-use Rattle.model.specs.Stack.{Levels, behind, below, whole, ◌else_at◌, given, onto, seek_at, suffix, turned, inside_of}
-use Rattle.rows.specs.Rows.{kind_at, point_at, detail_at, after_at, isolated_at, Piece}
+use Rattle.model.specs.Forms.{Forms, done, leaf, call, loop, cond, ◌⊕◌}
+use Rattle.model.specs.Places.{pick, ◌or◌, passes, seek}
+use Rattle.model.specs.Stack.{Levels, behind, ◌else_at◌, given, onto, seek_at, suffix, turned}
+use Rattle.rows.specs.Rows.{kind_at, point_at, detail_at, isolated_at, Piece}
 use Rattle.rows.specs.Leaves.{numbers, lent_turns, lent_tails}
 use Rattle.rows.specs.declared.Leaf.{Leaf}
 use Rattle.rows.specs.declared.Code.{Code}
+use Rattle.rows.specs.Costs.{limit}
 use Rattle.place.specs.declared.Sight.{Sight}
 use Rattle.place.specs.declared.Found.{Found}
 use Rattle.place.specs.declared.Place.{Place}
+use Rattle.place.specs.Spans.{Level, Stands, MayTurn, inner_from, inner_to}
 use Rattle.place.specs.Stack.{FunctionTable}
 use Rattle.place.specs.Times.{Columns}
+
+-- The leaves from i up to e are there, and are forms.
+pub record Held (row : List Leaf) (i e : ℕ) : Type 0 where
+  pub room : e ≤ length row
+  pub left : ℕ
+  pub forms : Piece (numbers row) left i e
+
+-- The records inside the loop or call at h are there, and are forms.
+abbrev pub HeadHeld : Code → ℕ → Type 0
+HeadHeld c h = Held c.row.now (inner_from (numbers c.row.now) c.bounds.now h) (inner_to (numbers c.row.now) c.bounds.now h)
+
+-- The records inside the loop or call at h are forms.
+abbrev pub HeadPiece : Code → ℕ → Type 0
+HeadPiece c h = Piece (numbers c.row.now) 62 (inner_from (numbers c.row.now) c.bounds.now h) (inner_to (numbers c.row.now) c.bounds.now h)
+
+-- The stack holds up to level l: its levels stand at the leaf numbers and visit counts, and each leaf is a point.
+pub record StackStands (w : List ℕ) (main : Forms) (leaves counts : List ℕ) (l : ℕ) : Type 0 where
+  pub levels : Levels
+  pub depth : length levels ≡ l
+  pub stands : Stands main leaves counts levels
+  pub marked : (k : ℕ) → 1 ≤ k → k ≤ l → point_at w (get_or leaves k 0) ≡ 1
+
+-- A run of this table stands at the leaf numbers with the visit counts, at level l: the stack holds up to it.
+pub record Placed (w starts : List ℕ) (n : ℕ) (leaves counts : List ℕ) (l : ℕ) : Type 0 where
+  pub table : FunctionTable w starts n
+  pub stack : StackStands w (get_or table.funs (n - 1) done) leaves counts l
+
+-- A run of the code stands at the place, at one of the 32 levels.
+pub record PlaceStands (c : Code) (p : Place) : Type 0 where
+  pub least : 1 ≤ p.level
+  pub most : p.level ≤ 32
+  pub placed : Placed (numbers c.row.now) c.bounds.now c.functions p.leaves p.earlier p.level
 
 -- Whether a place is there.
 abbrev pub there : Option Forms → Bool
 there none = false
 there (some f) = true
 
--- What is left to run when forms come in silence to the point sought, if one is.
-abbrev pub sought : Forms → RustOption ℕ → Option Forms
-sought f None = none
-sought f (Some x) = seek f x
-
--- What the ways through forms meet: whether some way meets no point, whether none meets one, and whether some way comes in silence to the point sought.
-abbrev pub sight_of : Forms → RustOption ℕ → Sight
-sight_of f x = record { free = passes f; mute = no_more f; meets = there (sought f x) }
+-- What the ways through forms meet: whether some way meets no point, and whether some way comes in silence to x, the point sought.
+abbrev pub sight_of : Forms → ℕ → Sight
+sight_of f x = record { free = passes f; meets = there (seek f x) }
 
 -- Nothing; a point; one behind the other; one or the other.
 abbrev pub nothing : Sight
-nothing = record { free = true; mute = true; meets = false }
+nothing = record { free = true; meets = false }
 
-abbrev pub is_sought : RustOption ℕ → ℕ → Bool
-is_sought None i = false
-is_sought (Some x) i = eqb i x
-
-abbrev pub sight_at : ℕ → RustOption ℕ → Sight
-sight_at i x = record { free = false; mute = false; meets = is_sought x i }
+abbrev pub sight_at : ℕ → ℕ → Sight
+sight_at i x = record { free = false; meets = eqb i x }
 
 abbrev pub series : Sight → Sight → Sight
-series x y = record { free = x.free && y.free; mute = x.mute && y.mute; meets = x.meets || (x.free && y.meets) }
+series x y = record { free = x.free && y.free; meets = x.meets || (x.free && y.meets) }
 
 abbrev pub either : Sight → Sight → Sight
-either x y = record { free = x.free || y.free; mute = x.mute && y.mute; meets = x.meets || y.meets }
-
--- The same of what is inside the first form at its own level, behind its block.
-unfoldable pub sight_parts : Forms → RustOption ℕ → Sight
-sight_parts done x = nothing
-sight_parts (leaf b r) x = nothing
-sight_parts (call b fun r) x = nothing
-sight_parts (loop b n body r) x = nothing
-sight_parts (cond b t e r) x = either (sight_of t x) (sight_of e x)
-
--- The same behind the visit that the forms open with, a loop left and a call passed.
-unfoldable pub sight_beyond : Forms → RustOption ℕ → Sight
-sight_beyond done x = sight_at 0 None
-sight_beyond (leaf b r) x = sight_of r x
-sight_beyond (call b fun r) x = sight_of r x
-sight_beyond (loop b n body r) x = sight_of r x
-sight_beyond (cond b t e r) x = series (either (sight_of t x) (sight_of e x)) (sight_of r x)
-
--- The same behind a leaf, if it is there.
-unfoldable pub sight_behind : Option Forms → RustOption ℕ → RustOption Sight
-sight_behind none x = None
-sight_behind (some g) x = Some (sight_beyond g x)
-
--- The same behind the leaf p, as far as the first form goes.
-unfoldable pub sight_within : Forms → ℕ → RustOption ℕ → RustOption Sight
-sight_within done p x = None
-sight_within (leaf b r) p x = pick (eqb b.number p) (Some nothing) None
-sight_within (call b fun r) p x = pick (eqb b.number p) (Some nothing) None
-sight_within (loop b n body r) p x = pick (eqb b.number p) (Some nothing) None
-sight_within (cond b t e r) p x =
-    pick (eqb b.number p) (Some (either (sight_of t x) (sight_of e x))) (sight_behind (suffix t p or suffix e p) x)
+either x y = record { free = x.free || y.free; meets = x.meets || y.meets }
 
 -- What is left to run when forms come to x behind the visit that they open with, a loop left and a call passed.
 unfoldable pub next_beyond : Forms → ℕ → Option Forms
@@ -93,33 +88,14 @@ quits (call b fun r) = passes r
 quits (loop b n body r) = passes r
 quits (cond b t e r) = passes (t ⊕ r) || passes (e ⊕ r)
 
--- What the level above ks runs.
-unfoldable pub ground : Forms → Levels → Option Forms
-ground main [] = some main
-ground main (g ∷ ks) = inside_of g
+-- What the ways through meet behind the visit that the forms open with, a loop left and a call passed.
+abbrev pub sight_beyond : Forms → ℕ → Sight
+sight_beyond f x = record { free = quits f; meets = there (next_beyond f x) }
 
--- At the level above ks the leaf n was reported last, after v earlier visits there; g was left at its own level then.
-pub record Level (main : Forms) (ks : Levels) (n v : ℕ) (g : Forms) : Type 0 where
-  pub level : Forms
-  pub opens : ground main ks ≡ some level
-  pub start : Forms
-  pub found : suffix level n ≡ some start
-  pub turns : turned start v ≡ some g
-
--- The levels are those of the leaf numbers and visit counts (entry 1 is the outermost level's).
-unfoldable pub Stands : Forms → List ℕ → List ℕ → Levels → Type 0
-Stands main leaves counts [] = Unit {0}
-Stands main leaves counts (g ∷ ks) =
-    Stands main leaves counts ks × Level main ks (get_or leaves (length ks + 1) 0) (get_or counts (length ks + 1) 0) g
-
--- A run of this table stands at the leaf numbers, at level l; each of them is a point.
-pub record Running (w starts : List ℕ) (n : ℕ) (leaves : List ℕ) (l : ℕ) : Type 0 where
-  pub table : FunctionTable w starts n
-  pub counts : List ℕ
-  pub levels : Levels
-  pub depth : length levels ≡ l
-  pub stands : Stands (get_or table.funs (n - 1) done) leaves counts levels
-  pub marked : (k : ℕ) → 1 ≤ k → k ≤ l → point_at w (get_or leaves k 0) ≡ 1
+-- The same behind a leaf, if it is there.
+unfoldable pub sight_behind : Option Forms → ℕ → RustOption Sight
+sight_behind none x = None
+sight_behind (some g) x = Some (sight_beyond g x)
 
 -- Where the run comes to x once it is back at the loop or call that the innermost level opens with.
 unfoldable pub return_at : Levels → ℕ → Option Levels
@@ -130,15 +106,6 @@ return_at (g ∷ ks) x = seek_at (behind g) ks x
 unfoldable pub fall_at : Levels → ℕ → Option Levels
 fall_at [] x = none
 fall_at (g ∷ ks) x = onto ks (next_beyond g x) else_at given (quits g) (return_at ks x)
-
--- What is met once the run has left the form that the innermost level opens with (a loop for good), down to the end.
-unfoldable pub levels_sight : Levels → Sight
-levels_sight [] = nothing
-levels_sight (g ∷ ks) = series (sight_beyond g None) (sight_of (below ks) None)
-
--- The same behind the visit at a place: whether the run can end, and whether no further point can come.
-abbrev pub sight_ahead : Levels → Sight
-sight_ahead ls = record { free = can_end (whole ls); mute = no_further (whole ls); meets = false }
 
 -- The earlier visits of x at level r when it is reported there: a new leaf there, or its loop's next visit.
 abbrev pub visits_there : List ℕ → List ℕ → ℕ → ℕ → ℕ
@@ -159,42 +126,11 @@ Lands main leaves counts ls x None = fall_at ls x ≡ none
 Lands main leaves counts ls x (Some r) =
     (1 ≤ r) × (r ≤ length ls) × ((ks : Levels) × (fall_at ls x ≡ some ks) × Moved main leaves counts r x (visits_there leaves counts r x) ks)
 
--- Where the records inside the loop or call at h begin, and where they end.
-abbrev pub inner_from : List ℕ → List ℕ → ℕ → ℕ
-inner_from w starts h = pick (eqb (kind_at w h) 2) (h + 1) (get_or starts (detail_at w h) 0)
-
-abbrev pub inner_to : List ℕ → List ℕ → ℕ → ℕ
-inner_to w starts h = pick (eqb (kind_at w h) 2) (after_at w h) (get_or starts (detail_at w h + 1) 0)
-
--- Where the records of level l begin, and where they end.
-abbrev pub base_from : List ℕ → List ℕ → ℕ → List ℕ → ℕ → ℕ
-base_from w starts n leaves l = pick (eqb l 1) (get_or starts (n - 1) 0) (inner_from w starts (get_or leaves (l - 1) 0))
-
-abbrev pub base_to : List ℕ → List ℕ → ℕ → List ℕ → ℕ → ℕ
-base_to w starts n leaves l = pick (eqb l 1) (get_or starts n 0) (inner_to w starts (get_or leaves (l - 1) 0))
-
--- The record h can be looked into: it is a loop's or a call's.
-pub record Enterable (w starts : List ℕ) (h : ℕ) : Type 0 where
-  pub room : h * 8 + 8 ≤ length w
-  pub target : (kind_at w h ≡ 2 → ⊥) → detail_at w h + 1 < length starts
-
--- A run of this table stands at the leaf numbers with the visit counts, at level l; each of the leaves is a point.
-pub record Placed (w starts : List ℕ) (n : ℕ) (leaves counts : List ℕ) (l : ℕ) : Type 0 where
-  pub table : FunctionTable w starts n
-  pub levels : Levels
-  pub depth : length levels ≡ l
-  pub stands : Stands (get_or table.funs (n - 1) done) leaves counts levels
-  pub marked : (k : ℕ) → 1 ≤ k → k ≤ l → point_at w (get_or leaves k 0) ≡ 1
-
 -- What a search for the next place from level l answers: the level and the earlier visits of x there, or none where there is no such place.
 abbrev pub Finds : ℕ → Forms → List ℕ → List ℕ → Option Levels → ℕ → RustOption Found → Type 0
 Finds l main leaves counts o x None = o ≡ none
 Finds l main leaves counts o x (Some f) =
     (1 ≤ f.at) × ((f.at ≤ 32) × (f.at ≤ l + 1)) × ((ks : Levels) × (o ≡ some ks) × Moved main leaves counts f.at x f.count ks)
-
--- The leaf p is a loop that may turn again after `count` earlier visits.
-abbrev pub MayTurn : List ℕ → ℕ → ℕ → Type 0
-MayTurn w p count = (kind_at w p ≡ 2) × (count < detail_at w p)
 
 -- The leaf h is open after `count` earlier visits: a call, or a loop that may turn again.
 abbrev pub Enters : List ℕ → ℕ → ℕ → Type 0
@@ -211,13 +147,6 @@ pub record Settled (w : List ℕ) (f : Forms) (p count : ℕ) : Type 0 where
   pub found : suffix f p ≡ some start
   pub left : Forms
   pub turns : turned start count ≡ some left
-
--- The stack holds up to level l.
-pub record StackStands (w : List ℕ) (main : Forms) (leaves counts : List ℕ) (l : ℕ) : Type 0 where
-  pub levels : Levels
-  pub depth : length levels ≡ l
-  pub stands : Stands main leaves counts levels
-  pub marked : (k : ℕ) → 1 ≤ k → k ≤ l → point_at w (get_or leaves k 0) ≡ 1
 
 -- The remaining time at a first visit of a leaf with this tail inside the loop or call at a, where `time` remained at the visit of a.
 abbrev pub inner_time : List ℕ → List ℕ → List ℕ → ℕ → ℕ → ℕ → ℕ
@@ -240,7 +169,7 @@ pub record Opens (w tails totals : List ℕ) (a time tail : ℕ) : Type 0 where
   pub loop_fits : kind_at w a ≡ 2 → (tail ≤ get_or tails a 0) × (get_or tails a 0 - tail ≤ time)
   pub call_fits : (kind_at w a ≡ 2 → ⊥) →
       (detail_at w a < 16) × (isolated_at w a + get_or totals (detail_at w a) 0 ≤ time) ×
-      (time - isolated_at w a - get_or totals (detail_at w a) 0 + tail ≤ 1099511627776)
+      (time - isolated_at w a - get_or totals (detail_at w a) 0 + tail ≤ limit)
 
 -- The same of the leaf of level l, and its earlier visits took no more than remained at its first.
 pub record LevelFits (w tails turns totals leaves counts times : List ℕ) (l : ℕ) : Type 0 where
@@ -248,7 +177,7 @@ pub record LevelFits (w tails turns totals leaves counts times : List ℕ) (l : 
   pub has_turn : get_or leaves l 0 < length turns
   pub opens : 2 ≤ l → Opens w tails totals (get_or leaves (l - 1) 0) (get_or times (l - 1) 0) (get_or tails (get_or leaves l 0) 0)
   pub rounds : get_or counts l 0 * get_or turns (get_or leaves l 0) 0 ≤ first_time w tails totals leaves times l
-  pub bounded : first_time w tails totals leaves times l ≤ 1099511627776
+  pub bounded : first_time w tails totals leaves times l ≤ limit
 
 -- A place on a table with its columns, as the proofs take it apart. (Which functions the row holds is left open, so that code that does not look
 -- there need not be told.)
@@ -264,51 +193,6 @@ Nonempty (leaf b r) = Unit {0}
 Nonempty (call b fun r) = Unit {0}
 Nonempty (loop b n body r) = Unit {0}
 Nonempty (cond b t e r) = Unit {0}
-
--- The record h of the code can be looked into.
-abbrev pub HeadEnterable : Code → ℕ → Type 0
-HeadEnterable c h = Enterable (numbers c.row.now) c.bounds.now h
-
--- The leaves from i up to e are there, and are forms.
-pub record Held (row : List Leaf) (i e : ℕ) : Type 0 where
-  pub room : e ≤ length row
-  pub left : ℕ
-  pub forms : Piece (numbers row) left i e
-
--- Those inside the loop or call at h are.
-abbrev pub HeadHeld : Code → ℕ → Type 0
-HeadHeld c h = Held c.row.now (inner_from (numbers c.row.now) c.bounds.now h) (inner_to (numbers c.row.now) c.bounds.now h)
-
--- The records inside the loop or call at h are forms.
-abbrev pub HeadPiece : Code → ℕ → Type 0
-HeadPiece c h = Piece (numbers c.row.now) 62 (inner_from (numbers c.row.now) c.bounds.now h) (inner_to (numbers c.row.now) c.bounds.now h)
-
--- Where the records of level l begin, and where they end.
-abbrev pub level_from : Code → List ℕ → ℕ → ℕ
-level_from c leaves l = base_from (numbers c.row.now) c.bounds.now c.functions leaves l
-
-abbrev pub level_to : Code → List ℕ → ℕ → ℕ
-level_to c leaves l = base_to (numbers c.row.now) c.bounds.now c.functions leaves l
-
--- The records of level l can be looked up, over the leaves reported last at those below it.
-pub record LevelOpen (c : Code) (leaves : List ℕ) (l : ℕ) : Type 0 where
-  pub least : 1 ≤ l
-  pub most : l ≤ 32
-  pub count : 1 ≤ c.functions
-  pub fits : c.functions < length c.bounds.now
-  pub enterable : 2 ≤ l → HeadEnterable c (get_or leaves (l - 1) 0)
-
--- A run of the code stands at the leaf numbers, at level l, one of the 32.
-pub record CodeRunning (c : Code) (leaves : List ℕ) (l : ℕ) : Type 0 where
-  pub least : 1 ≤ l
-  pub most : l ≤ 32
-  pub running : Running (numbers c.row.now) c.bounds.now c.functions leaves l
-
--- A run of the code stands at the place, at one of the 32 levels.
-pub record PlaceStands (c : Code) (p : Place) : Type 0 where
-  pub least : 1 ≤ p.level
-  pub most : p.level ≤ 32
-  pub placed : Placed (numbers c.row.now) c.bounds.now c.functions p.leaves p.earlier p.level
 
 -- What a search for the next place from this one answers.
 abbrev pub PlaceFinds : Forms → Place → Option Levels → ℕ → RustOption Found → Type 0

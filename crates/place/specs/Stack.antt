@@ -1,6 +1,5 @@
 -- The place of a run as the state keeps it, leaf numbers and visit counts by level, on a row of records. Assumes nothing: these are definitions.
-use Rattle.std.specs.Prelude.{Some, None, ℕ, zero, suc, ◌+◌, ◌-◌, ◌≤◌, ◌<◌, ◌≡◌, List, [], ◌∷◌, length, get_or}
-use Rattle.std.specs.Prelude.{Option as RustOption}
+use Rattle.std.specs.Prelude.{ℕ, zero, suc, ◌+◌, ◌-◌, ◌≤◌, ◌<◌, Bool, true, false, ◌≡◌, List, [], ◌∷◌, length, get_or}
 use Rattle.std.proofs.Math.Option.{Option, none, some}
 use Rattle.model.specs.Forms.{Forms, done, leaf, call, loop, cond}
 use Rattle.model.specs.Places.{Traceable}
@@ -36,8 +35,10 @@ unfoldable pub frames : List ℕ → List ℕ → ℕ → ℕ → List Frame
 frames leaves counts k zero = []
 frames leaves counts k (suc n) = frame leaves counts k ∷ frames leaves counts (suc k) n
 
--- A row of numbers after v was put at l and everything above was cleared.
+-- A row of 33 numbers after v was put at l and everything above was cleared.
 pub record Put (old new : List ℕ) (l v : ℕ) : Type 0 where
+  pub old_33 : length old ≡ 33
+  pub new_33 : length new ≡ 33
   pub under : (k : ℕ) → k < l → get_or new k 0 ≡ get_or old k 0
   pub here : get_or new l 0 ≡ v
   pub above : (k : ℕ) → l < k → get_or new k 0 ≡ 0
@@ -61,10 +62,10 @@ pub record Stacked (w : List ℕ) (main : Forms) (o : Option Levels) (old olds :
   pub count : ℕ
   pub visited : Put olds counts l count
 
--- The place p is such a stack; or there is no such place, and no p.
-abbrev pub NextStack : List ℕ → Forms → Option Levels → List ℕ → List ℕ → ℕ → RustOption Place → Type 0
-NextStack w main o old olds x None = o ≡ none
-NextStack w main o old olds x (Some p) = Stacked w main o old olds x p.leaves p.earlier p.level
+-- A place was moved on to such a stack (true); or there is no such place, and it is as it was.
+abbrev pub NextStack : List ℕ → Forms → Option Levels → Place → ℕ → Bool → Place → Type 0
+NextStack w main o old x true new = Stacked w main o old.leaves old.earlier x new.leaves new.earlier new.level
+NextStack w main o old x false new = (o ≡ none) × (new ≡ old)
 
 -- The state's stack is a place of some run of the table: it decodes, and each of its leaves is a point.
 pub record Decodes (w : List ℕ) (main : Forms) (leaves counts : List ℕ) (l : ℕ) : Type 0 where

@@ -5,6 +5,7 @@ use Rattle.model.specs.Forms.{Forms, done}
 use Rattle.model.specs.Total.{total, tally}
 use Rattle.model.specs.Stack.{Levels, whole}
 use Rattle.rows.specs.Turns.{turn}
+use Rattle.rows.specs.Costs.{limit}
 use Rattle.place.specs.Stack.{FunctionTable, Decoded}
 
 -- The columns hold the tails and turns of the lines' leaves, where e follows the lines in their function and ts are the functions' isolated totals.
@@ -29,7 +30,7 @@ pub record Columns {w starts : List ℕ} {n : ℕ} (p : FunctionTable w starts n
   pub long_turns : (f : ℕ) → f < n → get_or starts (f + 1) 0 ≤ length turns
   pub totals_are : (f : ℕ) → f < n → get_or totals f 0 ≡ total C (get_or p.funs f done)
   pub priced : (f : ℕ) (h : f < n) → Priced totals tails turns (p.each f h).piece.part.lines 0
-  pub bounded : total C (get_or p.funs (n - 1) done) ≤ 1099511627776
+  pub bounded : total C (get_or p.funs (n - 1) done) ≤ limit
 
 -- Entry k is what remained at the latest report of level k, and entry 0 the total.
 unfoldable pub TimesAt : Forms → List ℕ → Levels → Type 0

@@ -1,21 +1,22 @@
-// The next report on a row of leaf records: whether a point can come next, and the place then; whether the run can end; whether any point can come.
+// The next report on a row of leaf records: whether a point can come next, and the place then.
 #![tactic(auto)]
 
-ghost use Rattle.std.specs.Prelude.{◌≡◌, true, false, ◌&&◌, List, [], ℕ, ◌+◌, ◌-◌, ◌*◌, ◌≤◌, ◌<◌, length, get_or};
+ghost use Rattle.std.specs.Prelude.{◌≡◌, List, [], ℕ, ◌+◌, ◌-◌, ◌*◌, ◌≤◌, ◌<◌, length, get_or};
 ghost use Rattle.std.proofs.Math.Option.{none};
 ghost use Rattle.model.specs.Forms.{Forms, forms};
-ghost use Rattle.model.specs.Places.{seek, passes, can_end, no_more, no_further};
-ghost use Rattle.model.specs.Stack.{onward_at, onto, whole, suffix};
+ghost use Rattle.model.specs.Places.{seek};
+ghost use Rattle.model.specs.Stack.{onward_at, onto, suffix};
 ghost use Rattle.rows.specs.Rows.{kind_at, point_at, after_at, Piece};
 ghost use Rattle.rows.specs.Leaves.{numbers, lent_tails};
 ghost use Rattle.rows.specs.Answers.{Says};
 ghost use Rattle.place.specs.Pieces.{Spanned};
 ghost use Rattle.place.specs.Stack.{Put};
+ghost use Rattle.place.specs.Spans.{first_form, MayTurn, inner_from, inner_to, HeadEnterable, level_from, level_to, LevelOpen, CodeRunning};
 ghost use Rattle.place.specs.Times.{TimesAt};
 ghost use Rattle.place.specs.Lent.{CodeTable, main_forms, PlaceDecoded, PlaceDecodes, NextPlace, PlaceCosted, PlaceClocked};
-ghost use Rattle.place.specs.Private.{MayTurn, Enters, Counted, Settled, Lands, fall_at, inner_from, inner_to, nothing, sight_at, series, either};
-ghost use Rattle.place.specs.Private.{sight_of, sight_parts, sight_within, sight_behind, levels_sight, sight_ahead, inner_time, first_time};
-ghost use Rattle.place.specs.Private.{Held, HeadEnterable, HeadHeld, HeadPiece, level_from, level_to, LevelOpen, CodeRunning, PlaceStands};
+ghost use Rattle.place.specs.Private.{Held, HeadHeld, HeadPiece, PlaceStands};
+ghost use Rattle.place.specs.Private.{Enters, Counted, Settled, there, Lands, fall_at, nothing, sight_at, series, either};
+ghost use Rattle.place.specs.Private.{sight_of, sight_beyond, sight_behind, inner_time, first_time};
 ghost use Rattle.place.specs.Private.{PlaceFinds, PlaceHolds, RowOpens, PlaceFits, place_time};
 
 use rows::{Code, Kind, Leaf, MAX_FUNCTIONS, MAX_LEVEL};
@@ -38,11 +39,10 @@ pub struct Place {
     pub earlier: ByLevel,
 }
 
-// What the ways through some forms meet: `free`, some way meets no point; `mute`, none meets one; `meets`, some way comes in silence to the point sought.
+// What the ways through some forms meet: `free`, some way meets no point; `meets`, some way comes in silence to the point sought.
 #[derive(Clone, Copy)]
 struct Sight {
     free: bool,
-    mute: bool,
     meets: bool,
 }
 
@@ -53,19 +53,17 @@ impl Sight {
     {
         Sight {
             free: true,
-            mute: true,
             meets: false,
         }
     }
 
     // The point i is met, where x is sought.
-    fn at(i: usize, x: Option<usize>) -> Sight
+    fn at(i: usize, x: usize) -> Sight
         ensures { result ≡ sight_at i x }
     {
         Sight {
             free: false,
-            mute: false,
-            meets: x == Some(i),
+            meets: i == x,
         }
     }
 
@@ -75,7 +73,6 @@ impl Sight {
     {
         Sight {
             free: self.free && next.free,
-            mute: self.mute && next.mute,
             meets: self.meets || self.free && next.meets,
         }
     }
@@ -86,7 +83,6 @@ impl Sight {
     {
         Sight {
             free: self.free || other.free,
-            mute: self.mute && other.mute,
             meets: self.meets || other.meets,
         }
     }
@@ -95,10 +91,10 @@ impl Sight {
 // What is met inside the form at i at its own level: in the parts of an if. (Inlined, so that a walk makes no call at a form without parts.)
 #[cycle(parts_scan)]
 #[inline(always)]
-fn parts(row: &[Leaf], i: usize, to: usize, x: Option<usize>) -> Sight
+fn parts(row: &[Leaf], i: usize, to: usize, x: usize) -> Sight
     requires i_lt_to { i < to }
     requires held { Held row.now i to }
-    ensures { (left : ℕ) (p : Piece (numbers row.now) left i to) (G : List Forms) → result ≡ sight_parts (forms G p.part.lines) x }
+    ensures { (left : ℕ) (p : Piece (numbers row.now) left i to) (G : List Forms) → result ≡ sight_beyond (first_form (forms G p.part.lines)) x }
 {
     if rows::kind_of(row, i) != Some(Kind::If) {
         return Sight::nothing();
@@ -112,22 +108,19 @@ fn parts(row: &[Leaf], i: usize, to: usize, x: Option<usize>) -> Sight
 
 // What the forms from `from` up to `to` meet.
 #[cycle(parts_scan)]
-fn scan(row: &[Leaf], from: usize, to: usize, x: Option<usize>) -> Sight
+fn scan(row: &[Leaf], from: usize, to: usize, x: usize) -> Sight
     requires { Held row.now from to }
     ensures { (left : ℕ) (p : Piece (numbers row.now) left from to) (G : List Forms) → result ≡ sight_of (forms G p.part.lines) x }
 {
     let mut passed = Sight::nothing();
     let mut i = from;
     // A `while`: each form says where the next one begins, so no range has these steps.
-    while i < to {
+    while i < to && passed.free {
         if rows::point(row, i) == 1 {
             return passed.then(Sight::at(i, x));
         }
         let form = parts(row, i, to, x);
         passed = passed.then(form);
-        if !form.free {
-            return passed;
-        }
         i = rows::after(row, i);
     }
     passed
@@ -135,10 +128,11 @@ fn scan(row: &[Leaf], from: usize, to: usize, x: Option<usize>) -> Sight
 
 // What is met behind the leaf p of the form at i, as far as the form goes; none where p is no leaf of its level.
 #[cycle(behind_within)]
-fn within(row: &[Leaf], i: usize, to: usize, p: usize, x: Option<usize>) -> Option<Sight>
+fn within(row: &[Leaf], i: usize, to: usize, p: usize, x: usize) -> Option<Sight>
     requires i_lt_to { (i < to) × (i ≤ p) × (p < after_at (numbers row.now) i) }
     requires held { Held row.now i to }
-    ensures { (left : ℕ) (q : Piece (numbers row.now) left i to) (G : List Forms) → result ≡ sight_within (forms G q.part.lines) p x }
+    ensures { (left : ℕ) (q : Piece (numbers row.now) left i to) (G : List Forms)
+        → result ≡ sight_behind (suffix (first_form (forms G q.part.lines)) p) x }
 {
     if p == i {
         return Some(parts(row, i, to, x));
@@ -156,7 +150,7 @@ fn within(row: &[Leaf], i: usize, to: usize, p: usize, x: Option<usize>) -> Opti
 
 // What is met behind the leaf p of the forms from `from` up to `to`; none where p is no leaf of their level.
 #[cycle(behind_within)]
-fn behind(row: &[Leaf], from: usize, to: usize, p: usize, x: Option<usize>) -> Option<Sight>
+fn behind(row: &[Leaf], from: usize, to: usize, p: usize, x: usize) -> Option<Sight>
     requires { Held row.now from to }
     ensures { (left : ℕ) (q : Piece (numbers row.now) left from to) (G : List Forms)
         → result ≡ sight_behind (suffix (forms G q.part.lines) p) x }
@@ -182,7 +176,7 @@ fn behind(row: &[Leaf], from: usize, to: usize, p: usize, x: Option<usize>) -> O
 }
 
 // The records of the main function, the last one.
-fn main_function(code: &Code) -> Range<usize>
+pub fn main_function(code: &Code) -> Range<usize>
     requires { (1 ≤ code.now.functions) × (code.now.functions < length code.now.bounds.now) }
     ensures { (result.start ≡ get_or code.now.bounds.now (code.now.functions - 1) 0)
         × (result.end ≡ get_or code.now.bounds.now code.now.functions 0) }
@@ -192,7 +186,7 @@ fn main_function(code: &Code) -> Range<usize>
 
 // The records inside the loop or call at `head`.
 #[tactic(auto, using(rows::proofs::Leaves::numbers_length))]
-fn opening(code: &Code, head: usize) -> Range<usize>
+pub fn opening(code: &Code, head: usize) -> Range<usize>
     requires { HeadEnterable code.now head }
     ensures { (result.start ≡ inner_from (numbers code.now.row.now) code.now.bounds.now head)
         × (result.end ≡ inner_to (numbers code.now.row.now) code.now.bounds.now head) }
@@ -205,7 +199,7 @@ fn opening(code: &Code, head: usize) -> Range<usize>
 }
 
 // The records of the level l, over the leaves reported last at those below it.
-fn span(code: &Code, leaves: &ByLevel, l: usize) -> Range<usize>
+pub fn span(code: &Code, leaves: &ByLevel, l: usize) -> Range<usize>
     requires { LevelOpen code.now leaves.now l }
     ensures { (result.start ≡ level_from code.now leaves.now l) × (result.end ≡ level_to code.now leaves.now l) }
 {
@@ -217,7 +211,7 @@ fn span(code: &Code, leaves: &ByLevel, l: usize) -> Range<usize>
 }
 
 // What is met inside the loop or call at `head`.
-fn enclosed(code: &Code, head: usize, x: Option<usize>) -> Sight
+fn enclosed(code: &Code, head: usize, x: usize) -> Sight
     requires enterable { HeadEnterable code.now head }
     requires held { HeadHeld code.now head }
     ensures { (p : HeadPiece code.now head) (G : List Forms) → result ≡ sight_of (forms G p.part.lines) x }
@@ -227,14 +221,13 @@ fn enclosed(code: &Code, head: usize, x: Option<usize>) -> Sight
 }
 
 // The level where the run comes to x once it has left the form of the leaf at level l; none where it cannot come to x.
-// Kept beside `levels_sight`: this ends at the level where x is met, and that joins what all levels meet; one function would be no plainer.
 fn fall(code: &Code, leaves: &ByLevel, l: usize, x: usize) -> Option<usize>
     requires { CodeRunning code.now leaves.now l }
     ensures { (q : CodeRunning code.now leaves.now l) → Lands (main_forms q.running.table) leaves.now q.running.counts q.running.levels x result }
 {
     let level = span(code, leaves, l);
     let here = leaves[l] as usize;
-    let sight = behind(code.row, level.start, level.end, here, Some(x))?;
+    let sight = behind(code.row, level.start, level.end, here, x)?;
     if sight.meets {
         return Some(l);
     }
@@ -259,7 +252,7 @@ struct Found {
 fn below(code: &Code, place: &Place, x: usize) -> Option<Found>
     requires { PlaceStands code.now place.now }
     ensures { (q : PlaceStands code.now place.now)
-        → PlaceFinds (main_forms q.placed.table) place.now (fall_at q.placed.levels x) x result }
+        → PlaceFinds (main_forms q.placed.table) place.now (fall_at q.placed.stack.levels x) x result }
 {
     let at = fall(code, &place.leaves, place.level, x)?;
     if place.leaves[at] as usize == x {
@@ -272,7 +265,7 @@ fn below(code: &Code, place: &Place, x: usize) -> Option<Found>
 }
 
 // Whether the leaf p is a loop that may turn again after `count` earlier visits.
-fn may_turn(row: &[Leaf], p: usize, count: u64) -> bool
+pub fn may_turn(row: &[Leaf], p: usize, count: u64) -> bool
     requires { p < length row.now }
     ensures { Says result (MayTurn (numbers row.now) p count) }
 {
@@ -283,16 +276,16 @@ fn may_turn(row: &[Leaf], p: usize, count: u64) -> bool
 fn round_again(code: &Code, place: &Place, x: usize) -> Option<Found>
     requires at_loop { kind_at (numbers code.now.row.now) (get_or place.now.leaves place.now.level 0) ≡ 2 }
     requires stands { PlaceStands code.now place.now }
-    requires x_value { (q : PlaceStands code.now place.now) → fall_at q.placed.levels x ≡ none }
+    requires x_value { (q : PlaceStands code.now place.now) → fall_at q.placed.stack.levels x ≡ none }
     ensures { (q : PlaceStands code.now place.now)
-        → PlaceFinds (main_forms q.placed.table) place.now (onward_at q.placed.levels x) x result }
+        → PlaceFinds (main_forms q.placed.table) place.now (onward_at q.placed.stack.levels x) x result }
 {
     let here = place.leaves[place.level] as usize;
     let earlier = place.earlier[place.level];
     if !may_turn(code.row, here, earlier) {
         return None;
     }
-    let sight = enclosed(code, here, Some(x));
+    let sight = enclosed(code, here, x);
     if sight.meets {
         return Some(Found {
             at: place.level + 1,
@@ -312,35 +305,38 @@ fn round_again(code: &Code, place: &Place, x: usize) -> Option<Found>
 fn find(code: &Code, place: &Place, x: usize) -> Option<Found>
     requires { PlaceStands code.now place.now }
     ensures { (q : PlaceStands code.now place.now)
-        → PlaceFinds (main_forms q.placed.table) place.now (onward_at q.placed.levels x) x result }
+        → PlaceFinds (main_forms q.placed.table) place.now (onward_at q.placed.stack.levels x) x result }
 {
     let here = place.leaves[place.level] as usize;
     let kind = rows::kind_of(code.row, here);
-    let under = below(code, place, x);
     if kind == Some(Kind::Call) {
-        let sight = enclosed(code, here, Some(x));
+        let sight = enclosed(code, here, x);
         if sight.meets {
             return Some(Found {
                 at: place.level + 1,
                 count: 0,
             });
         }
-        return if sight.free { under } else { None };
+        return if sight.free {
+            below(code, place, x)
+        } else {
+            None
+        };
     }
+    let under = below(code, place, x);
     if kind == Some(Kind::Loop) && under.is_none() {
         return round_again(code, place, x);
     }
     under
 }
 
-// v at l, and 0 above it.
-fn put(mut a: ByLevel, l: usize, v: u64) -> ByLevel
+// Puts v at l, and 0 above it.
+fn put(a: &mut ByLevel, l: usize, v: u64)
     requires { l ≤ 32 }
-    ensures { Put a result l v }
+    ensures { Put a.old a.new l v }
 {
     a[l] = v;
     a[l + 1..].fill(0);
-    a
 }
 
 // Whether every number above level l is 0.
@@ -348,119 +344,41 @@ pub fn zero_above(a: &ByLevel, l: usize) -> bool
     requires { l ≤ 32 }
     ensures { Says result ((k : ℕ) → l < k → get_or a.now k 0 ≡ 0) }
 {
-    a[l + 1..].iter().all(|number| *number == 0)
+    rows::all_zero(&a[l + 1..])
 }
 
-// The place when the point x is reported next; none where x cannot come next.
-pub fn next_place(code: &Code, place: &Place, x: usize) -> Option<Place>
+// Moves the place on to the report of the point x, the next one, and says whether it did: where x cannot come next the place stays as it was.
+pub fn advance(code: &Code, place: &mut Place, x: usize) -> bool
     requires x_value { point_at (numbers code.now.row.now) x ≡ 1 }
-    requires decoded { PlaceDecoded code.now place.now }
-    ensures { (q : PlaceDecoded code.now place.now)
-        → NextPlace code.now (main_forms q.decoded.table) (onward_at q.decoded.levels x) place.now x result }
+    requires decoded { PlaceDecoded code.now place.old }
+    ensures { (q : PlaceDecoded code.now place.old)
+        → NextPlace code.now (main_forms q.decoded.table) (onward_at q.decoded.levels x) place.old x result place.new }
 {
-    let found = find(code, place, x)?;
-    Some(Place {
-        level: found.at,
-        leaves: put(place.leaves, found.at, x as u64),
-        earlier: put(place.earlier, found.at, found.count),
-    })
+    let Some(found) = find(code, place, x) else {
+        return false;
+    };
+    place.level = found.at;
+    put(&mut place.leaves, found.at, x as u64);
+    put(&mut place.earlier, found.at, found.count);
+    true
 }
 
-// The place when the point x is reported first; none where x cannot come first. (`place` is that of the release, at level 0 and not a `None`: any state may be
-// lent, and the new place keeps entry 0 of both arrays.)
-pub fn first_place(code: &Code, place: &Place, x: usize) -> Option<Place>
+// Moves the place on to the report of the point x, the first one, and says whether it did: where x cannot come first the place stays as it was. (The place is
+// that of the release, at level 0 and not a `None`: any state may be lent, and entry 0 of both arrays stays.)
+pub fn begin(code: &Code, place: &mut Place, x: usize) -> bool
     requires x_value { point_at (numbers code.now.row.now) x ≡ 1 }
     requires function_table { CodeTable code.now }
-    ensures { (p : CodeTable code.now) → NextPlace code.now (main_forms p) (onto [] (seek (main_forms p) x)) place.now x result }
-{
-    if !main_sight(code, Some(x)).meets {
-        return None;
-    }
-    Some(Place {
-        level: 1,
-        leaves: put(place.leaves, 1, x as u64),
-        earlier: put(place.earlier, 1, 0),
-    })
-}
-
-// What is met once the form of the leaf at level l is left, level by level down to the end. (An open loop comes back to its condition, which is a point.)
-fn levels_sight(code: &Code, leaves: &ByLevel, l: usize) -> Sight
-    requires { CodeRunning code.now leaves.now l }
-    ensures { (q : CodeRunning code.now leaves.now l) → result ≡ levels_sight q.running.levels }
-{
-    let level = span(code, leaves, l);
-    let here = leaves[l] as usize;
-    let Some(sight) = behind(code.row, level.start, level.end, here, None) else {
-        unreachable!()
-    };
-    if l == 1 || !sight.free {
-        return sight;
-    }
-    let head = leaves[l - 1] as usize;
-    if rows::kind_of(code.row, head) == Some(Kind::Loop) {
-        return sight.then(Sight::at(head, None));
-    }
-    sight.then(levels_sight(code, leaves, l - 1))
-}
-
-// What is met behind the report of this place.
-fn ahead(code: &Code, place: &Place) -> Sight
-    requires { PlaceDecoded code.now place.now }
-    ensures { (q : PlaceDecoded code.now place.now) → result ≡ sight_ahead q.decoded.levels }
-{
-    let here = place.leaves[place.level] as usize;
-    let under = levels_sight(code, &place.leaves, place.level);
-    if rows::kind_of(code.row, here) == Some(Kind::Call) {
-        return enclosed(code, here, None).then(under);
-    }
-    if may_turn(code.row, here, place.earlier[place.level]) {
-        return Sight {
-            mute: false,
-            ..under
-        };
-    }
-    under
-}
-
-// Whether the run can end behind the report of this place.
-pub fn can_end(code: &Code, place: &Place) -> bool
-    requires { PlaceDecoded code.now place.now }
-    ensures { (q : PlaceDecoded code.now place.now) → result ≡ can_end (whole q.decoded.levels) }
-{
-    ahead(code, place).free
-}
-
-// Whether no run meets a further point behind the report of this place.
-pub fn last_point(code: &Code, place: &Place) -> bool
-    requires { PlaceDecoded code.now place.now }
-    ensures { (q : PlaceDecoded code.now place.now) → result ≡ no_further (whole q.decoded.levels) }
-{
-    ahead(code, place).mute
-}
-
-// What the main function meets.
-fn main_sight(code: &Code, x: Option<usize>) -> Sight
-    requires { CodeTable code.now }
-    ensures { (p : CodeTable code.now) → result ≡ sight_of (main_forms p) x }
+    ensures { (p : CodeTable code.now)
+        → NextPlace code.now (main_forms p) (onto [] (seek (main_forms p) x)) place.old x result place.new }
 {
     let main = main_function(code);
-    scan(code.row, main.start, main.end, x)
-}
-
-// Whether the run can end before any report.
-pub fn first_end(code: &Code) -> bool
-    requires { CodeTable code.now }
-    ensures { (p : CodeTable code.now) → result ≡ passes (main_forms p) }
-{
-    main_sight(code, None).free
-}
-
-// Whether no run meets a point.
-pub fn no_point(code: &Code) -> bool
-    requires { CodeTable code.now }
-    ensures { (p : CodeTable code.now) → result ≡ no_more (main_forms p) }
-{
-    main_sight(code, None).mute
+    if !scan(code.row, main.start, main.end, x).meets {
+        return false;
+    }
+    place.level = 1;
+    put(&mut place.leaves, 1, x as u64);
+    put(&mut place.earlier, 1, 0);
+    true
 }
 
 // Whether the leaf at `head` is open after `count` earlier visits: a call, or a loop that may turn again.
@@ -483,13 +401,38 @@ fn counted(row: &[Leaf], p: usize, count: u64) -> bool
     }
 }
 
+// Whether p is a leaf of the level that runs the records from `from` up to `to`: that of a form there, or one in a part of an if there.
+fn on_level(row: &[Leaf], from: usize, to: usize, p: usize) -> bool
+    requires { Held row.now from to }
+    ensures { (left : ℕ) (q : Piece (numbers row.now) left from to) (G : List Forms)
+        → result ≡ there (suffix (forms G q.part.lines) p) }
+{
+    if p < from || to <= p {
+        return false;
+    }
+    let mut i = from;
+    // A `while`: each form says where the next one begins, so no range has these steps.
+    while i < p {
+        let after = rows::next(row, i);
+        if after <= p {
+            i = after;
+        } else if rows::kind_of(row, i) == Some(Kind::If) {
+            let other = rows::other(row, i);
+            i = if p < other { i + 1 } else { other };
+        } else {
+            return false;
+        }
+    }
+    true
+}
+
 // Whether p is a point of the level that runs the records from `from` up to `to`, and can have had `count` earlier visits there.
 fn settled(row: &[Leaf], from: usize, to: usize, p: usize, count: u64) -> bool
     requires { Held row.now from to }
     ensures { (n : ℕ) (G : List Forms) (f : Forms) → Spanned (numbers row.now) G n from to f
         → Says result (Settled (numbers row.now) f p count) }
 {
-    behind(row, from, to, p, None).is_some() && rows::point(row, p) == 1 && counted(row, p, count)
+    on_level(row, from, to, p) && rows::point(row, p) == 1 && counted(row, p, count)
 }
 
 // Whether the place holds at each level up to its own.
@@ -553,15 +496,15 @@ fn level_time(row: &[Leaf], totals: &Totals, place: &Place, times: &ByLevel, l: 
     first - place.earlier[l] * rows::turn(row, place.leaves[l] as usize)
 }
 
-// The remaining times with that of the place's level, and 0 above it.
-pub fn next_times(row: &[Leaf], totals: &Totals, place: &Place, times: &ByLevel) -> ByLevel
-    requires { PlaceClocked row.now totals.now place.now times.now }
-    ensures times_at { (q : PlaceClocked row.now totals.now place.now times.now)
-        → TimesAt (main_forms q.clocked.costed.decoded.table) result q.clocked.costed.decoded.levels }
-    ensures zeros { (k : ℕ) → place.now.level < k → get_or result k 0 ≡ 0 }
+// Puts the remaining time of the place's level into the remaining times, and 0 above it.
+pub fn keep_time(row: &[Leaf], totals: &Totals, place: &Place, times: &mut ByLevel)
+    requires { PlaceClocked row.now totals.now place.now times.old }
+    ensures times_at { (q : PlaceClocked row.now totals.now place.now times.old)
+        → TimesAt (main_forms q.clocked.costed.decoded.table) times.new q.clocked.costed.decoded.levels }
+    ensures zeros { (k : ℕ) → place.now.level < k → get_or times.new k 0 ≡ 0 }
 {
     let time = level_time(row, totals, place, times, place.level);
-    put(*times, place.level, time)
+    put(times, place.level, time);
 }
 
 // Whether the remaining times up to the place's level are those of the place, and level 0 holds the total.

@@ -36,7 +36,7 @@ derived_behind n ls ms e =
     λ j. (
       column_behind (λ (l : Leaf). l.turn) n ls ms (ap (λ (x : List ℕ × List ℕ × List ℕ). x.0) e) j,
       column_behind (λ (l : Leaf). l.tail) n ls ms (ap (λ (x : List ℕ × List ℕ × List ℕ). x.1) e) j,
-      column_behind (λ (l : Leaf). l.stretch) n ls ms (ap (λ (x : List ℕ × List ℕ × List ℕ). x.2) e) j,
+      column_behind (λ (l : Leaf). l.max_load_turn) n ls ms (ap (λ (x : List ℕ × List ℕ × List ℕ). x.2) e) j,
     )
 
 -- No more than 512 records are used.

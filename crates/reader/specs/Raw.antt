@@ -7,7 +7,7 @@ use Rattle.reader.specs.declared.RefusedAt.{RefusedAt}
 use Rattle.reader.specs.declared.Raw.{Raw}
 use Rattle.reader.specs.Outcome.{Outcome, plan, refused}
 use Rattle.rows.specs.declared.Leaf.{Leaf}
-use Rattle.rows.specs.Leaves.{lent_turns, lent_tails, lent_stretches}
+use Rattle.rows.specs.Leaves.{lent_turns, lent_tails, lent_max_load_turns}
 use Rattle.rows.specs.Records.{row_of, bounds_of}
 use Rattle.reader.specs.Records.{heights_of}
 
@@ -36,6 +36,6 @@ abbrev pub Written : Outcome → List ℕ → List ℕ → Type 0
 Written (refused k j) R₀ R = Unit
 Written (plan p) R₀ R = R ≡ sets R₀ 0 (row_of p)
 
--- The columns of a row of leaves that are derived from a plan, which reading leaves as they are: its turns, tails and stretches.
+-- The columns of a row of leaves that are derived from a plan, which reading leaves as they are: its turns, tails and max-load turns.
 abbrev pub derived : List Leaf → List ℕ × List ℕ × List ℕ
-derived ls = (lent_turns ls, lent_tails ls, lent_stretches ls)
+derived ls = (lent_turns ls, lent_tails ls, lent_max_load_turns ls)

@@ -34,7 +34,7 @@ use Rattle.table.specs.Table.{Table, table_of, head_of}
 use Rattle.table.specs.Lent.{table_with, leaf_of, leaves_from, row_after}
 use Rattle.table.proofs.Tests.{no_truth}
 use Rattle.table.proofs.Lent.{length_leaves, numbers_from, column_from, table_back}
-use Rattle.table.proofs.Written.{turns_size, tails_size, stretches_size}
+use Rattle.table.proofs.Written.{turns_size, tails_size, max_load_turns_size}
 use Rattle.control.specs.declared.State as control
 use Rattle.control.specs.declared.State.TheVariants as state
 use Rattle.control.specs.Calls.{call_on}
@@ -60,7 +60,7 @@ read_back p a ls =
 
 -- Leaves with the same raw row and the same columns are the same.
 same_leaves : (us vs : List Leaf) → numbers us ≡ numbers vs → map (λ (l : Leaf). l.turn) us ≡ map (λ (l : Leaf). l.turn) vs →
-    map (λ (l : Leaf). l.tail) us ≡ map (λ (l : Leaf). l.tail) vs → map (λ (l : Leaf). l.stretch) us ≡ map (λ (l : Leaf). l.stretch) vs → us ≡ vs
+    map (λ (l : Leaf). l.tail) us ≡ map (λ (l : Leaf). l.tail) vs → map (λ (l : Leaf). l.max_load_turn) us ≡ map (λ (l : Leaf). l.max_load_turn) vs → us ≡ vs
 same_leaves [] [] e f g h = refl
 same_leaves [] (v ∷ vs) e f g h = let z : ◌≡◌ {A = ℕ} 0 1 = cc in absurd (omega arith)
 same_leaves (u ∷ us) [] e f g h = let z : ◌≡◌ {A = ℕ} 0 1 = cc in absurd (omega arith)
@@ -75,7 +75,7 @@ same_leaves (u ∷ us) (v ∷ vs) e f g h =
     let level : u.level ≡ v.level = cc in
     let turn : u.turn ≡ v.turn = cc in
     let tail : u.tail ≡ v.tail = cc in
-    let stretch : u.stretch ≡ v.stretch = cc in
+    let load_turn : u.max_load_turn ≡ v.max_load_turn = cc in
     let rest : us ≡ vs = same_leaves us vs (cc) (cc) (cc) (cc) in
     λ j. record {
       kind = kind j;
@@ -88,11 +88,11 @@ same_leaves (u ∷ us) (v ∷ vs) e f g h =
       level = level j;
       turn = turn j;
       tail = tail j;
-      stretch = stretch j;
+      max_load_turn = load_turn j;
     } ∷ rest j
 
 -- A column of the first leaves of a row.
-pub column_held : (f : Leaf → ℕ) (n : ℕ) (ls : List Leaf) → n ≤ 512 → take n (map f (take 512 ls)) ≡ map f (take n ls)
+column_held : (f : Leaf → ℕ) (n : ℕ) (ls : List Leaf) → n ≤ 512 → take n (map f (take 512 ls)) ≡ map f (take n ls)
 column_held f n ls h = take-map f n (take 512 ls) ∙ ap (map f) (take-take n 512 ls h)
 
 -- The other way round: where row and head hold the table of a plan, the row has its leaves, and to write them again changes nothing.
@@ -120,7 +120,7 @@ read_again p a ls h e =
     same_leaves us vs numbered
     (column (λ (x : Leaf). x.turn) (table_of p).turns (λ i. refl) (turns_size p) (ap (λ (t : Table). t.turns) e))
     (column (λ (x : Leaf). x.tail) (table_of p).tails (λ i. refl) (tails_size p) (ap (λ (t : Table). t.tails) e))
-    (column (λ (x : Leaf). x.stretch) (table_of p).stretches (λ i. refl) (stretches_size p) (ap (λ (t : Table). t.stretches) e)) in
+    (column (λ (x : Leaf). x.max_load_turn) (table_of p).max_load_turns (λ i. refl) (max_load_turns_size p) (ap (λ (t : Table). t.max_load_turns) e)) in
     (room, ap (λ (u : List Leaf). u ++ drop n ls) (sym leaves_are) ∙ take-append-drop n ls, sym g)
 
 -- A CALL IS THE CONTROLLER'S

@@ -6,7 +6,7 @@ use native.Mathlib.Omega.{arith}
 use lib.ListN.{length, get_or, set, take}
 use lib.Seq.{sets}
 use Rattle.rows.specs.declared.Leaf.{Leaf}
-use Rattle.rows.specs.Leaves.{fields, numbers, lent_turns, lent_tails, lent_stretches, blank_leaf}
+use Rattle.rows.specs.Leaves.{fields, numbers, lent_turns, lent_tails, lent_max_load_turns, blank_leaf}
 use Rattle.rows.specs.Rows.{field}
 
 -- Every leaf has eight numbers.
@@ -48,7 +48,7 @@ field_of [] i k h = field_none k h
 field_of (l ∷ ls) zero k h = let z : 0 * 8 + k ≡ k = omega arith in ap (λ (n : ℕ). get_or (numbers (l ∷ ls)) n 0) z ∙ field_first l ls k h
 field_of (l ∷ ls) (suc i) k h = field_behind l ls i k ∙ field_of ls i k h
 
--- Its turn, tail and stretch.
+-- Its turn, tail and max-load turn.
 pub turn_of : (ls : List Leaf) (i : ℕ) → get_or (lent_turns ls) i 0 ≡ (get_or ls i blank_leaf).turn
 turn_of [] i = refl
 turn_of (l ∷ ls) zero = refl
@@ -59,10 +59,10 @@ tail_of [] i = refl
 tail_of (l ∷ ls) zero = refl
 tail_of (l ∷ ls) (suc i) = tail_of ls i
 
-pub stretch_of : (ls : List Leaf) (i : ℕ) → get_or (lent_stretches ls) i 0 ≡ (get_or ls i blank_leaf).stretch
-stretch_of [] i = refl
-stretch_of (l ∷ ls) zero = refl
-stretch_of (l ∷ ls) (suc i) = stretch_of ls i
+pub max_load_turn_of : (ls : List Leaf) (i : ℕ) → get_or (lent_max_load_turns ls) i 0 ≡ (get_or ls i blank_leaf).max_load_turn
+max_load_turn_of [] i = refl
+max_load_turn_of (l ∷ ls) zero = refl
+max_load_turn_of (l ∷ ls) (suc i) = max_load_turn_of ls i
 
 -- The raw row of the first n leaves, and of leaves behind others.
 pub numbers_take : (n : ℕ) (ls : List Leaf) → numbers (take n ls) ≡ take (n * 8) (numbers ls)

@@ -7,3 +7,4 @@ pub mod Storing
 pub mod Answers
 pub mod Worked
 pub mod Leaves
+pub mod Zeros

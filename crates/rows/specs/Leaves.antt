@@ -13,17 +13,17 @@ abbrev pub numbers : List Leaf → List ℕ
 numbers [] = []
 numbers (l ∷ ls) = fields l ++ numbers ls
 
--- The turns, tails and stretches that stand in these leaves.
+-- The turns, tails and max-load turns that stand in these leaves.
 abbrev pub lent_turns : List Leaf → List ℕ
 lent_turns ls = map (λ (l : Leaf). l.turn) ls
 
 abbrev pub lent_tails : List Leaf → List ℕ
 lent_tails ls = map (λ (l : Leaf). l.tail) ls
 
-abbrev pub lent_stretches : List Leaf → List ℕ
-lent_stretches ls = map (λ (l : Leaf). l.stretch) ls
+abbrev pub lent_max_load_turns : List Leaf → List ℕ
+lent_max_load_turns ls = map (λ (l : Leaf). l.max_load_turn) ls
 
 -- What is taken for a leaf past the end of a row.
 abbrev pub blank_leaf : Leaf
 blank_leaf =
-    record { kind = 0; point = 0; isolated = 0; max_load = 0; detail = 0; other = 0; after = 0; level = 0; turn = 0; tail = 0; stretch = 0 }
+    record { kind = 0; point = 0; isolated = 0; max_load = 0; detail = 0; other = 0; after = 0; level = 0; turn = 0; tail = 0; max_load_turn = 0 }

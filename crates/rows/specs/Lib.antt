@@ -8,3 +8,4 @@ pub mod Turns
 pub mod Worked
 pub mod Kinds
 pub mod Leaves
+pub mod Costs

@@ -2,16 +2,18 @@
 #![tactic(auto)]
 
 ghost use Rattle.std.specs.Prelude.{◌≡◌, length, get_or};
-ghost use Prim.Native.Nat.{◌+◌, ◌<◌};
-ghost use Rattle.rows.specs.Rows.{kind_at, point_at, isolated_at, max_load_at, detail_at, other_at, after_at, level_at};
+ghost use Prim.Native.Nat.{ℕ, ◌+◌, ◌<◌};
+ghost use Rattle.rows.specs.Rows.{kind_at, point_at, isolated_at, max_load_at, detail_at, other_at, after_at, level_at, block_at};
 ghost use Rattle.rows.specs.Kinds.{IsKind, KindOfNumber, NumberOfKind};
-ghost use Rattle.rows.specs.Leaves.{numbers, lent_turns, lent_tails, lent_stretches};
+ghost use Rattle.rows.specs.Leaves.{numbers, lent_turns, lent_tails, lent_max_load_turns};
+ghost use Rattle.rows.specs.Costs.{cost_in, lent_turns_in};
+ghost use Rattle.rows.specs.Answers.{Says};
 
 use std::ops::Range;
 
 // A leaf's record, numbers alone, as the C interface takes it. Read from the plan: kind (0 leaf, 1 call, 2 loop, 3 if), point (1 or 0), costs alone and under
 // load, bound of a loop or target of a call, first leaf of an if's else part, first leaf after the form, level in its own function. Derived: turn, tail,
-// stretch.
+// max-load turn.
 #[repr(C)]
 #[derive(Clone, Copy, Default)]
 pub struct Leaf {
@@ -25,7 +27,7 @@ pub struct Leaf {
     pub level: u64,
     pub turn: u64,
     pub tail: u64,
-    pub stretch: u64,
+    pub max_load_turn: u64,
 }
 
 // A plan's code in lent memory: its row of leaf records, the bounds of its functions (the first leaf of each, and behind them the number of leaves), and
@@ -228,10 +230,56 @@ pub fn tail(row: &[Leaf], i: usize) -> u64
     row[i].tail
 }
 
-// Its stretch, as it is lent.
-pub fn stretch(row: &[Leaf], i: usize) -> u64
+// Its turn at max-load costs, as it is lent.
+pub fn max_load_turn(row: &[Leaf], i: usize) -> u64
     requires { i < length row.now }
-    ensures { result ≡ get_or (lent_stretches row.now) i 0 }
+    ensures { result ≡ get_or (lent_max_load_turns row.now) i 0 }
 {
-    row[i].stretch
+    row[i].max_load_turn
+}
+
+// The cost of a visit that counts: alone, or under load.
+#[derive(Clone, Copy, Debug, PartialEq, Eq)]
+pub enum Cost {
+    Isolated,
+    MaxLoad,
+}
+
+impl Cost {
+    // This cost of the leaf i.
+    pub fn of(self, row: &[Leaf], i: usize) -> u64
+        requires { i < length row.now }
+        ensures { result ≡ cost_in self (block_at (numbers row.now) i) }
+    {
+        match self {
+            Cost::Isolated => isolated(row, i),
+            Cost::MaxLoad => max_load(row, i),
+        }
+    }
+
+    // Its turn at this cost, as it is lent.
+    pub fn turn(self, row: &[Leaf], i: usize) -> u64
+        requires { i < length row.now }
+        ensures { result ≡ get_or (lent_turns_in self row.now) i 0 }
+    {
+        match self {
+            Cost::Isolated => turn(row, i),
+            Cost::MaxLoad => max_load_turn(row, i),
+        }
+    }
+}
+
+// A code with the cost of a visit that counts, and the totals of its functions at that cost beside it; the sums of its loops' rounds stand in the leaves.
+#[derive(Clone, Copy)]
+pub struct PricedCode<'a> {
+    pub code: Code<'a>,
+    pub cost: Cost,
+    pub totals: &'a [u64; MAX_FUNCTIONS],
+}
+
+// Whether all the entries are 0. (All of them in one number, which takes no branch at each: calls look at the unused ends of arrays.)
+pub fn all_zero(entries: &[u64]) -> bool
+    ensures { Says result ((k : ℕ) → get_or entries.now k 0 ≡ 0) }
+{
+    entries.iter().fold(0, |any, entry| any | entry) == 0
 }

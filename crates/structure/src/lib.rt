@@ -16,7 +16,8 @@ ghost use Rattle.structure.specs.Private.{CallRight, LoopRight, IfRight, Sound, 
 
 use rows::{
     Code, INNER_BRACKETS, Kind, Leaf, MAX_COST, MAX_FUNCTIONS, MAX_LEAVES, MAX_LEVEL,
-    MAX_LOOP_BOUND, after, detail, isolated, kind_of, level, max_load, next, other, point, target,
+    MAX_LOOP_BOUND, after, all_zero, detail, isolated, kind_of, level, max_load, next, other,
+    point, target,
 };
 use std::ops::Range;
 
@@ -161,9 +162,7 @@ fn unused(code: &Code) -> bool
     requires few { code.now.functions ≤ 16 }
     ensures { Says result ((f : ℕ) → code.now.functions < f → f ≤ 16 → get_or code.now.bounds.now f 0 ≡ 0) }
 {
-    code.bounds[code.functions + 1..]
-        .iter()
-        .all(|bound| *bound == 0)
+    all_zero(&code.bounds[code.functions + 1..])
 }
 
 // Whether the bounds of the code's functions are right, apart from what lies between them.

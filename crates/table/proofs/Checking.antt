@@ -99,11 +99,11 @@ module _ (ls : List Leaf) (h : Head) where
           fits = (both _ _ (leb_exactly _ _) (leb_exactly _ _)).1 ((short_total C (main stands_for) (2 ^ 40)).0 a.short, (short_total M (main stands_for) (2 ^ 40)).0 a.short_loaded);
           total = ap (λ (x : Head). x.total) k;
           max_load_total = ap (λ (x : Head). x.max_load_total) k;
-          stretch = ap (λ (x : Head). x.stretch) k;
           totals = ap (λ (x : Head). x.totals) k;
+          max_load_totals = ap (λ (x : Head). x.max_load_totals) k;
           turns_are = ap (λ (u : Table). u.turns) e;
           tails_are = ap (λ (u : Table). u.tails) e;
-          stretches_are = ap (λ (u : Table). u.stretches) e;
+          max_load_turns_are = ap (λ (u : Table). u.max_load_turns) e;
         }
 
     -- and where all of this holds, it is one.
@@ -117,10 +117,10 @@ module _ (ls : List Leaf) (h : Head) where
             take_all (h.leaves * 8) (numbers used) (omega (arith, held)) ∙ plan_row q.plan (omega (arith, held, end)),
             g.turns_are,
             g.tails_are,
-            g.stretches_are,
+            g.max_load_turns_are,
             head_whole h (head_of stands_for) (
               (refl, refl, g.total, g.max_load_total),
-              (g.stretch, sym end ∙ plan_leaves q.plan, sym q.plan.count, plan_bounds q.plan wide, g.totals),
+              (sym end ∙ plan_leaves q.plan, sym q.plan.count, plan_bounds q.plan wide, g.totals, g.max_load_totals),
             ),
           ),
         )

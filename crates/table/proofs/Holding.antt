@@ -7,7 +7,7 @@ use native.Mathlib.Nat.{not-suc-le-zero, le_of_suc-le-suc}
 use native.Mathlib.Omega.{arith}
 use lib.ListN.{length, get_or, take, length-append, length-map, length-take}
 use lib.Seq.{length-take-le, get_or-take, ext_get_or}
-use Rattle.model.specs.Plan.{Block, Lines, close, leaf_line, call_line, loop_line, if_line, leaves, all_leaves}
+use Rattle.model.specs.Plan.{Block, Lines, close, leaf_line, call_line, loop_line, if_line, leaves}
 use Rattle.model.specs.Runs.{Among}
 use Rattle.model.specs.Acceptance.{size, sizes}
 use Rattle.model.proofs.Among.{among_first, among_later, among_left, among_right}
@@ -87,10 +87,10 @@ module _ (g : Block → ℕ) (o : List ℕ) where
   marks_later : (b : Block) (bs : List Block) → Marks g o (b ∷ bs) → Marks g o bs
   marks_later b bs h c m = h c (among_later c b bs m)
 
-  pub marks_left : (x y : List Block) → Marks g o (x ++ y) → Marks g o x
+  marks_left : (x y : List Block) → Marks g o (x ++ y) → Marks g o x
   marks_left x y h c m = h c (among_left c x y m)
 
-  pub marks_right : (x y : List Block) → Marks g o (x ++ y) → Marks g o y
+  marks_right : (x y : List Block) → Marks g o (x ++ y) → Marks g o y
   marks_right x y h c m = h c (among_right c x y m)
 
   -- The numbers of the leaves of lines that lie in a row stand in the column, in text order.
@@ -127,13 +127,6 @@ module _ (g : Block → ℕ) (o : List ℕ) where
             (leaves_hold w s v (other_at w i) (after_at w i) h.3 (marks_left (leaves s) (leaves r) j))
             (leaves_hold w r v (after_at w i) e h.4 (marks_right (leaves s) (leaves r) j)))),
       )
-
--- What holds at the leaves of all functions holds at those of each.
-pub marks_of : (g : Block → ℕ) (o : List ℕ) (ls : List Lines) → Marks g o (all_leaves ls) → (k : ℕ) → k < length ls → Marks g o (leaves (get_or ls k close))
-unfolding all_leaves
-marks_of g o [] h k lt = absurd (not-suc-le-zero lt)
-marks_of g o (l ∷ ls) h zero lt = marks_left g o (leaves l) (all_leaves ls) h
-marks_of g o (l ∷ ls) h (suc k) lt = marks_of g o ls (marks_right g o (leaves l) (all_leaves ls) h) k (le_of_suc-le-suc lt)
 
 -- FUNCTIONS ONE AFTER THE OTHER
 

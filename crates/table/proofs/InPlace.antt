@@ -1,7 +1,5 @@
--- Turns, tails and isolated totals that fit where they stand are those of the plan's table, and those of the plan's table fit.
+-- Lent numbers that fit where they stand are those of the plan's table, and those of the plan's table fit: totals and turns at any cost, and tails.
 -- Assumes nothing.
-use Rattle.std.specs.Prelude.{Some}
-use mathlib.Core.Bool.{true}
 use mathlib.Core.List.{List, [], map}
 use mathlib.Core.Path.{◌≡◌, refl, sym, ap, ◌∙◌}
 use Prim.Native.Nat.{ℕ, ◌+◌, ◌-◌, ◌^◌, ◌≤◌, ◌<◌}
@@ -14,36 +12,33 @@ use Rattle.model.specs.Forms.{main}
 use Rattle.model.specs.Total.{total, tally, tallies}
 use Rattle.model.specs.Tail.{tail}
 use Rattle.model.specs.Acceptance.{sizes}
-use Rattle.model.specs.Static.{line_silence}
 use Rattle.model.proofs.Leaves.{leaf_range}
+use Rattle.model.proofs.Statics.{plan_totals, main_last}
 use Rattle.model.proofs.Targets.{plan_turning}
 use Rattle.reader.specs.Raw.{padded}
 use Rattle.reader.proofs.Tasks.{padded_same}
 use Rattle.rows.specs.declared.Leaf.{Leaf}
-use Rattle.rows.specs.Leaves.{lent_turns, lent_tails}
+use Rattle.rows.specs.Leaves.{lent_turns, lent_tails, lent_max_load_turns}
 use Rattle.rows.specs.Rows.{Rep}
 use Rattle.structure.specs.Plans.{Structured}
 use Rattle.rows.proofs.Measures.{rep_size}
-use Rattle.rows.proofs.Plans.{plan_leaves, plan_rep, plan_own}
-use Rattle.rows.specs.Plans.{PlanOf, lines_of}
-use Rattle.columns.specs.Sums.{limit}
+use Rattle.rows.proofs.Plans.{plan_leaves, plan_rep}
+use Rattle.rows.specs.Costs.{limit}
 use Rattle.columns.specs.Columns.{column_of, tail_rule, Contains}
-use Rattle.columns.specs.Whole.{known, Measured, Summed, stretches_written}
-use Rattle.columns.specs.Local.{AllDerived}
+use Rattle.columns.specs.Whole.{known}
+use Rattle.columns.specs.Local.{AllSummed, AllDerived}
 use Rattle.columns.proofs.Stores.{contains_sets}
-use Rattle.columns.proofs.Functions.{tally_same, turns_same, known_at, fun_below}
-use Rattle.columns.proofs.Written.{below_more, max_load_of}
-use Rattle.columns.proofs.Known.{Agree, tail_same, exact_known, exact_measured, known_tallies, main_most}
+use Rattle.columns.proofs.Functions.{tally_same, turns_same, known_at, fun_below, below_more}
+use Rattle.columns.proofs.Known.{Agree, tail_same, exact_measured, known_tallies, main_most}
+use Rattle.columns.proofs.Meaning.{sums_known}
 use Rattle.columns.proofs.Looking.{fill_of, contains_look, tail_look}
 use Rattle.columns.proofs.Reading.{rep_spans}
 use Rattle.table.specs.declared.Head.{Head}
-use Rattle.table.specs.Table.{all_turns, all_tails, table_of}
-use Rattle.table.specs.Accepting.{short?}
-use Rattle.table.specs.Private.{DerivedNumbers, Derives, Agrees}
+use Rattle.table.specs.Table.{all_turns, all_tails}
+use Rattle.table.specs.Private.{Agrees}
 use Rattle.table.proofs.Tests.{leb_exactly, both}
 use Rattle.table.proofs.Holding.{leaves_size, Marks, leaves_hold, holds_one, joined_take, joined_part, joined_long}
-use Rattle.table.proofs.Deriving as derived_numbers
-use Rattle.table.proofs.Deriving.{turns_exact, turns_join, tails_join, tallies_length, Gives, derived, counted, row_summed}
+use Rattle.table.proofs.Deriving.{turns_exact, turns_join, tails_join, tallies_length, SumsOf, ls, plain, line, own, formed, main_total, sums_of, short_both, counted}
 
 -- A column of tails has the tail of each leaf, in text order.
 tails_listed : (ts w : List ℕ) (v i e : ℕ) (l : Lines) → Rep w v i e l → column_of (tail_rule ts) l 0 ≡ map (λ b. tail ts b.number l 0) (leaves l)
@@ -60,177 +55,190 @@ tails_listed ts w v i e l r =
 
 -- Consider a row that keeps rules 3 to 9 and 19.
 module _ {w s : List ℕ} {n : ℕ} (q : Structured w s n) where
-  abbrev ls : List Lines
-  ls = derived_numbers.ls q
+  count : (k : Block → ℕ) → length (tallies k [] (ls q)) ≡ length (ls q)
+  count k = tallies_length k [] (ls q) ∙ omega arith
 
-  abbrev line : ℕ → Lines
-  line = derived_numbers.line q
-
-  abbrev plain : Plan
-  plain = derived_numbers.plain q
-
-  abbrev ts : List ℕ
-  ts = tallies C [] ls
-
-  abbrev own : PlanOf w s (length ls)
-  own = plan_own q.plan
-
-  count : length ts ≡ length ls
-  count = tallies_length C [] ls ∙ omega arith
-
-  ends : get_or s (length ls) 0 ≡ sizes ls
+  ends : get_or s (length (ls q)) 0 ≡ sizes (ls q)
   ends = ap (λ (m : ℕ). get_or s m 0) q.plan.count ∙ plan_leaves q.plan
 
   -- The tails by totals that agree with the plan's.
-  tails_agreed : (cs : List ℕ) → Agree cs ts (length ls) → (f : ℕ) → f < length ls
-      → column_of (tail_rule cs) (line f) 0 ≡ map (λ b. tail ts b.number (line f) 0) (leaves (line f))
+  tails_agreed : (cs : List ℕ) → Agree cs (tallies C [] (ls q)) (length (ls q)) → (f : ℕ) → f < length (ls q)
+      → column_of (tail_rule cs) (line q f) 0 ≡ map (λ b. tail (tallies C [] (ls q)) b.number (line q f) 0) (leaves (line q f))
   tails_agreed cs a f lt =
-      let l = line f in
-      let below = below_more f (length ls) l (omega arith) (fun_below own f lt) in
-      tails_listed cs w 1 (get_or s f 0) (get_or s (f + 1) 0) l (plan_rep {k = f} own lt) ∙
-      ap (λ (g : Block → ℕ). map g (leaves l)) (λ i b. tail_same cs ts (length ls) b.number a l 0 below i)
+      let l = line q f in
+      let below = below_more f (length (ls q)) l (omega arith) (fun_below (own q) f lt) in
+      tails_listed cs w 1 (get_or s f 0) (get_or s (f + 1) 0) l (plan_rep {k = f} (own q) lt) ∙
+      ap (λ (g : Block → ℕ). map g (leaves l)) (λ i b. tail_same cs (tallies C [] (ls q)) (length (ls q)) b.number a l 0 below i)
 
   -- LENT NUMBERS THAT FIT
 
-  module _ {cs o t : List ℕ} (x : AllDerived line s (length ls) cs o t) where
-    measured : Measured C line s (length ls) cs o
-    measured = exact_measured own x.exact
+  -- The totals and turns are the plan's.
+  summed_sums : {k : Block → ℕ} {ts o : List ℕ} → AllSummed k (line q) s (length (ls q)) ts o → length ts ≡ 16 → SumsOf k (plain q) ts o
+  summed_sums {k} {ts} {o} x long =
+      let some : length (ls q) - 1 < length (ls q) = omega (arith, q.plan.count, q.plan.bounds.some) in
+      sums_of q (exact_measured (own q) x.exact) (x.exact.small (length (ls q) - 1) some)
+      (record {
+        long = long;
+        behind = λ f le. elim (dec_lt f 16) [ yes lt ↦ x.behind f le lt | no ge ↦ get_or-eq_default ts 0 (omega arith) ];
+        wide = omega (arith, x.turns_long, ends);
+      })
 
-    some : length ls - 1 < length ls
-    some = omega (arith, q.plan.count, q.plan.bounds.some)
-
-    low : get_or cs (length ls - 1) 0 ≤ limit
-    low = x.exact.small (length ls - 1) some
-
-    agreed : Agree cs ts (length ls)
-    agreed = rw (known_tallies C line ls (λ f i. refl)) (exact_known own x.exact)
-
-    tails_taken : take (sizes ls) t ≡ all_tails ts ls
-    tails_taken =
-        joined_take (tails_join ts) w s t ls q.plan.lie q.plan.bounds.first (omega (arith, x.tails_long, ends))
-        (λ f lt. rw (tails_agreed cs agreed f lt) at (x.tails f lt))
-
-    -- Behind the last function there is nothing.
-    behind : length cs ≡ 16 → (f : ℕ) → length ls ≤ f → get_or cs f 0 ≡ 0
-    behind long f le = elim (dec_lt f 16) [ yes lt ↦ x.behind f le lt | no ge ↦ get_or-eq_default cs 0 (omega arith) ]
-
-    -- The numbers are those of the plan's table, where its stretches are derived.
-    module _ {ms b : List ℕ} (y : Measured M line s (length ls) ms b) (k : get_or ms (length ls - 1) 0 ≤ limit) where
-      numbers :
-          (u₀ : List ℕ) {u : List ℕ} {r : ℕ} (p : Plan) → p.functions ≡ ls → length cs ≡ 16 → length u₀ ≡ 512 → r ≡ line_silence M ms (line (length ls - 1)) 0
-          → u ≡ stretches_written M ms (λ f z. line_silence M ms (line f) z) line s (length ls) (length ls) u₀ → DerivedNumbers p (derived cs ms r (length ls)) o t u
-      numbers u₀ p same long wide release stretches =
-          let m = measured in
-          rw same
-          (record {
-            total = derived_numbers.exact_isolated q m y low k;
-            max_load_total = derived_numbers.exact_loaded q m y low k;
-            stretch = release ∙ derived_numbers.release_is q m y low k;
-            totals = derived_numbers.totals_are q m y low k long (behind long);
-            turns_are = derived_numbers.turns_taken q m y low k (omega (arith, x.turns_long, ends));
-            tails_are = tails_taken;
-            stretches_are = rw stretches (derived_numbers.stretches_taken q m y low k u₀ wide);
-          })
+  -- And so are the tails.
+  derived_tails : {cs o t : List ℕ} → AllDerived (line q) s (length (ls q)) cs o t → take (sizes (ls q)) t ≡ all_tails (tallies C [] (ls q)) (ls q)
+  derived_tails {cs} {o} {t} x =
+      let agreed : Agree cs (tallies C [] (ls q)) (length (ls q)) = sums_known (plain q) (record { plan = own q; exact = x.summed.exact }) (λ f. refl) in
+      joined_take (tails_join (tallies C [] (ls q))) w s t (ls q) q.plan.lie q.plan.bounds.first (omega (arith, x.tails_long, ends))
+      (λ f lt. rw (tails_agreed cs agreed f lt) at (x.tails f lt))
 
   -- LENT NUMBERS OF THE PLAN'S TABLE
 
-  module _ {cs : List ℕ} (totals : cs ≡ padded 16 ts) where
-    agree : Agree cs ts (length ls)
-    agree j lt = ap (λ (l : List ℕ). get_or l j 0) totals ∙ padded_same 16 ts j (omega (arith, count, q.plan.count, q.plan.bounds.few))
+  module _ (k : Block → ℕ) {cs o : List ℕ} (x : SumsOf k (plain q) cs o) where
+    abbrev ts : List ℕ
+    ts = tallies k [] (ls q)
+
+    agree : Agree cs ts (length (ls q))
+    agree j lt = ap (λ (l : List ℕ). get_or l j 0) x.totals ∙ padded_same 16 ts j (omega (arith, count k, q.plan.count, q.plan.bounds.few))
 
     -- The totals are those of the functions, one after the other.
-    as_known : (f : ℕ) → f < length ls → get_or cs f 0 ≡ tally C (known C line f) (line f)
+    as_known : (f : ℕ) → f < length (ls q) → get_or cs f 0 ≡ tally k (known k (line q) f) (line q f)
     as_known f lt =
-        agree f lt ∙ (ap (λ (l : List ℕ). get_or l f 0) (known_tallies C line ls (λ g i. refl)) ∙ known_at C line (length ls) f lt)
+        agree f lt ∙ (ap (λ (l : List ℕ). get_or l f 0) (known_tallies k (line q) (ls q) (λ g i. refl)) ∙ known_at k (line q) (length (ls q)) f lt)
 
-    exact_total : (f : ℕ) → f < length ls → get_or cs f 0 ≡ tally C cs (line f)
+    exact_total : (f : ℕ) → f < length (ls q) → get_or cs f 0 ≡ tally k cs (line q f)
     exact_total f lt =
         as_known f lt ∙
-        tally_same C (known C line f) cs f (λ j i. known_at C line f j i ∙ sym (as_known j (omega arith))) (line f) (fun_below own f lt)
+        tally_same k (known k (line q) f) cs f (λ j i. known_at k (line q) f j i ∙ sym (as_known j (omega arith))) (line q f) (fun_below (own q) f lt)
 
     -- None is over the limit.
-    all_small : short? plain ≡ true → (f : ℕ) → f < length ls → get_or cs f 0 ≤ limit
-    all_small fits f lt =
-        let m : length ls - 1 < length ls = omega arith in
-        let (c, d) = (both _ _ (leb_exactly (total C (main plain)) (2 ^ 40)) (leb_exactly (total M (main plain)) (2 ^ 40))).0 fits in
-        let e = derived_numbers.main_total q C in
-        let z = ap (λ (l : List ℕ). get_or l (length ls - 1) 0) (known_tallies C line ls (λ g i. refl)) in
+    all_small : (f : ℕ) → f < length (ls q) → get_or cs f 0 ≤ limit
+    all_small f lt =
+        let z = ap (λ (l : List ℕ). get_or l (length (ls q) - 1) 0) (known_tallies k (line q) (ls q) (λ g i. refl)) in
         omega (
           arith,
-          main_most C own q.called (length ls) f (omega arith) lt,
-          known_at C line (length ls) f lt,
+          main_most k (own q) q.called (length (ls q)) f (omega arith) lt,
+          known_at k (line q) (length (ls q)) f lt,
           as_known f lt,
           z,
-          e,
-          c,
+          main_total q k,
+          x.short,
         )
 
-    fitting : (o t : List ℕ) → short? plain ≡ true → take (sizes ls) o ≡ all_turns ts ls → take (sizes ls) t ≡ all_tails ts ls → AllDerived line s (length ls) cs o t
-    fitting o t fits turns_are tails_are =
-        let few = q.plan.bounds.few in
+    pub sums_fit : AllSummed k (line q) s (length (ls q)) cs o
+    sums_fit =
         record {
           exact =
               record {
                 total = exact_total;
-                small = all_small fits;
+                small = all_small;
                 rounds = λ f lt.
-                    let below = below_more f (length ls) (line f) (omega arith) (fun_below own f lt) in
-                    let a = turns_same C cs ts (length ls) agree (line f) below in
-                    let c = tally_same C cs ts (length ls) agree (line f) below in
-                    let b = turns_exact ts (line f) (plan_turning plain (derived_numbers.formed q) f lt) (omega (arith, c, exact_total f lt, all_small fits f lt)) in
-                    rw (a ∙ b) (joined_part (turns_join ts) w s o ls q.plan.lie q.plan.bounds.first turns_are f lt);
+                    let below = below_more f (length (ls q)) (line q f) (omega arith) (fun_below (own q) f lt) in
+                    let a = turns_same k cs ts (length (ls q)) agree (line q f) below in
+                    let c = tally_same k cs ts (length (ls q)) agree (line q f) below in
+                    let b = turns_exact k ts (line q f) (plan_turning (plain q) (formed q) f lt) (omega (arith, c, exact_total f lt, all_small f lt)) in
+                    rw (a ∙ b) (joined_part (turns_join k ts) w s o (ls q) q.plan.lie q.plan.bounds.first x.turns_are f lt);
               };
-          tails = λ f lt. rw (tails_agreed cs agree f lt) (joined_part (tails_join ts) w s t ls q.plan.lie q.plan.bounds.first tails_are f lt);
           behind = λ f le lt.
-              ap (λ (l : List ℕ). get_or l f 0) totals ∙
-              (padded_same 16 ts f (omega (arith, count, q.plan.count, few)) ∙ get_or-eq_default ts 0 (omega (arith, count)));
-          turns_long = omega (arith, ends, joined_long (turns_join ts) o ls turns_are);
-          tails_long = omega (arith, ends, joined_long (tails_join ts) t ls tails_are);
+              ap (λ (l : List ℕ). get_or l f 0) x.totals ∙
+              (padded_same 16 ts f (omega (arith, count k, q.plan.count, q.plan.bounds.few)) ∙ get_or-eq_default ts 0 (omega (arith, count k)));
+          turns_long = omega (arith, ends, joined_long (turns_join k ts) o (ls q) x.turns_are);
         }
 
--- WHAT THE CHECK GIVES
+  tails_fit : {cs o : List ℕ} (t : List ℕ) → SumsOf C (plain q) cs o → take (sizes (ls q)) t ≡ all_tails (tallies C [] (ls q)) (ls q) → AllDerived (line q) s (length (ls q)) cs o t
+  tails_fit {cs} t x e =
+      record {
+        summed = sums_fit C x;
+        tails = λ f lt.
+            rw (tails_agreed cs (agree C x) f lt) (joined_part (tails_join (tallies C [] (ls q))) w s t (ls q) q.plan.lie q.plan.bounds.first e f lt);
+        tails_long = omega (arith, ends, joined_long (tails_join (tallies C [] (ls q))) t (ls q) e);
+      }
 
--- Lent numbers that fit.
-abbrev pub Fitting : List ℕ → List ℕ → ℕ → List ℕ → List ℕ → List ℕ → Type 0
-Fitting w s n cs o t = (v : PlanOf w s n) → AllDerived (lines_of v) s n cs o t
+-- WHAT THE CHECKS GIVE
 
--- They are as `measure` gives them.
-pub as_measured : {w s cs o t : List ℕ} {n : ℕ} → Fitting w s n cs o t → Gives C w s n cs o
-as_measured x v = exact_measured v (x v).exact
+module _ {w s : List ℕ} {n : ℕ} (q : Structured w s n) (p : Plan) (same : p.functions ≡ ls q) where
+  -- Lent numbers that fit are those of the plan.
+  fit_sums : {k : Block → ℕ} {ts o : List ℕ} → AllSummed k (line q) s n ts o → length ts ≡ 16 → SumsOf k p ts o
+  fit_sums {k} {ts} {o} x long =
+      let z = counted q (λ m. AllSummed k (line q) s m ts o → SumsOf k (plain q) ts o) (λ x. summed_sums q x long) x in
+      rw same (record { short = z.short; totals = z.totals; last_total = z.last_total; turns_are = z.turns_are })
 
-module _ {w s : List ℕ} {n : ℕ} (q : Structured w s n) where
-  -- The total of the plan is within the limit.
-  pub fitting_low : {cs o t : List ℕ} → Fitting w s n cs o t → get_or cs (n - 1) 0 ≤ limit
-  fitting_low x = (x q.plan).exact.small (n - 1) (omega (arith, q.plan.bounds.some))
+  fit_tails : {cs o t : List ℕ} → AllDerived (line q) s n cs o t → take (sizes p.functions) t ≡ all_tails (tallies C [] p.functions) p.functions
+  fit_tails {cs} {o} {t} x =
+      counted q (λ m. AllDerived (line q) s m cs o t → take (sizes p.functions) t ≡ all_tails (tallies C [] p.functions) p.functions) (λ x. rw same (derived_tails q x)) x
 
-  -- What `stretches` asks.
-  pub fitting_costed : {cs o t ms b : List ℕ} → Fitting w s n cs o t → Gives M w s n ms b → get_or ms (n - 1) 0 ≤ limit → Summed M w s n ms b
-  fitting_costed x y k = max_load_of (row_summed q (as_measured x) y (fitting_low x) k)
+  -- And those of the plan fit.
+  plain_sums : {k : Block → ℕ} {ts o : List ℕ} → SumsOf k p ts o → SumsOf k (plain q) ts o
+  plain_sums z = record { short = rw same at z.short; totals = rw same at z.totals; last_total = rw same at z.last_total; turns_are = rw same at z.turns_are }
 
-  module _ (p : Plan) (same : p.functions ≡ q.plan.functions) where
-    -- The numbers of the plan's table fit.
-    pub table_fits : (us : List Leaf) (h : Head) → sizes p.functions ≡ h.leaves → Agrees p us h → AllDerived (line q) s n h.totals (lent_turns us) (lent_tails us)
-    table_fits us h few g =
-        let cut : (l : List ℕ) → take (sizes q.plan.functions) l ≡ take h.leaves l = λ l. ap (λ (m : ℕ). take m l) (sym (ap sizes same) ∙ few) in
-        let turned : take (sizes q.plan.functions) (lent_turns us) ≡ (table_of p).turns = cut (lent_turns us) ∙ g.turns_are in
-        let held : take (sizes q.plan.functions) (lent_tails us) ≡ (table_of p).tails = cut (lent_tails us) ∙ g.tails_are in
-        counted q (λ m. AllDerived (line q) s m h.totals (lent_turns us) (lent_tails us))
-        (fitting q (rw same at g.totals) (lent_turns us) (lent_tails us) (rw same at g.fits) (rw same at turned) (rw same at held))
+  sums_fitting : (k : Block → ℕ) {ts o : List ℕ} → SumsOf k p ts o → AllSummed k (line q) s n ts o
+  sums_fitting k {ts} {o} x = counted q (λ m. AllSummed k (line q) s m ts o) (sums_fit q k (plain_sums x))
 
-    -- Lent numbers that fit, and derived stretches, are those of the plan's table.
-    pub fitting_derives :
-        (u₀ : List ℕ) {cs o t ms b u : List ℕ} {r : ℕ} → Fitting w s n cs o t → Gives M w s n ms b → get_or ms (n - 1) 0 ≤ limit → length cs ≡ 16 → length u₀ ≡ 512
-        → ((v : Summed M w s n ms b) → r ≡ line_silence M ms (lines_of v.plan (n - 1)) 0)
-        → ((v : Summed M w s n ms b) → u ≡ stretches_written M ms (λ f z. line_silence M ms (lines_of v.plan f) z) (lines_of v.plan) s n n u₀)
-        → Derives p (Some (derived cs ms r n)) o t u
-    fitting_derives u₀ {cs} {o} {t} {ms} {b} {u} {r} x y k long wide release stretches =
-        counted q (λ m. Fitting w s m cs o t → Gives M w s m ms b → get_or ms (m - 1) 0 ≤ limit
-        → ((v : Summed M w s m ms b) → r ≡ line_silence M ms (lines_of v.plan (m - 1)) 0)
-        → ((v : Summed M w s m ms b) → u ≡ stretches_written M ms (λ f z. line_silence M ms (lines_of v.plan f) z) (lines_of v.plan) s m m u₀)
-        → Derives p (Some (derived cs ms r m)) o t u)
-        (λ x y k release stretches.
-        let v = own q in
-        let c = max_load_of (derived_numbers.summed q (measured q (x v)) (y v) (low q (x v)) k) in (
-          rw same (derived_numbers.short q (measured q (x v)) (y v) (low q (x v)) k),
-          numbers q (x v) (y v) k u₀ p same long wide (release c) (stretches c),
-        )) x y k release stretches
+  tails_fitting : {cs o : List ℕ} (t : List ℕ) → SumsOf C p cs o → take (sizes p.functions) t ≡ all_tails (tallies C [] p.functions) p.functions
+      → AllDerived (line q) s n cs o t
+  tails_fitting {cs} {o} t x h = counted q (λ m. AllDerived (line q) s m cs o t) (tails_fit q t (plain_sums x) (rw same at h))
+
+  -- LEAVES AND A HEAD THAT AGREE WITH THE PLAN'S TABLE
+
+  module _ (us : List Leaf) (h : Head) (few : sizes p.functions ≡ h.leaves) where
+    cut : (l : List ℕ) → take (sizes p.functions) l ≡ take h.leaves l
+    cut l = ap (λ (m : ℕ). take m l) few
+
+    -- The number of the last function.
+    last_number : (ts : List ℕ) → get_or ts (length p.functions - 1) 0 ≡ get_or ts (n - 1) 0
+    last_number ts = ap (λ (m : ℕ). get_or ts (m - 1) 0) (ap length same ∙ q.plan.count)
+
+    -- The numbers at one cost.
+    sums_at : (k : Block → ℕ) {ts c : List ℕ} → total k (main p) ≤ limit → ts ≡ padded 16 (tallies k [] p.functions)
+        → take h.leaves c ≡ all_turns k (tallies k [] p.functions) p.functions → SumsOf k p ts c
+    sums_at k {ts} {c} short totals turned =
+        let m = length p.functions - 1 in
+        let vs = tallies k [] p.functions in
+        let some : 1 ≤ length p.functions = omega (arith, ap length same, q.plan.count, q.plan.bounds.some) in
+        let most : length p.functions ≤ 16 = omega (arith, ap length same, q.plan.count, q.plan.bounds.few) in
+        record {
+          short = short;
+          totals = totals;
+          last_total = ap (λ (l : List ℕ). get_or l m 0) totals ∙
+              (padded_same 16 vs m (omega (arith, tallies_length k [] p.functions)) ∙ (plan_totals k p m (omega arith) ∙ sym (ap (total k) (main_last p))));
+          turns_are = cut c ∙ turned;
+        }
+
+    -- Where all agree, they are the plan's at both costs, so they fit,
+    module _ (g : Agrees p us h) where
+      lows : (total C (main p) ≤ limit) × (total M (main p) ≤ limit)
+      lows = let (c, m) = (both _ _ (leb_exactly (total C (main p)) (2 ^ 40)) (leb_exactly (total M (main p)) (2 ^ 40))).0 g.fits in (omega arith, omega arith)
+
+      isolated : SumsOf C p h.totals (lent_turns us)
+      isolated = sums_at C lows.0 g.totals g.turns_are
+
+      loaded : SumsOf M p h.max_load_totals (lent_max_load_turns us)
+      loaded = sums_at M lows.1 g.max_load_totals g.max_load_turns_are
+
+      pub agree_tails : AllDerived (line q) s n h.totals (lent_turns us) (lent_tails us)
+      agree_tails = tails_fitting (lent_tails us) isolated (cut (lent_tails us) ∙ g.tails_are)
+
+      pub agree_sums : AllSummed M (line q) s n h.max_load_totals (lent_max_load_turns us)
+      agree_sums = sums_fitting M loaded
+
+      pub agree_totals : (h.total ≡ get_or h.totals (n - 1) 0) × (h.max_load_total ≡ get_or h.max_load_totals (n - 1) 0)
+      agree_totals = (
+        g.total ∙ (sym isolated.last_total ∙ last_number h.totals),
+        g.max_load_total ∙ (sym loaded.last_total ∙ last_number h.max_load_totals),
+      )
+
+    -- and where they fit, all agree.
+    pub agreement : length h.totals ≡ 16 → length h.max_load_totals ≡ 16 → AllDerived (line q) s n h.totals (lent_turns us) (lent_tails us)
+        → AllSummed M (line q) s n h.max_load_totals (lent_max_load_turns us)
+        → (h.total ≡ get_or h.totals (n - 1) 0) × (h.max_load_total ≡ get_or h.max_load_totals (n - 1) 0) → Agrees p us h
+    agreement totals_long loads_long x y e =
+        let c = fit_sums x.summed totals_long in
+        let m = fit_sums y loads_long in
+        record {
+          fits = short_both p c.short m.short;
+          total = e.0 ∙ (sym (last_number h.totals) ∙ c.last_total);
+          max_load_total = e.1 ∙ (sym (last_number h.max_load_totals) ∙ m.last_total);
+          totals = c.totals;
+          max_load_totals = m.totals;
+          turns_are = sym (cut (lent_turns us)) ∙ c.turns_are;
+          tails_are = sym (cut (lent_tails us)) ∙ fit_tails x;
+          max_load_turns_are = sym (cut (lent_max_load_turns us)) ∙ m.turns_are;
+        }

@@ -98,7 +98,7 @@ called_plan g s = subst (λ (ls : List Lines). Called ls) g.same s
 
 -- Nothing is asked of the columns of a refused plan.
 pub nothing_filled : (o : Outcome) {k : Refusal} {j : ℕ} {t u v : List ℕ} → o ≡ refused k j → ColumnsWritten o t u v
-nothing_filled o e = record { turns_are = λ p x. no_plan (sym e ∙ x); tails_are = λ p x. no_plan (sym e ∙ x); stretches_are = λ p x. no_plan (sym e ∙ x) }
+nothing_filled o e = record { turns_are = λ p x. no_plan (sym e ∙ x); tails_are = λ p x. no_plan (sym e ∙ x); max_load_turns_are = λ p x. no_plan (sym e ∙ x) }
   where
     no_plan : {A : Type 0} {k : Refusal} {j : ℕ} {p : Plan} → refused k j ≡ plan p → A
     no_plan e = cc
@@ -113,7 +113,7 @@ head_given p raw d c n =
     let e = raw_numbers p c in
     head_whole (headed raw d) (head_of p) (
       (ap (λ (r : Raw). r.deadline) e, ap (λ (r : Raw). r.switch) e, n.total, n.max_load_total),
-      (n.stretch, ap (λ (r : Raw). r.leaves) e, ap (λ (r : Raw). r.functions) e, ap (λ (r : Raw). r.bounds) e, n.totals),
+      (ap (λ (r : Raw). r.leaves) e, ap (λ (r : Raw). r.functions) e, ap (λ (r : Raw). r.bounds) e, n.totals, n.max_load_totals),
     )
 
 pub accepts : {p : Plan} {raw : Raw} {row : List Leaf} (c : RawOf p raw row) (k : Head) {d : Derived} {t u v : List ℕ} → judged p ≡ plan p
@@ -126,7 +126,7 @@ accepts_filled {p} {d} {t} {u} {v} e n =
     record {
       turns_are = λ q x. subst (λ (y : Plan). take (sizes y.functions) t ≡ (table_of y).turns) (one_plan (sym e ∙ x)) n.turns_are;
       tails_are = λ q x. subst (λ (y : Plan). take (sizes y.functions) u ≡ (table_of y).tails) (one_plan (sym e ∙ x)) n.tails_are;
-      stretches_are = λ q x. subst (λ (y : Plan). take (sizes y.functions) v ≡ (table_of y).stretches) (one_plan (sym e ∙ x)) n.stretches_are;
+      max_load_turns_are = λ q x. subst (λ (y : Plan). take (sizes y.functions) v ≡ (table_of y).max_load_turns) (one_plan (sym e ∙ x)) n.max_load_turns_are;
     }
   where
     one_plan : {p q : Plan} → plan p ≡ plan q → p ≡ q

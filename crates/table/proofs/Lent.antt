@@ -18,7 +18,7 @@ use Rattle.table.specs.declared.Head.{Head}
 use Rattle.table.specs.Table.{Table, head_of, table_of}
 use Rattle.table.specs.Lent.{table_with, leaf_of, leaves_from}
 use Rattle.table.specs.Private.{with_derived, filled}
-use Rattle.table.proofs.Written.{turns_size, tails_size, stretches_size}
+use Rattle.table.proofs.Written.{turns_size, tails_size, max_load_turns_size}
 
 -- So many leaves of a table, and the last of them.
 pub length_leaves : (t : Table) (i n : ℕ) → length (leaves_from t i n) ≡ n
@@ -70,7 +70,7 @@ table_of_own ls h =
       row = raw i;
       turns = column (λ (l : Leaf). l.turn) i;
       tails = column (λ (l : Leaf). l.tail) i;
-      stretches = column (λ (l : Leaf). l.stretch) i;
+      max_load_turns = column (λ (l : Leaf). l.max_load_turn) i;
       head = h;
     }
 
@@ -142,6 +142,6 @@ table_back p vs =
       row = row_is j;
       turns = column_back p (λ (x : Leaf). x.turn) (table_of p).turns (λ i. refl) (turns_size p) vs j;
       tails = column_back p (λ (x : Leaf). x.tail) (table_of p).tails (λ i. refl) (tails_size p) vs j;
-      stretches = column_back p (λ (x : Leaf). x.stretch) (table_of p).stretches (λ i. refl) (stretches_size p) vs j;
+      max_load_turns = column_back p (λ (x : Leaf). x.max_load_turn) (table_of p).max_load_turns (λ i. refl) (max_load_turns_size p) vs j;
       head = head_of p;
     }

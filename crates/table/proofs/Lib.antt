@@ -6,11 +6,9 @@ pub mod Reading
 pub mod Holding
 pub mod Deriving
 pub mod InPlace
-pub mod Agreeing
 pub mod Written
 pub mod Lent
 pub mod Checking
 pub mod Judging
 pub mod Writing
 pub mod Theorems
-pub mod Comparing

@@ -36,13 +36,13 @@ same_list (n ∷ u) (m ∷ v) =
 abbrev pub SameHead : Head → Head → Type 0
 SameHead h k =
     ((h.deadline ≡ k.deadline) × (h.switch ≡ k.switch) × (h.total ≡ k.total) × (h.max_load_total ≡ k.max_load_total)) ×
-    ((h.stretch ≡ k.stretch) × (h.leaves ≡ k.leaves) × (h.functions ≡ k.functions) × (h.bounds ≡ k.bounds) × (h.totals ≡ k.totals))
+    ((h.leaves ≡ k.leaves) × (h.functions ≡ k.functions) × (h.bounds ≡ k.bounds) × (h.totals ≡ k.totals) × (h.max_load_totals ≡ k.max_load_totals))
 
 head_parts : (h k : Head) → (same_head h k ≡ true) ↔ SameHead h k
 head_parts h k =
     both _ _
     (four _ _ _ _ (eqb_exactly h.deadline k.deadline) (eqb_exactly h.switch k.switch) (eqb_exactly h.total k.total) (eqb_exactly h.max_load_total k.max_load_total))
-    (five _ _ _ _ _ (eqb_exactly h.stretch k.stretch) (eqb_exactly h.leaves k.leaves) (eqb_exactly h.functions k.functions) (same_list h.bounds k.bounds) (same_list h.totals k.totals))
+    (five _ _ _ _ _ (eqb_exactly h.leaves k.leaves) (eqb_exactly h.functions k.functions) (same_list h.bounds k.bounds) (same_list h.totals k.totals) (same_list h.max_load_totals k.max_load_totals))
 
 pub head_whole : (h k : Head) → SameHead h k → h ≡ k
 head_whole h k ((a, b, c, d), (e, f, g, i, j)) = λ x.
@@ -51,34 +51,34 @@ head_whole h k ((a, b, c, d), (e, f, g, i, j)) = λ x.
       switch = b x;
       total = c x;
       max_load_total = d x;
-      stretch = e x;
-      leaves = f x;
-      functions = g x;
-      bounds = i x;
-      totals = j x;
+      leaves = e x;
+      functions = f x;
+      bounds = g x;
+      totals = i x;
+      max_load_totals = j x;
     }
 
 head_refl : (h k : Head) → h ≡ k → SameHead h k
 head_refl h k e = (
   (ap (λ x. x.deadline) e, ap (λ x. x.switch) e, ap (λ x. x.total) e, ap (λ x. x.max_load_total) e),
-  (ap (λ x. x.stretch) e, ap (λ x. x.leaves) e, ap (λ x. x.functions) e, ap (λ x. x.bounds) e, ap (λ x. x.totals) e),
+  (ap (λ x. x.leaves) e, ap (λ x. x.functions) e, ap (λ x. x.bounds) e, ap (λ x. x.totals) e, ap (λ x. x.max_load_totals) e),
 )
 
 pub head_exactly : (h k : Head) → (same_head h k ≡ true) ↔ (h ≡ k)
 head_exactly h k = ((λ e. head_whole h k ((head_parts h k).0 e)), λ e. (head_parts h k).1 (head_refl h k e))
 
 abbrev pub Same : Table → Table → Type 0
-Same t u = (t.row ≡ u.row) × (t.turns ≡ u.turns) × (t.tails ≡ u.tails) × (t.stretches ≡ u.stretches) × (t.head ≡ u.head)
+Same t u = (t.row ≡ u.row) × (t.turns ≡ u.turns) × (t.tails ≡ u.tails) × (t.max_load_turns ≡ u.max_load_turns) × (t.head ≡ u.head)
 
 same_parts : (t u : Table) → (same_table t u ≡ true) ↔ Same t u
 same_parts t u =
-    five _ _ _ _ _ (same_list t.row u.row) (same_list t.turns u.turns) (same_list t.tails u.tails) (same_list t.stretches u.stretches) (head_exactly t.head u.head)
+    five _ _ _ _ _ (same_list t.row u.row) (same_list t.turns u.turns) (same_list t.tails u.tails) (same_list t.max_load_turns u.max_load_turns) (head_exactly t.head u.head)
 
 pub same_whole : (t u : Table) → Same t u → t ≡ u
-same_whole t u (a, b, c, d, e) = λ x. record { row = a x; turns = b x; tails = c x; stretches = d x; head = e x }
+same_whole t u (a, b, c, d, e) = λ x. record { row = a x; turns = b x; tails = c x; max_load_turns = d x; head = e x }
 
 same_refl : (t u : Table) → t ≡ u → Same t u
-same_refl t u e = (ap (λ x. x.row) e, ap (λ x. x.turns) e, ap (λ x. x.tails) e, ap (λ x. x.stretches) e, ap (λ x. x.head) e)
+same_refl t u e = (ap (λ x. x.row) e, ap (λ x. x.turns) e, ap (λ x. x.tails) e, ap (λ x. x.max_load_turns) e, ap (λ x. x.head) e)
 
 pub same_exactly : (t u : Table) → (same_table t u ≡ true) ↔ (t ≡ u)
 same_exactly t u = ((λ e. same_whole t u ((same_parts t u).0 e)), λ e. (same_parts t u).1 (same_refl t u e))

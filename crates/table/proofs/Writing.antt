@@ -142,7 +142,7 @@ module _ {capacity : ℕ} {text : List ℕ} {raw : Raw} (ls : List Leaf) (c : Ca
         level = raw_at i 7 (omega arith) j;
         turn = column_at (table_of p).turns xs (f.turns_are p e) i h j;
         tail = column_at (table_of p).tails ys (f.tails_are p e) i h j;
-        stretch = column_at (table_of p).stretches zs (f.stretches_are p e) i h j;
+        max_load_turn = column_at (table_of p).max_load_turns zs (f.max_load_turns_are p e) i h j;
       }
 
   -- The leaves that are written are the table's,

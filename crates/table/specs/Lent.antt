@@ -6,13 +6,13 @@ use Rattle.model.specs.Acceptance.{sizes}
 use Rattle.reader.specs.Outcome.{Outcome, plan, refused}
 use Rattle.rows.specs.declared.Leaf.{Leaf}
 use Rattle.rows.specs.Rows.{kind_at, point_at, isolated_at, max_load_at, detail_at, other_at, after_at, level_at}
-use Rattle.rows.specs.Leaves.{numbers, lent_turns, lent_tails, lent_stretches}
+use Rattle.rows.specs.Leaves.{numbers, lent_turns, lent_tails, lent_max_load_turns}
 use Rattle.table.specs.declared.Head.{Head}
 use Rattle.table.specs.Table.{Table, table_of, table_at}
 
 -- The table that these leaves and this head stand for.
 abbrev pub table_with : List Leaf → Head → Table
-table_with ls h = table_at (numbers ls) (lent_turns ls) (lent_tails ls) (lent_stretches ls) h
+table_with ls h = table_at (numbers ls) (lent_turns ls) (lent_tails ls) (lent_max_load_turns ls) h
 
 -- The leaf i of a table.
 abbrev pub leaf_of : Table → ℕ → Leaf
@@ -28,7 +28,7 @@ leaf_of t i =
       level = level_at t.row i;
       turn = get_or t.turns i 0;
       tail = get_or t.tails i 0;
-      stretch = get_or t.stretches i 0;
+      max_load_turn = get_or t.max_load_turns i 0;
     }
 
 -- So many leaves of a table, from the leaf i on.

@@ -53,7 +53,7 @@ pub record RawOf (p : Plan) (raw : Raw) (row : List Leaf) : Type 0 where
   pub row_is : take (sizes p.functions * 8) (numbers row) ≡ row_of p
 
 -- The columns of an accepted plan begin these lists.
-pub record ColumnsWritten (o : Outcome) (turns tails stretches : List ℕ) : Type 0 where
+pub record ColumnsWritten (o : Outcome) (turns tails max_load_turns : List ℕ) : Type 0 where
   pub turns_are : (p : Plan) → o ≡ plan p → take (sizes p.functions) turns ≡ (table_of p).turns
   pub tails_are : (p : Plan) → o ≡ plan p → take (sizes p.functions) tails ≡ (table_of p).tails
-  pub stretches_are : (p : Plan) → o ≡ plan p → take (sizes p.functions) stretches ≡ (table_of p).stretches
+  pub max_load_turns_are : (p : Plan) → o ≡ plan p → take (sizes p.functions) max_load_turns ≡ (table_of p).max_load_turns

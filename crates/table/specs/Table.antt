@@ -3,10 +3,9 @@
 -- Assumes nothing: these are definitions.
 use Rattle.std.specs.Prelude.{Bool, true, false, ◌&&◌, List, [], ◌∷◌, ◌++◌, map, ℕ, ◌*◌, eqb, length, take}
 use Rattle.std.proofs.Math.Option.{Option, none, some}
-use Rattle.model.specs.Plan.{Block, C, M, Lines, Plan, leaves, all_leaves}
+use Rattle.model.specs.Plan.{Block, C, M, Lines, Plan, leaves}
 use Rattle.model.specs.Forms.{main}
 use Rattle.model.specs.Total.{total, tallies}
-use Rattle.model.specs.Stretch.{silence, stretch}
 use Rattle.model.specs.Tail.{tail}
 use Rattle.model.specs.Acceptance.{sizes}
 use Rattle.model.specs.Places.{pick}
@@ -22,27 +21,23 @@ pub record Table : Type 0 where
   pub row : List ℕ
   pub turns : List ℕ
   pub tails : List ℕ
-  pub stretches : List ℕ
+  pub max_load_turns : List ℕ
   pub head : Head
 
 -- THE TABLE OF A PLAN
 
--- Turns (rows/specs/Turns) and tails (01) of all leaves, in text order; ts are the isolated totals of the functions. Tail: from a first visit of the
--- leaf to the end of its own function.
-unfoldable pub all_turns : List ℕ → List Lines → List ℕ
-all_turns ts [] = []
-all_turns ts (l ∷ ls) = turns_in C ts l ++ all_turns ts ls
+-- Turns (rows/specs/Turns) of all leaves at the cost k, in text order; ts are the totals of the functions at that cost.
+unfoldable pub all_turns : (Block → ℕ) → List ℕ → List Lines → List ℕ
+all_turns k ts [] = []
+all_turns k ts (l ∷ ls) = turns_in k ts l ++ all_turns k ts ls
 
+-- Tails (01) of all leaves, in text order; ts are the isolated totals of the functions. Tail: from a first visit of the leaf to the end of its own function.
 unfoldable pub all_tails : List ℕ → List Lines → List ℕ
 all_tails ts [] = []
 all_tails ts (l ∷ ls) = map (λ b. tail ts b.number l 0) (leaves l) ++ all_tails ts ls
 
--- Stretch (01) of a point; 0 for a silent leaf.
-abbrev pub stretch_of : Plan → Block → ℕ
-stretch_of p b = pick b.point (stretch M b.number (main p) 0) 0
-
--- What stands beside the row: D, T, both totals, the stretch of the release, how many leaves and functions there are, the functions' bounds, and their
--- isolated totals. What 16 functions would need is filled up with 0.
+-- What stands beside the row: D, T, both totals, how many leaves and functions there are, the functions' bounds, and their totals at both costs. What 16
+-- functions would need is filled up with 0.
 abbrev pub head_of : Plan → Head
 head_of p =
     record {
@@ -50,20 +45,20 @@ head_of p =
       switch = p.switch;
       total = total C (main p);
       max_load_total = total M (main p);
-      stretch = silence M (main p) 0;
       leaves = sizes p.functions;
       functions = length p.functions;
       bounds = padded 17 (bounds_of p);
       totals = padded 16 (tallies C [] p.functions);
+      max_load_totals = padded 16 (tallies M [] p.functions);
     }
 
 abbrev pub table_of : Plan → Table
 table_of p =
     record {
       row = row_of p;
-      turns = all_turns (tallies C [] p.functions) p.functions;
+      turns = all_turns C (tallies C [] p.functions) p.functions;
       tails = all_tails (tallies C [] p.functions) p.functions;
-      stretches = map (stretch_of p) (all_leaves p.functions);
+      max_load_turns = all_turns M (tallies M [] p.functions) p.functions;
       head = head_of p;
     }
 
@@ -84,13 +79,13 @@ same_numbers (n ∷ u) (m ∷ v) = eqb n m && same_numbers u v
 abbrev pub same_head : Head → Head → Bool
 same_head h k =
     (eqb h.deadline k.deadline && (eqb h.switch k.switch && (eqb h.total k.total && eqb h.max_load_total k.max_load_total))) &&
-    (eqb h.stretch k.stretch && (eqb h.leaves k.leaves && (eqb h.functions k.functions &&
-    (same_numbers h.bounds k.bounds && same_numbers h.totals k.totals))))
+    (eqb h.leaves k.leaves && (eqb h.functions k.functions && (same_numbers h.bounds k.bounds &&
+    (same_numbers h.totals k.totals && same_numbers h.max_load_totals k.max_load_totals))))
 
 abbrev pub same_table : Table → Table → Bool
 same_table t u =
     same_numbers t.row u.row && (same_numbers t.turns u.turns && (same_numbers t.tails u.tails &&
-    (same_numbers t.stretches u.stretches && same_head t.head u.head)))
+    (same_numbers t.max_load_turns u.max_load_turns && same_head t.head u.head)))
 
 -- The plan of a table: the one that it stands for, if that is accepted and this is its table. 01, refusal 11: 'the table is that of no accepted plan'
 -- where there is none.
@@ -115,20 +110,20 @@ zero_head =
       switch = 0;
       total = 0;
       max_load_total = 0;
-      stretch = 0;
       leaves = 0;
       functions = 0;
       bounds = padded 17 [];
       totals = padded 16 [];
+      max_load_totals = padded 16 [];
     }
 
 -- The table of the first records in these lists, as many as the head says.
 abbrev pub table_at : List ℕ → List ℕ → List ℕ → List ℕ → Head → Table
-table_at row turns tails stretches h =
+table_at row turns tails max_load_turns h =
     record {
       row = take (h.leaves * 8) row;
       turns = take h.leaves turns;
       tails = take h.leaves tails;
-      stretches = take h.leaves stretches;
+      max_load_turns = take h.leaves max_load_turns;
       head = h;
     }

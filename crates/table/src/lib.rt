@@ -5,21 +5,20 @@ ghost use Rattle.std.specs.Prelude.{◌≡◌, ◌≤◌, length, take};
 ghost use Rattle.model.specs.Plan.{Plan};
 ghost use Rattle.model.specs.Acceptance.{sizes};
 ghost use Rattle.rows.specs.Answers.{Says};
-ghost use Rattle.rows.specs.Leaves.{lent_stretches};
 ghost use Rattle.structure.specs.Plans.{CodeStructured};
 ghost use Rattle.table.specs.Table.{zero_head, good};
 ghost use Rattle.table.specs.Lent.{table_with, row_after};
 ghost use Rattle.table.specs.Reading.{judged, verdict, result_of, RawOf, ColumnsWritten};
 ghost use Rattle.table.specs.Private.{HeadRanged, Derives, Agrees, headed, filled};
 
-use columns::{Cost, derive, measure, tails_agree};
+use columns::{measure, sums_agree, tails_agree};
 use model::Refusal;
 use reader::{Raw, RefusedAt, read_lines};
-use rows::{BOUNDS, Code, LIMIT, Leaf, MAX_FUNCTIONS, MAX_LEAVES, MAX_SWITCH};
+use rows::{BOUNDS, Code, Cost, LIMIT, Leaf, MAX_FUNCTIONS, MAX_LEAVES, MAX_SWITCH, PricedCode};
 use structure::{called, seen_all, structured};
 
-// What stands beside the row of leaf records, numbers alone, as the C interface takes it: deadline and switch cost, the total and the max-load total, the
-// stretch of the release, how many leaves and functions there are, the functions' bounds, and their isolated totals.
+// What stands beside the row of leaf records, numbers alone, as the C interface takes it: deadline and switch cost, the total and the max-load total, how
+// many leaves and functions there are, the functions' bounds, and their totals, isolated and max-load.
 #[repr(C)]
 #[derive(Clone, Copy)]
 pub struct Head {
@@ -27,11 +26,11 @@ pub struct Head {
     pub switch: u64,
     pub total: u64,
     pub max_load_total: u64,
-    pub stretch: u64,
     pub leaves: usize,
     pub functions: usize,
     pub bounds: [u64; BOUNDS],
     pub totals: [u64; MAX_FUNCTIONS],
+    pub max_load_totals: [u64; MAX_FUNCTIONS],
 }
 
 impl Head {
@@ -60,47 +59,47 @@ impl Default for Head {
             switch: 0,
             total: 0,
             max_load_total: 0,
-            stretch: 0,
             leaves: 0,
             functions: 0,
             bounds: [0; BOUNDS],
             totals: [0; MAX_FUNCTIONS],
+            max_load_totals: [0; MAX_FUNCTIONS],
         }
     }
 }
 
-// The derived numbers of each leaf: its turn, its tail and its stretch. They are arrays beside the row, since a walk lends the row while it writes them.
+// The derived numbers of each leaf: its turn, its tail and its max-load turn. They are arrays beside the row, since a walk lends the row while it writes them.
 #[derive(Clone, Copy, Default)]
 pub struct Columns {
     pub turns: [u64; MAX_LEAVES],
     pub tails: [u64; MAX_LEAVES],
-    pub stretches: [u64; MAX_LEAVES],
+    pub max_load_turns: [u64; MAX_LEAVES],
 }
 
 impl Columns {
     // Writes the derived numbers of these columns into the leaves.
     fn fill(&self, row: &mut [Leaf])
         requires { length row.old ≤ 512 }
-        ensures { row.new ≡ filled self.now.turns self.now.tails self.now.stretches (length row.old) row.old }
+        ensures { row.new ≡ filled self.now.turns self.now.tails self.now.max_load_turns (length row.old) row.old }
     {
         for i in 0..row.len() {
             row[i] = Leaf {
                 turn: self.turns[i],
                 tail: self.tails[i],
-                stretch: self.stretches[i],
+                max_load_turn: self.max_load_turns[i],
                 ..row[i]
             };
         }
     }
 }
 
-// The derived numbers beside the columns: both totals, the stretch of the release, and the functions' isolated totals.
+// The derived numbers beside the columns: both totals, and the functions' totals at both costs.
 #[derive(Clone, Copy)]
 struct Derived {
     total: u64,
     max_load_total: u64,
-    stretch: u64,
     totals: [u64; MAX_FUNCTIONS],
+    max_load_totals: [u64; MAX_FUNCTIONS],
 }
 
 // The derived numbers of a code that keeps rules 3 to 9 and 19, or none where it breaks rule 10; the columns are written.
@@ -108,46 +107,34 @@ fn derive_all(code: &Code, columns: &mut Columns) -> Option<Derived>
     requires structured { CodeStructured code.now }
     requires all_bounds { length code.now.bounds.now ≡ 17 }
     ensures { (p : Plan) (q : CodeStructured code.now) → p.functions ≡ q.plan.functions
-        → Derives p result columns.new.turns columns.new.tails columns.new.stretches }
+        → Derives p result columns.new.turns columns.new.tails columns.new.max_load_turns }
 {
-    let mut rounds: [u64; MAX_LEAVES] = [0; MAX_LEAVES];
-    let totals = measure(code, Cost::Isolated, &mut columns.turns);
-    let loads = measure(code, Cost::MaxLoad, &mut rounds);
-    let total = totals[code.functions - 1];
-    let max_load_total = loads[code.functions - 1];
-    if LIMIT < total || LIMIT < max_load_total {
-        return None;
-    }
     let Columns {
         turns,
         tails,
-        stretches,
+        max_load_turns,
     } = columns;
-    let stretch = derive(code, &totals, turns, &loads, &rounds, tails, stretches);
+    let totals = measure(code, Cost::Isolated, turns);
+    let max_load_totals = measure(code, Cost::MaxLoad, max_load_turns);
+    let total = totals[code.functions - 1];
+    let max_load_total = max_load_totals[code.functions - 1];
+    if LIMIT < total || LIMIT < max_load_total {
+        return None;
+    }
+    columns::tails(code, &totals, turns, tails);
     Some(Derived {
         total,
         max_load_total,
-        stretch,
         totals,
+        max_load_totals,
     })
 }
 
-// Whether the first n leaves have these stretches.
-fn same(row: &[Leaf], derived: &[u64; MAX_LEAVES], n: usize) -> bool
-    requires { (n ≤ length row.now) × (n ≤ 512) }
-    ensures { Says result (take n (lent_stretches row.now) ≡ take n derived.now) }
+// Whether both totals stand in the head. Two comparisons: to compare whole records, two would be made for this alone.
+fn stands(head: &Head, total: u64, max_load_total: u64) -> bool
+    ensures { Says result ((head.now.total ≡ total) × (head.now.max_load_total ≡ max_load_total)) }
 {
-    row[..n]
-        .iter()
-        .zip(&derived[..n])
-        .all(|(leaf, number)| leaf.stretch == *number)
-}
-
-// Whether both totals and the stretch of the release stand in the head. Three comparisons: to compare whole records, two would be made for this alone.
-fn stands(head: &Head, total: u64, max_load_total: u64, stretch: u64) -> bool
-    ensures { Says result ((head.now.total ≡ total) × (head.now.max_load_total ≡ max_load_total) × (head.now.stretch ≡ stretch)) }
-{
-    head.total == total && head.max_load_total == max_load_total && head.stretch == stretch
+    head.total == total && head.max_load_total == max_load_total
 }
 
 // Whether deadline and switch cost are in range, and a lent row of so many leaves holds those of the plan.
@@ -161,32 +148,22 @@ fn ranged(head: &Head, room: usize) -> bool
         && head.leaves <= room
 }
 
-// Whether leaves and head have the derived numbers of a code that keeps rules 3 to 9 and 19. Turns, tails and isolated totals are checked where they
-// stand; what max-load costs come to is derived anew.
+// Whether leaves and head have the derived numbers of a code that keeps rules 3 to 9 and 19. All are checked where they stand.
 fn agrees(code: &Code, head: &Head) -> bool
     requires structured { CodeStructured code.now }
     requires all_bounds { length code.now.bounds.now ≡ 17 }
-    requires all_leaves { (head.now.leaves ≡ length code.now.row.now) × (head.now.leaves ≤ 512) }
     ensures { (p : Plan) (q : CodeStructured code.now) → p.functions ≡ q.plan.functions
         → sizes p.functions ≡ head.now.leaves → Says result (Agrees p code.now.row.now head.now) }
 {
-    if !tails_agree(code, &head.totals) {
-        return false;
-    }
-    let mut rounds: [u64; MAX_LEAVES] = [0; MAX_LEAVES];
-    let loads = measure(code, Cost::MaxLoad, &mut rounds);
-    let max_load_total = loads[code.functions - 1];
-    if LIMIT < max_load_total {
-        return false;
-    }
-    let mut derived: [u64; MAX_LEAVES] = [0; MAX_LEAVES];
-    let stretch = columns::stretches(code, Cost::MaxLoad, &loads, &rounds, &mut derived);
-    stands(
-        head,
-        head.totals[code.functions - 1],
-        max_load_total,
-        stretch,
-    ) && same(code.row, &derived, head.leaves)
+    let last = code.functions - 1;
+    let priced = PricedCode {
+        code: *code,
+        cost: Cost::MaxLoad,
+        totals: &head.max_load_totals,
+    };
+    tails_agree(code, &head.totals)
+        && sums_agree(&priced)
+        && stands(head, head.totals[last], head.max_load_totals[last])
 }
 
 // Whether the first leaves of the row, as many as the head says, are with the head the table of an accepted plan.
@@ -218,11 +195,11 @@ fn head_from(raw: &Raw, d: &Derived) -> Head
         switch: raw.switch,
         total: d.total,
         max_load_total: d.max_load_total,
-        stretch: d.stretch,
         leaves: raw.leaves,
         functions: raw.functions,
         bounds: raw.bounds,
         totals: d.totals,
+        max_load_totals: d.max_load_totals,
     }
 }
 
@@ -232,7 +209,7 @@ pub fn judge(raw: &Raw, row: &[Leaf], columns: &mut Columns) -> Result<Head, Ref
     requires { (p : Plan) × RawOf p raw.now row.now }
     ensures value { (p : Plan) → RawOf p raw.now row.now → result ≡ result_of (judged p) }
     ensures columns_written { (p : Plan) → RawOf p raw.now row.now
-        → ColumnsWritten (judged p) columns.new.turns columns.new.tails columns.new.stretches }
+        → ColumnsWritten (judged p) columns.new.turns columns.new.tails columns.new.max_load_turns }
 {
     let code = Code {
         row: &row[..raw.leaves],

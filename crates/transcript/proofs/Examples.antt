@@ -27,7 +27,7 @@ worst_log = bytes "release\npoint 0 0\npoint 1 9\npoint 1 33\npoint 1 57\npoint 
 
 -- What is printed of it.
 abbrev pub worst_text : List ℕ
-worst_text = bytes "go 49 47 0\ngo 49 38 0\ngo 44 19 0\ngo 32 7 0\nsuspend 20 -5 0\nstay 8 3 0\nresume 0\n57 24 81\n"
+worst_text = bytes "go 49 47 0\ngo 49 38 0\ngo 44 19 0\ngo 32 7 0\nsuspend 20 -5 0\nstay 8 15 0\nresume 0\n57 24 81\n"
 
 says_calls : log_text (map (λ x. x.call) worst_of_A) ≡ worst_log
 unfolding worst_of_A log_text call_text decimal numerals

@@ -120,5 +120,5 @@ sum_is_end_reading = counting.sum_is_end_reading
 -- The worst case of plan A (01, m3), replayed from the plan's one text: the others run up to the third visit of the loop, at 57, and are suspended from
 -- there to the end, at 81.
 pub worst_replayed : replay (print plan_A) (bytes "release\npoint 0 0\npoint 1 9\npoint 1 33\npoint 1 57\npoint 1 73\nend 81\n") ≡
-    bytes "go 49 47 0\ngo 49 38 0\ngo 44 19 0\ngo 32 7 0\nsuspend 20 -5 0\nstay 8 3 0\nresume 0\n57 24 81\n"
+    bytes "go 49 47 0\ngo 49 38 0\ngo 44 19 0\ngo 32 7 0\nsuspend 20 -5 0\nstay 8 15 0\nresume 0\n57 24 81\n"
 worst_replayed = examples.worst_replayed

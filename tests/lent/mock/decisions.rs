@@ -57,7 +57,7 @@ impl Decision {
         self.margin_beside(self.reserve(is_final))
     }
 
-    fn margin_with(&self, stretch: u64) -> i64 {
+    pub fn margin_with(&self, stretch: u64) -> i64 {
         let reserve = self.reserve(self.is_final);
         margin(self.deadline, self.reading, stretch + reserve)
     }

@@ -5,7 +5,7 @@ use std::slice::{from_raw_parts, from_raw_parts_mut};
 
 use reference::calls::Answer;
 use reference::plan::Refusal;
-use reference::records::{Record, RECORD, STRETCH, TURN};
+use reference::records::{Record, MAX_LOAD_TURN, RECORD, TURN};
 use reference::table::{Head, Table, HEAD};
 
 use super::super::answers::Ruling;
@@ -44,7 +44,7 @@ fn write_row(table: &Table, row: &mut [Record]) {
     let left_out = usize::from(planted("record-left-out"));
     let written = count.saturating_sub(left_out);
     let columns = match planted("derived-left-out") {
-        true => STRETCH,
+        true => MAX_LOAD_TURN,
         false => RECORD,
     };
     for (record, own) in row.iter_mut().zip(&table.row[..written]) {

@@ -12,6 +12,7 @@ mod refusals;
 mod states;
 mod tables;
 mod texts;
+mod visits;
 
 use std::cell::RefCell;
 use std::sync::OnceLock;
@@ -35,6 +36,7 @@ fn difference() -> fn(&Asked) -> Outcome {
         let parts = [
             decisions::ALL,
             finals::ALL,
+            visits::ALL,
             refusals::ALL,
             states::ALL,
             broken::ALL,

@@ -3,8 +3,8 @@
 use reference::composed::{function_totals, Composed, Cost};
 use reference::numbers::Numbers;
 use reference::plan::{Form, Kind, Plan, MOST_FUNCTIONS};
-use reference::records::{Record, AFTER, OTHER, STRETCH, TAIL, TURN};
-use reference::table::{self, Table, HEAD, MAX_LOAD_TOTAL, TOTAL, TOTALS};
+use reference::records::{Record, AFTER, MAX_LOAD_TURN, OTHER, TAIL, TURN};
+use reference::table::{self, Table, HEAD, MAX_LOAD_TOTAL, MAX_LOAD_TOTALS, TOTAL, TOTALS};
 
 use super::planted::planted;
 
@@ -47,27 +47,37 @@ pub fn alone(plan: &Plan, function: usize) -> Plan {
 }
 
 /// What is planted in one record.
-fn plant_leaf(record: &mut Record, composed: &Composed, function: usize, form: &Form) {
+fn plant_leaf(record: &mut Record, composed: &Composed, form: &Form) {
     let (plan, leaf) = (composed.plan(), form.leaf);
-    if planted("callers-forgotten") && form.point {
-        record[STRETCH] = Composed::new(&alone(plan, function)).stretch(leaf);
-    }
-    if planted("stretch-past-points") && form.point && form.kind == Kind::Leaf {
-        let next = plan.leaves().get(leaf + 1).map(|next| next.1.loaded);
-        record[STRETCH] = record[STRETCH].max(form.loaded + next.unwrap_or(0));
-    }
-    if let Kind::Loop(bound, _) = &form.kind {
+    if let Kind::Loop(bound, body) = &form.kind {
         if planted("tail-of-one-round") {
             record[TAIL] -= (bound - 1) * composed.turn(leaf);
         }
         if planted("turn-of-body-alone") {
             record[TURN] -= form.isolated;
         }
-    } else if planted("turn-of-all-leaves") {
-        record[TURN] = form.isolated;
+        if planted("max-load-turn-of-body-alone") {
+            record[MAX_LOAD_TURN] -= form.loaded;
+        }
+        if planted("max-load-turn-of-all-rounds") {
+            record[MAX_LOAD_TURN] *= bound;
+        }
+        if planted("max-load-turn-by-one-path") {
+            record[MAX_LOAD_TURN] = form.loaded + one_path(plan, body).1;
+        }
+        if planted("max-load-turn-isolated") {
+            record[MAX_LOAD_TURN] = record[TURN];
+        }
+    } else {
+        if planted("turn-of-all-leaves") {
+            record[TURN] = form.isolated;
+        }
+        if planted("max-load-turn-of-all-leaves") {
+            record[MAX_LOAD_TURN] = form.loaded;
+        }
     }
-    if planted("stretch-of-silent") && !form.point {
-        record[STRETCH] = form.loaded;
+    if planted("stretch-in-table") && form.point {
+        record[MAX_LOAD_TURN] = composed.stretch(leaf);
     }
     if planted("else-of-empty") && record[OTHER] == record[AFTER] {
         record[OTHER] = 0;
@@ -78,26 +88,40 @@ fn plant_leaf(record: &mut Record, composed: &Composed, function: usize, form: &
 pub fn table(plan: &Plan) -> Table {
     let composed = Composed::new(plan);
     let Table { mut row, mut head } = table::table(&composed);
-    for (function, form) in plan.leaves() {
-        plant_leaf(&mut row[form.leaf], &composed, function, form);
+    for (_, form) in plan.leaves() {
+        plant_leaf(&mut row[form.leaf], &composed, form);
     }
     if planted("one-path-for-both-costs") {
         let sums = one_path(plan, &plan.functions[plan.main()]);
         (head[TOTAL], head[MAX_LOAD_TOTAL]) = sums;
     }
-    if planted("release-from-first-point") && head[table::STRETCH] > 0 {
-        let mut stretches = row.iter().map(|record| record[STRETCH]);
-        head[table::STRETCH] = stretches.find(|&stretch| stretch > 0).unwrap_or(0);
-    }
-    if planted("totals-under-load") {
-        let totals = function_totals(plan, Cost::Loaded);
-        for (function, total) in totals.into_iter().enumerate() {
-            head[TOTALS + function] = total as u64;
+    for (name, first, cost) in [
+        ("totals-under-load", TOTALS, Cost::Loaded),
+        ("max-load-totals-isolated", MAX_LOAD_TOTALS, Cost::Isolated),
+    ] {
+        if planted(name) {
+            let totals = function_totals(plan, cost);
+            for (function, total) in totals.into_iter().enumerate() {
+                head[first + function] = total as u64;
+            }
         }
     }
     let functions = plan.functions.len();
-    if planted("totals-behind") && functions < MOST_FUNCTIONS {
-        head[HEAD - 1] = 1;
+    if planted("max-load-totals-by-one-path") {
+        for (function, forms) in plan.functions.iter().enumerate() {
+            head[MAX_LOAD_TOTALS + function] = one_path(plan, forms).1;
+        }
+    }
+    if planted("max-load-totals-turned") {
+        head[MAX_LOAD_TOTALS..MAX_LOAD_TOTALS + functions].reverse();
+    }
+    for (name, last) in [
+        ("totals-behind", MAX_LOAD_TOTALS - 1),
+        ("max-load-totals-behind", HEAD - 1),
+    ] {
+        if planted(name) && functions < MOST_FUNCTIONS {
+            head[last] = 1;
+        }
     }
     if planted("bounds-end") && functions == MOST_FUNCTIONS {
         head[TOTALS - 1] = 0;

@@ -4,10 +4,12 @@
 use std::ops::Range;
 
 use reference::composed::{function_totals, Composed, Cost};
-use reference::plan::{self, Form, Kind, Plan, MOST_LEAVES};
-use reference::records::{self, ISOLATED, LEVEL, OTHER, POINT, TAIL, TURN};
-use reference::table::{self, Finding, Table};
-use reference::table::{BOUNDS, DEADLINE, HEAD, LEAVES, MAX_LOAD_TOTAL, SWITCH, TOTAL, TOTALS};
+use reference::plan::{self, Form, Kind, Plan, MOST_FUNCTIONS, MOST_LEAVES};
+use reference::records::{ISOLATED, KIND, LEVEL, MAX_LOAD_TURN, OTHER, POINT, TAIL, TURN};
+use reference::table::{self, Finding, Table, FUNCTIONS};
+use reference::table::{
+    BOUNDS, DEADLINE, HEAD, LEAVES, MAX_LOAD_TOTAL, MAX_LOAD_TOTALS, SWITCH, TOTAL, TOTALS,
+};
 
 use super::super::calls::Call;
 use super::super::law::{self, Outcome};
@@ -41,6 +43,18 @@ fn set_column(asked: &Asked, column: usize) -> Outcome {
     set_right(asked, |table, own| {
         let records = table.row.iter_mut().zip(&own.row);
         records.for_each(|(lent, own)| lent[column] = own[column]);
+    })
+}
+
+/// The kind of a loop in a record.
+const LOOP: u64 = 2;
+
+/// The same where only the max-load turns of some kinds are not looked at.
+fn set_max_load_turns(asked: &Asked, kinds: fn(u64) -> bool) -> Outcome {
+    set_right(asked, |table, own| {
+        let records = table.row.iter_mut().zip(&own.row);
+        let unseen = records.filter(|(lent, _)| kinds(lent[KIND]));
+        unseen.for_each(|(lent, own)| lent[MAX_LOAD_TURN] = own[MAX_LOAD_TURN]);
     })
 }
 
@@ -147,15 +161,28 @@ pub const ALL: &[Difference] = &[
     ("unused-unjudged", |asked| set_column(asked, OTHER)),
     ("turns-unjudged", |asked| set_column(asked, TURN)),
     ("tails-unjudged", |asked| set_column(asked, TAIL)),
-    ("stretches-unjudged", |asked| {
-        set_column(asked, records::STRETCH)
+    ("max-load-turns-unjudged", |asked| {
+        set_column(asked, MAX_LOAD_TURN)
+    }),
+    ("max-load-turns-of-loops-unjudged", |asked| {
+        set_max_load_turns(asked, |kind| kind == LOOP)
+    }),
+    ("max-load-turns-of-others-unjudged", |asked| {
+        set_max_load_turns(asked, |kind| kind != LOOP)
+    }),
+    ("max-load-turns-at-least", |asked| {
+        set_right(asked, |table, own| {
+            let records = table.row.iter_mut().zip(&own.row);
+            records.for_each(|(lent, own)| {
+                if lent[MAX_LOAD_TURN] >= own[MAX_LOAD_TURN] {
+                    lent[MAX_LOAD_TURN] = own[MAX_LOAD_TURN];
+                }
+            });
+        })
     }),
     ("total-unjudged", |asked| set_head(asked, TOTAL..TOTAL + 1)),
     ("max-load-total-unjudged", |asked| {
         set_head(asked, MAX_LOAD_TOTAL..MAX_LOAD_TOTAL + 1)
-    }),
-    ("release-unjudged", |asked| {
-        set_head(asked, table::STRETCH..table::STRETCH + 1)
     }),
     ("leaves-unjudged", |asked| {
         set_head(asked, LEAVES..LEAVES + 1)
@@ -164,7 +191,23 @@ pub const ALL: &[Difference] = &[
     ("bounds-behind-unjudged", |asked| {
         set_head(asked, TOTALS - 1..TOTALS)
     }),
-    ("totals-unjudged", |asked| set_head(asked, TOTALS..HEAD)),
+    ("totals-unjudged", |asked| {
+        set_head(asked, TOTALS..MAX_LOAD_TOTALS)
+    }),
+    ("max-load-totals-unjudged", |asked| {
+        set_head(asked, MAX_LOAD_TOTALS..HEAD)
+    }),
+    ("max-load-totals-behind-unjudged", |asked| {
+        let functions = asked.table.head[FUNCTIONS].min(MOST_FUNCTIONS as u64);
+        set_head(asked, MAX_LOAD_TOTALS + functions as usize..HEAD)
+    }),
+    ("max-load-total-of-main-alone", |asked| {
+        let functions = asked.table.head[FUNCTIONS].clamp(1, MOST_FUNCTIONS as u64);
+        set_head(
+            asked,
+            MAX_LOAD_TOTALS..MAX_LOAD_TOTALS + functions as usize - 1,
+        )
+    }),
     ("deadline-unjudged", |asked| set_task(asked, DEADLINE)),
     ("switch-unjudged", |asked| set_task(asked, SWITCH)),
     ("range-unjudged", |asked| without_rule(asked, 3)),

@@ -9,8 +9,8 @@ use std::io::{Read, Write};
 
 use reference::composed::Composed;
 use reference::damage::silenced;
-use reference::numbers::{figures, Figures};
-use reference::plan::{self, Plan, Refusal, MOST_BYTES, MOST_LEAVES};
+use reference::numbers::{figures, Figures, Numbers};
+use reference::plan::{self, Form, Kind, Plan, Refusal, MOST_BYTES, MOST_LEAVES};
 
 use planted::planted;
 
@@ -44,9 +44,44 @@ fn read(text: &[u8]) -> Result<Plan, Refusal> {
     }
 }
 
+/// The stretch of one visit of a point in place of the largest of all, where that is
+/// planted: of a loop of the main function the last one, of a point elsewhere that of the
+/// first call of its function there, or one behind which no caller comes.
+fn of_one_visit(plan: &Plan, composed: &Composed, leaf: usize) -> Option<u64> {
+    let leaves = plan.leaves();
+    let (function, form) = leaves[leaf];
+    let first = |leaf: usize| composed.level(leaf) == 1;
+    match form.kind {
+        Kind::Loop(bound, _) if planted("stretch-of-last-visit") => {
+            let found = function == plan.main() && first(leaf);
+            found.then(|| composed.stretch_at(&vec![(leaf, bound + 1)]))
+        }
+        _ if planted("stretch-of-first-call") && first(leaf) => {
+            let is_call = |(of, form): &&(usize, &Form)| {
+                *of == plan.main() && form.kind == Kind::Call(function) && first(form.leaf)
+            };
+            let call = leaves.iter().find(is_call)?.1.leaf;
+            Some(composed.stretch_at(&vec![(call, 1), (leaf, 1)]))
+        }
+        _ if planted("stretch-without-callers") => {
+            let alone = Plan {
+                functions: plan.functions[..=function].to_vec(),
+                ..plan.clone()
+            };
+            Some(Composed::new(&alone).stretch(leaf))
+        }
+        _ => None,
+    }
+}
+
 /// The numbers of a plan, with what is planted in them.
 fn numbers(plan: &Plan) -> Figures {
-    let mut figures = figures(&Composed::new(plan));
+    let composed = Composed::new(plan);
+    let mut figures = figures(&composed);
+    for point in &mut figures.points {
+        let other = of_one_visit(plan, &composed, point[0] as usize);
+        point[3] = other.unwrap_or(point[3]);
+    }
     if planted("silent-leaves-too") {
         let leaves = plan.leaves();
         let silent = leaves.iter().filter(|(_, form)| !form.point);

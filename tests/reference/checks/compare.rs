@@ -8,6 +8,7 @@ use reference::gen::{self, Random};
 use reference::listed::Listed;
 use reference::numbers::{listing, Numbers};
 use reference::plan::{text, Plan};
+use reference::visits::Visits;
 
 use super::tally::Tally;
 
@@ -33,12 +34,21 @@ fn tables(tally: &mut Tally, plan: &Plan, listed: &Listed, composed: &Composed) 
         tally.equal(by_runs, by_forms, || {
             format!("total of function {function}, {}", shown())
         });
+        let (by_runs, by_forms) = (
+            listed.max_load_function_total(function),
+            composed.max_load_function_total(function),
+        );
+        tally.equal(by_runs, by_forms, || {
+            format!("max-load total of function {function}, {}", shown())
+        });
     }
     for (_, form) in plan.leaves() {
         let leaf = form.leaf;
         let what = |which: &str| format!("{which} of leaf {leaf}, {}", shown());
         tally.equal(listed.level(leaf), composed.level(leaf), || what("level"));
         tally.equal(listed.turn(leaf), composed.turn(leaf), || what("turn"));
+        let (by_runs, by_forms) = (listed.max_load_turn(leaf), composed.max_load_turn(leaf));
+        tally.equal(by_runs, by_forms, || what("max-load turn"));
         tally.equal(listed.tail(leaf), composed.tail(leaf), || what("tail"));
         if form.point {
             tally.equal(listed.stretch(leaf), composed.stretch(leaf), || {
@@ -73,6 +83,7 @@ struct Met {
     held: usize,
     deepest: usize,
     finals: Finals,
+    visits: Visits,
 }
 
 impl Met {
@@ -120,6 +131,13 @@ impl Met {
         println!("  final decisions: {}", self.finals);
         tally.holds(self.finals.met(500), || {
             "each answer of a final decision is met often".to_string()
+        });
+        println!(
+            "  visits with a smaller stretch than their point: {}",
+            self.visits
+        );
+        tally.holds(self.visits.met(40), || {
+            "each answer at such a visit is met often".to_string()
         });
     }
 }
@@ -216,6 +234,7 @@ impl<'a> Both<'a> {
         tally.equal(by_runs, by_forms, what);
         tally.equal(listed.can_end(history), composed.can_end(place), what);
         tally.equal(listed.is_final(history), composed.is_final(place), what);
+        tally.equal(listed.stretch_at(history), composed.stretch_at(place), what);
         let level = composed.level_in_run(place);
         tally.equal(listed.level_in_run(history), level, what);
         level
@@ -236,6 +255,7 @@ fn histories(
         met.note(first);
         if let Some(history) = both.by_runs.place() {
             met.finals.note(listed, history, first);
+            met.visits.note(listed, history, first);
         }
         tally.equal(first.line(), second.line(), || both.shown());
         both.compare_states(tally);

@@ -57,8 +57,9 @@ impl Dearest<'_> {
 }
 
 /// A run that is followed report by report. The remaining time is at least what
-/// the run still takes alone, and exactly that on the dearest run; each stretch is
-/// at least what the run takes under load up to its next point.
+/// the run still takes alone, and exactly that on the dearest run; the stretch of each
+/// visit is at least what the run takes under load up to its next point, and at most
+/// that of its point.
 struct Followed<'a> {
     composed: &'a Composed<'a>,
     dearest: bool,
@@ -104,7 +105,10 @@ impl Followed<'_> {
             let shown = self.shown();
             format!("remaining {remaining} for {isolated} at {leaf} in {shown}")
         });
-        self.stretch = self.composed.stretch(leaf);
+        self.stretch = self.composed.stretch_at(&self.place);
+        tally.holds(self.stretch <= self.composed.stretch(leaf), || {
+            format!("stretch of a visit of {leaf} in {}", self.shown())
+        });
         self.loaded = 0;
         true
     }

@@ -1,6 +1,7 @@
 //! The reference's own checks: the worked plans, sheets and logs, the readings taken,
-//! the aimed texts, tables that one rule refuses, the two ways of finding the numbers
-//! and the final decisions against each other, timed runs and worst cases.
+//! the aimed texts, tables that one rule refuses, the two ways of finding the numbers,
+//! the final decisions and the stretches of visits against each other, timed runs and
+//! worst cases.
 
 mod compare;
 mod finals;
@@ -13,6 +14,7 @@ mod tables;
 mod tally;
 mod texts;
 mod timed;
+mod visits;
 mod worked;
 mod worst;
 
@@ -22,7 +24,7 @@ use tally::Tally;
 
 fn main() {
     let mut tally = Tally::new();
-    let parts: [(&str, fn(&mut Tally)); 12] = [
+    let parts: [(&str, fn(&mut Tally)); 13] = [
         ("worked plans", worked::check),
         ("sheets", sheet::check),
         ("readings of texts", readings_of_texts::check),
@@ -32,6 +34,7 @@ fn main() {
         ("logs", replay::check),
         ("listed against composed", compare::check),
         ("final decisions", finals::check),
+        ("stretches of visits", visits::check),
         ("large plans", large::check),
         ("timed runs", timed::check),
         ("worst cases", worst::check),

@@ -1,5 +1,5 @@
 //! The readings taken where document 01 leaves something open about the table,
-//! the margin and the times kept, and document 02 about final decisions,
+//! the margin and the times kept, and document 02 about final decisions and stretches,
 //! each with an example that tells it from the other reading. Those about the calls
 //! are among the worked lists of calls.
 
@@ -9,6 +9,7 @@ use reference::composed::Composed;
 use reference::listed::Listed;
 use reference::numbers::{listing, Numbers};
 use reference::worked::{EMPTY, PLAN_A, PLAN_B, TWICE};
+use reference::worked_visits::{CALLED_IN_LOOP, FILTER, TWO_DEPTHS};
 
 use super::tally::{accepted, Tally};
 
@@ -139,7 +140,83 @@ fn final_decisions(tally: &mut Tally) {
     }
 }
 
+/// Reports one after the other, with the stretch of each visit behind that of the
+/// release, and last the listing, in which each point has the largest of all its visits
+/// (02, L6).
+type Stretches = (&'static str, &'static [usize], &'static [u64], &'static str);
+
+const STRETCHES: [Stretches; 5] = [
+    // The release as ever, and the fourth visit 4 + 8.
+    (
+        PLAN_A,
+        &[0, 1, 1, 1, 1],
+        &[0, 9, 24, 24, 24, 12],
+        "task 49 93 100 4\npoint 0 1 49 9\npoint 1 1 44 24\n",
+    ),
+    // The point of function 0 takes 4 + 20 up to the second call, then 4 + 3.
+    (
+        FILTER,
+        &[1, 0, 3, 0],
+        &[0, 2, 24, 2, 7],
+        "task 12 35 60 3\npoint 0 1 2 24\npoint 1 1 12 2\npoint 3 1 4 2\n",
+    ),
+    // 3 + 5 + 10 by the call in function 1, 3 by that in the main one.
+    (
+        TWO_DEPTHS,
+        &[3, 1, 0, 5, 0, 6],
+        &[0, 2, 1, 18, 2, 3, 1],
+        "task 12 27 70 2\npoint 0 1 1 18\npoint 1 1 4 1\npoint 3 1 12 2\npoint 5 1 3 2\n\
+            point 6 1 1 1\n",
+    ),
+    // In the loop 2 + 9, then 2 + 7; behind it 2 + 20 at both visits.
+    (
+        CALLED_IN_LOOP,
+        &[2, 3, 0, 0, 2, 5, 0, 0],
+        &[0, 1, 1, 11, 9, 1, 1, 22, 22],
+        "task 16 57 100 5\npoint 0 1 4 22\npoint 2 1 16 1\npoint 3 2 15 1\npoint 5 1 8 1\n",
+    ),
+    // Silent leaves before the first point are the release's alone.
+    (
+        "(task 99 0\n(fun\n(leaf s 1 8)\n(loop p 1 1 2\n(leaf s 1 5)\n)\n)\n)\n",
+        &[1, 1],
+        &[8, 7, 2],
+        "task 4 17 99 0\npoint 1 1 3 7\n",
+    ),
+];
+
+/// The stretches at the release and at these reports.
+fn stretches_on<N: Numbers>(numbers: &N, reports: &[usize]) -> Vec<u64> {
+    let mut place = numbers.release();
+    let mut found = vec![numbers.stretch_at(&place)];
+    for &leaf in reports {
+        place = numbers.report(&place, leaf).expect("a run has this report");
+        found.push(numbers.stretch_at(&place));
+    }
+    found
+}
+
+fn stretches(tally: &mut Tally) {
+    for (text, reports, wanted, lines) in STRETCHES {
+        let plan = accepted(text);
+        let listed = Listed::new(&plan, 10_000).expect("a plan of few runs");
+        let composed = Composed::new(&plan);
+        tally.equal(stretches_on(&listed, reports), wanted.to_vec(), || {
+            format!("stretches of {reports:?}, by runs")
+        });
+        tally.equal(stretches_on(&composed, reports), wanted.to_vec(), || {
+            format!("stretches of {reports:?}, composed")
+        });
+        tally.equal(listing(&listed).as_str(), lines, || {
+            format!("listing of {text}, by runs")
+        });
+        tally.equal(listing(&composed).as_str(), lines, || {
+            format!("listing of {text}, composed")
+        });
+    }
+}
+
 pub fn check(tally: &mut Tally) {
+    stretches(tally);
     tables(tally);
     margins(tally);
     times(tally);

@@ -22,15 +22,34 @@ pub struct Answers<'a> {
     pub closed: bool,
 }
 
+/// The stretch at a place, and what is planted there: that of its point, of the first
+/// visit of a loop, or of the call alone that the visit is in.
+fn stretch(composed: &Composed, place: &Place) -> u64 {
+    let Some((&(leaf, _), outer)) = place.split_last() else {
+        return composed.stretch_at(place);
+    };
+    if planted("stretch-of-point") {
+        return composed.stretch(leaf);
+    }
+    if planted("stretch-of-first-visit") {
+        return composed.stretch_at(&[outer, &[(leaf, 1)]].concat());
+    }
+    if planted("stretch-without-callers") && !outer.is_empty() {
+        return composed.plan().leaves()[leaf].1.loaded;
+    }
+    composed.stretch_at(place)
+}
+
 /// What is needed at a place beside the elapsed time, and what is planted there.
 fn needed(composed: &Composed, place: &Place) -> u64 {
     let never_final = match composed.last_point(place) {
         None => planted("release-never-final"),
         Some(_) => planted("reports-never-final"),
     };
+    let needed = composed.needed_with(place, stretch(composed, place));
     match never_final && composed.is_final(place) {
-        true => composed.needed(place) + composed.remaining(place) + composed.plan().switch,
-        false => composed.needed(place),
+        true => needed + composed.remaining(place) + composed.plan().switch,
+        false => needed,
     }
 }
 

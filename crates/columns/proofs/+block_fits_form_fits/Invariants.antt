@@ -2,7 +2,7 @@
 use Prim.Native.Nat.{◌+◌, ◌-◌, ◌*◌, ◌≤◌}
 use Rattle.rows.specs.Leaves.{numbers, lent_turns, lent_tails}
 use Rattle.rows.specs.Rows.{after_at}
-use Rattle.columns.specs.Private.{FormsHeld}
+use Rattle.columns.specs.Walks.{FormsHeld}
 use Rattle.columns.proofs.Fitting.{Walking}
 use Rattle.columns.proofs.+block_fits_form_fits.Given as goal
 

@@ -3,7 +3,7 @@ use Rattle.columns.proofs.Summing.{leaf_turn, call_turn, if_turn, leaf_sum, call
 use Rattle.columns.proofs.Fronts.{leaf_front, call_front, loop_again, front_if}
 use Rattle.columns.proofs.Capped.{cost_le}
 use Rattle.columns.specs.Columns.{turn_rule}
-use Rattle.columns.specs.Sums.{cost_in}
+use Rattle.rows.specs.Costs.{cost_in}
 use Rattle.rows.proofs.Shape.{ends, flat_end}
 use Rattle.rows.specs.Leaves.{numbers}
 use Rattle.rows.specs.Rows.{block_at}

@@ -1,8 +1,9 @@
 -- `columns::sum_block` and `columns::sum_form`, which call each other, meet their contracts. Assumes nothing.
 use Rattle.columns.proofs.Summing.{Passed}
 use Rattle.columns.specs.Columns.{turns}
-use Rattle.columns.specs.Private.{FormsHeld}
-use Rattle.columns.specs.Sums.{ceiling, cost_in}
+use Rattle.columns.specs.Walks.{FormsHeld}
+use Rattle.columns.specs.Sums.{ceiling}
+use Rattle.rows.specs.Costs.{cost_in}
 use Rattle.rows.specs.Leaves.{numbers}
 use Rattle.rows.specs.Rows.{after_at}
 use Rattle.model.specs.Total.{tally}

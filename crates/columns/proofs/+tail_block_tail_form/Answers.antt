@@ -1,7 +1,7 @@
 -- `columns::tail_block` and `columns::tail_form`, which call each other, meet their contracts. Assumes nothing.
-use Rattle.columns.proofs.Tailing.{to_weigh, weighed, loop_behind, if_tail, tail_on, tail_le, tail_close}
+use Rattle.columns.proofs.Tailing.{weighed, loop_behind, if_tail, tail_on, tail_le, tail_close}
 use Rattle.columns.proofs.Backing.{kept_all, kept_both, back_start, back_on, back_end, listed_before}
-use Rattle.columns.proofs.Readiness.{body_sized, then_sized, else_sized, later_ready}
+use Rattle.columns.proofs.Readiness.{body_sized, then_sized, else_sized, ready_zero, later_ready}
 use Rattle.columns.proofs.Fronts.{plain_front, front_loop, if_front}
 use Rattle.columns.proofs.Sizes.{not_loop, not_if}
 use Rattle.columns.specs.Columns.{tail_rule}
@@ -27,7 +27,7 @@ tail_block-tail_form-t-requires t c =
     let s = listed_before c.list-n.ensures.listed c.loop-k-test.true a.invariant.0 a.invariant.1 in
     let low = tail_le c.args.walk.now.sums.now (a.k - 1) a.k z.forms.part.lines c.args.e s.one (a.invariant.2 z).stands in
     let r = later_ready z s.here (λ j h. s.below j (omega arith)) s.at low in
-    (omega (arith, c.decreases, s.past, ends_at r.form refl), (c.requires.isolated, r))
+    (omega (arith, c.decreases, s.past, ends_at r.form refl), r)
 
 pub tail_block-loop-k-preserved : goal.tail_block-loop-k-preserved
 tail_block-loop-k-preserved t c =
@@ -56,7 +56,7 @@ tail_form-tail_block-a-requires t c =
     let hm = c.other-other.ensures in
     let he = c.after-after.ensures in
     let d = if_ends z.form c.in-If.ensures hm he in
-    (omega (arith, c.decreases, d, he), (c.requires.isolated, then_sized z hm (as_if z.form c.in-If.ensures)))
+    (omega (arith, c.decreases, d, he), then_sized z hm (as_if z.form c.in-If.ensures))
 
 pub tail_form-tail_block-b-requires : goal.tail_form-tail_block-b-requires
 tail_form-tail_block-b-requires t c =
@@ -64,7 +64,7 @@ tail_form-tail_block-b-requires t c =
     let hm = c.other-other.ensures in
     let he = c.after-after.ensures in
     let d = if_ends z.form c.in-If.ensures hm he in
-    (omega (arith, c.decreases, d, he), (c.requires.isolated, else_sized z hm he (as_if z.form c.in-If.ensures)))
+    (omega (arith, c.decreases, d, he), else_sized z hm he (as_if z.form c.in-If.ensures))
 
 pub tail_form-overflow_add-t : goal.tail_form-overflow_add-t
 tail_form-overflow_add-t t c =
@@ -98,33 +98,33 @@ tail_form-weight-requires t c =
     let z = c.requires.ready in
     let k = c.form_kind-kind in record {
       kind = omega (arith, kind_three z.form, not_if k.result k.ensures c.in_default.not-If);
-      ready = to_weigh c.requires.isolated z;
+      ready = ready_zero z;
     }
 
 pub tail_form-overflow_add-t-2 : goal.tail_form-overflow_add-t-2
 tail_form-overflow_add-t-2 t c =
     let z = c.requires.ready in
-    omega (arith, weighed c.requires.isolated z c.weight.ensures, z.small)
+    omega (arith, weighed z c.weight.ensures, z.small)
 
 pub tail_form-overflow_sub-t : goal.tail_form-overflow_sub-t
 tail_form-overflow_sub-t t c =
     let z = c.requires.ready in
-    (loop_behind z (as_loop z.form c.in-Loop.ensures) (weighed c.requires.isolated z c.weight.ensures)).2
+    (loop_behind z (as_loop z.form c.in-Loop.ensures) (weighed z c.weight.ensures)).2
 
 pub tail_form-tail_block-requires : goal.tail_form-tail_block-requires
 tail_form-tail_block-requires t c =
     let z = c.requires.ready in
     let h = as_loop z.form c.in-Loop.ensures in
     let he = c.after-after-in-Loop.ensures in
-    let b = loop_behind z h (weighed c.requires.isolated z c.weight.ensures) in
-    (omega (arith, c.decreases, ends_at z.form he), (c.requires.isolated, body_sized z he h b.1))
+    let b = loop_behind z h (weighed z c.weight.ensures) in
+    (omega (arith, c.decreases, ends_at z.form he), body_sized z he h b.1)
 
 pub tail_form-returns-in-Loop : goal.tail_form-returns-in-Loop
 tail_form-returns-in-Loop t c =
     let x = c.args.e in record {
-      value = (λ p. weighed c.requires.isolated p c.weight.ensures);
+      value = (λ p. weighed p c.weight.ensures);
       out_after = (λ p. let h = as_loop p.form c.in-Loop.ensures in
-          let ht = weighed c.requires.isolated p c.weight.ensures in
+          let ht = weighed p c.weight.ensures in
           let b = loop_behind p h ht in
           front_loop (tail_rule c.args.walk.now.sums.now) c.args.out.now x h ht b.0 (c.tail_block.ensures.out_after (body_sized p c.after-after-in-Loop.ensures h b.1)));
       kept = c.tail_block.ensures.kept;
@@ -133,8 +133,8 @@ tail_form-returns-in-Loop t c =
 pub tail_form-returns-in_default-kind : goal.tail_form-returns-in_default-kind
 tail_form-returns-in_default-kind t c =
     let k = c.form_kind-kind in record {
-      value = (λ p. weighed c.requires.isolated p c.weight.ensures);
+      value = (λ p. weighed p c.weight.ensures);
       out_after = (λ p. plain_front (tail_rule c.args.walk.now.sums.now) c.args.out.now c.args.e p.form.some p.form.part
-          (not_loop k.result k.ensures c.in_default-kind.not-Loop) (not_if k.result k.ensures c.in_default.not-If) (weighed c.requires.isolated p c.weight.ensures));
+          (not_loop k.result k.ensures c.in_default-kind.not-Loop) (not_if k.result k.ensures c.in_default.not-If) (weighed p c.weight.ensures));
       kept = kept_all c.args.seq.now;
     }

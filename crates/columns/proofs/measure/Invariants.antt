@@ -1,6 +1,6 @@
 -- `columns::measure` meets its contract. Assumes nothing.
 use Rattle.columns.proofs.Functions.{Measuring}
-use Rattle.columns.specs.Sums.{cost_in}
+use Rattle.rows.specs.Costs.{cost_in}
 use Rattle.columns.proofs.measure.Given as goal
 
 abbrev pub invariant-loop-f : goal.invariant-loop-f

@@ -1,15 +1,14 @@
 -- `columns::settled` meets its contract. Assumes nothing.
-use lib.ListN.{take, drop}
-use mathlib.Core.Path.{◌≡◌}
 use Prim.Native.Nat.{◌-◌}
-use Rattle.std.proofs.Common.{rules, tests}
-use Rattle.std.proofs.lemmas.Iterator.{cases_from_all, YieldsList-from_slice}
-use Rattle.columns.proofs.Fitting.{settled_says}
+use native.Mathlib.Omega.{arith}
+use Rattle.rows.proofs.Answers.{same_answer}
+use Rattle.rows.proofs.Zeros.{zeros_from}
 use Rattle.columns.proofs.settled.Goals as goal
 
 pub returns : goal.returns
 returns c =
-    let s = c.args in
-    let xs = take (16 - s.n) (drop s.n s.sums.now) in
-    settled_says s.sums.now s.n c.all.result c.told-sums c.requires
-    (cases_from_all _ _ _ (λ x. x ≡ 0) (λ x. x ≡ 0 → ⊥) c.all.ensures.ran (YieldsList-from_slice xs (search rules)) (λ x q k. search (rules, tests)) (λ x q k. search (rules, tests)))
+    let ts = c.args.sums.now in
+    let n = c.args.n in
+    let r = c.all_zero.result in
+    same_answer r (λ h f a b. h f a (omega (arith, c.told-sums))) (λ h f a b. h f a (omega (arith, c.told-sums)))
+    (zeros_from r ts n (16 - n) (omega (arith, c.told-sums, c.requires)) c.all_zero.ensures)

@@ -5,7 +5,7 @@ use Rattle.listing.proofs.collect_leaves.Goals as goal
 use Rattle.listing.proofs.collect_leaves.Goals.{then-leaf-eq1, else-leaf-eq1}
 
 pub loop-i-init : goal.loop-i-init
-loop-i-init c = first_none c.args.leaves.now c.args.points.now
+loop-i-init c = first_none c.args.stretch.now c.args.leaves.now c.args.points.now
 
 pub loop-i-preserved : goal.loop-i-preserved
 loop-i-preserved c =

@@ -4,4 +4,4 @@ use Rattle.listing.proofs.Numbers.{First}
 use Rattle.listing.proofs.collect_leaves.Given as goal
 
 abbrev pub invariant-loop-i : goal.invariant-loop-i
-invariant-loop-i l = First l.leaves l.initial.points l.i l.points l.count
+invariant-loop-i l = First l.stretch l.leaves l.initial.points l.i l.points l.count

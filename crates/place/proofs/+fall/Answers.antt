@@ -1,11 +1,10 @@
 use Rattle.place.proofs.Lent.{leaf_held, leaves_held, level_open}
 use Rattle.rows.specs.Leaves.{numbers}
 use Rattle.place.proofs.Falling.{head_of, lower, ready, level_read, level_saw, fall_found, fall_stuck, fall_out, fall_head, fall_on}
-use Rattle.std.specs.Prelude.{Some}
 use Rattle.rows.specs.Rows.{kind_at}
 use lib.ListN.{get_or}
 use Prim.Native.Nat.{◌-◌, ◌≤◌}
-use mathlib.Core.Path.{◌≡◌, refl, sym, ◌∙◌}
+use mathlib.Core.Path.{◌≡◌, sym, ◌∙◌}
 use native.Mathlib.Omega.{arith}
 use borrow.Author.Rules.{rules}
 use borrow.Author.Tests.{not-true}
@@ -23,20 +22,19 @@ behind-requires t c =
 pub returns-in_err-sight : goal.returns-in_err-sight
 returns-in_err-sight t c = λ s.
     let q = s.running in
-    let e = sym c.in_err-sight.was ∙ level_read q c.requires.least (Some c.args.x) c.span-level.ensures.0 c.span-level.ensures.1 refl (c.behind.ensures 62) in
+    let e = sym c.in_err-sight.was ∙ level_read q c.requires.least c.args.x c.span-level.ensures.0 c.span-level.ensures.1 (c.behind.ensures 62) in
     absurd (search rules)
 
 pub returns-then-sight : goal.returns-then-sight
 returns-then-sight t c = λ s.
     let q = s.running in
-    let e = sym c.in_ok-sight.was ∙ level_read q c.requires.least (Some c.args.x) c.span-level.ensures.0 c.span-level.ensures.1 refl (c.behind.ensures 62) in
-    fall_found q c.requires.least c.args.x (level_saw q c.requires.least c.args.x e) c.if-sight.true
+    let s = level_saw q c.requires.least c.args.x c.span-level.ensures.0 c.span-level.ensures.1 c.in_ok-sight.was (c.behind.ensures 62) in
+    fall_found q c.requires.least c.args.x s c.if-sight.true
 
 pub returns-then-l-eq1 : goal.returns-then-l-eq1
 returns-then-l-eq1 t c = λ s.
     let q = s.running in
-    let e = sym c.in_ok-sight.was ∙ level_read q c.requires.least (Some c.args.x) c.span-level.ensures.0 c.span-level.ensures.1 refl (c.behind.ensures 62) in
-    let s = level_saw q c.requires.least c.args.x e in
+    let s = level_saw q c.requires.least c.args.x c.span-level.ensures.0 c.span-level.ensures.1 c.in_ok-sight.was (c.behind.ensures 62) in
     elim c.then-l-eq1.branch [
       | then-l-eq1-via-then-l-eq1 w ↦ fall_out q c.requires.least c.args.x s c.if-sight.false w.if-l-eq1.true
       | then-l-eq1-via-else-l-eq1+then-not-sight w ↦ fall_stuck q c.requires.least c.args.x s c.if-sight.false (not-true _ w.if-not-sight.true)
@@ -49,7 +47,7 @@ kind_of-requires t c =
 pub fall-requires : goal.fall-requires
 fall-requires t c =
     let h : 2 ≤ c.args.l = omega (arith, c.requires.least, c.if-l-eq1.false) in
-    (omega (arith, c.decreases), record { least = omega arith; most = omega (arith, c.requires.most); running = lower c.requires.running h })
+    (omega (arith, c.decreases), record { least = omega arith; most = omega (arith, c.requires.most); running = lower c.requires.running c.requires.least h })
 
 pub returns-then-ne : goal.returns-then-ne
 returns-then-ne t c =
@@ -57,8 +55,8 @@ returns-then-ne t c =
     let k : kind_at (numbers c.args.code.now.row.now) (get_or c.args.leaves.now (c.args.l - 1) 0) ≡ 2 → ⊥ = search rules in
     λ s.
     let q = s.running in
-    let e = sym c.in_ok-sight.was ∙ level_read q c.requires.least (Some c.args.x) c.span-level.ensures.0 c.span-level.ensures.1 refl (c.behind.ensures 62) in
-    fall_on q c.requires.least h c.args.x c.fall.result (level_saw q c.requires.least c.args.x e) c.if-sight.false (search rules) refl k (λ z. c.fall.ensures (record { least = omega arith; most = omega (arith, c.requires.most); running = z }))
+    let s = level_saw q c.requires.least c.args.x c.span-level.ensures.0 c.span-level.ensures.1 c.in_ok-sight.was (c.behind.ensures 62) in
+    fall_on q c.requires.least h c.args.x c.fall.result s c.if-sight.false (search rules) k (λ z. c.fall.ensures (record { least = omega arith; most = omega (arith, c.requires.most); running = z }))
 
 pub returns : goal.returns
 returns t c =
@@ -66,5 +64,5 @@ returns t c =
     let k : kind_at (numbers c.args.code.now.row.now) (get_or c.args.leaves.now (c.args.l - 1) 0) ≡ 2 = search rules in
     λ s.
     let q = s.running in
-    let e = sym c.in_ok-sight.was ∙ level_read q c.requires.least (Some c.args.x) c.span-level.ensures.0 c.span-level.ensures.1 refl (c.behind.ensures 62) in
-    fall_head q c.requires.least h c.args.x (level_saw q c.requires.least c.args.x e) c.if-sight.false (search rules) refl k c.then_some.ensures
+    let s = level_saw q c.requires.least c.args.x c.span-level.ensures.0 c.span-level.ensures.1 c.in_ok-sight.was (c.behind.ensures 62) in
+    fall_head q c.requires.least h c.args.x s c.if-sight.false (search rules) k c.then_some.ensures

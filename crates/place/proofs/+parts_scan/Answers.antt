@@ -10,7 +10,6 @@ use mathlib.Core.Path.{◌≡◌, sym, ap}
 use Prim.Native.Nat.{◌-◌}
 use native.Mathlib.Omega.{arith}
 use borrow.Author.Rules.{rules}
-use borrow.Author.Tests.{not-true}
 use Rattle.place.proofs.+parts_scan.Goals as goal
 
 pub parts-returns-then-ne : goal.parts-returns-then-ne
@@ -43,10 +42,8 @@ scan-loop-i-init t c =
 pub scan-returns-then-point-eq1 : goal.scan-returns-then-point-eq1
 scan-returns-then-point-eq1 t c = λ left p G. walk_stopped c.loop-i-test.true c.point.ensures c.if-point-eq1.true c.at.ensures c.then.ensures (c.loop-i.invariant.2 left p G)
 
-pub scan-returns-then-not-form : goal.scan-returns-then-not-form
-scan-returns-then-not-form t c =
-    λ left p G.
-    walk_shut c.loop-i-test.true c.point.ensures c.if-point-eq1.false (c.parts-form.ensures left) (not-true _ c.if-not-form.true) c.then-passed.ensures (c.loop-i.invariant.2 left p G)
+pub scan-returns-else-passed : goal.scan-returns-else-passed
+scan-returns-else-passed t c = λ left p G. walk_shut c.if-passed.false (c.loop-i.invariant.2 left p G)
 
 pub scan-loop-i-smaller : goal.scan-loop-i-smaller
 scan-loop-i-smaller t c = omega (arith, ends c.loop-i-test.true c.loop-i.invariant.1.forms.part)
@@ -62,5 +59,5 @@ scan-loop-i-preserved t c = (
   λ left p G. walk_on c.loop-i-test.true c.point.ensures c.if-point-eq1.false (c.parts-form.ensures left) c.then-passed.ensures c.after-i.ensures (c.loop-i.invariant.2 left p G),
 )
 
-pub scan-returns : goal.scan-returns
-scan-returns t c = λ left p G. walk_done c.loop-i-test.false (c.loop-i.invariant.2 left p G)
+pub scan-returns-after-loop-i : goal.scan-returns-after-loop-i
+scan-returns-after-loop-i t c = λ left p G. walk_done c.loop-i-test.false (c.loop-i.invariant.2 left p G)

@@ -3,7 +3,6 @@ use Rattle.rows.specs.Leaves.{numbers}
 use Rattle.place.proofs.Holding.{held_none, held_below, held_next, held_enters, head_room, head_open, level_plan, says_level}
 use Rattle.place.specs.Private.{Enters}
 use mathlib.Core.Bool.{true, false}
-use mathlib.Core.Path.{refl}
 use lib.ListN.{get_or}
 use Prim.Native.Nat.{◌-◌, ◌≤◌}
 use native.Mathlib.Omega.{arith}
@@ -17,7 +16,7 @@ pub enters-requires : goal.enters-requires
 enters-requires c =
     let p = c.requires.function_table in
     let l = c.loop-l.l in
-    leaf_held c.args.code.now.row.now (head_room p (omega arith) (c.loop-l.invariant p (l - 1) (omega arith)) refl)
+    leaf_held c.args.code.now.row.now (head_room p (omega arith) (c.loop-l.invariant p (l - 1) (omega arith)))
 
 pub returns-then-not-enters : goal.returns-then-not-enters
 returns-then-not-enters c = λ p h.
@@ -35,7 +34,7 @@ span-level-requires c =
       count = p.count;
       fits = p.fits;
       enterable = λ two. elim c.else-l-gt1.branch [
-        | else-l-gt1-via-then-l-gt1+else-not-enters w ↦ head_open p two (c.loop-l.invariant p (l - 1) (omega arith)) refl refl w.if-not-enters.ensures
+        | else-l-gt1-via-then-l-gt1+else-not-enters w ↦ head_open p two (c.loop-l.invariant p (l - 1) (omega arith)) w.if-not-enters.ensures
         | else-l-gt1-via-else-l-gt1 w ↦ absurd (omega (arith, two, w.if-l-gt1.false))
       ];
     }

@@ -1,11 +1,18 @@
-use Rattle.std.proofs.Common.{◌≡◌, take, drop, ◌+◌, ◌-◌, length, rules, tests, arith}
-use Rattle.std.proofs.lemmas.Iterator.{cases_from_all, YieldsList-from_slice}
-use Rattle.place.proofs.Putting.{zeros_said}
+use Rattle.std.proofs.Common.{◌+◌, ◌-◌, arith}
+use native.Mathlib.Decide.{dec_le}
+use Rattle.std.proofs.lemmas.List.{get_or_past}
+use Rattle.rows.proofs.Answers.{same_answer}
+use Rattle.rows.proofs.Zeros.{zeros_from}
 use Rattle.place.proofs.zero_above.Goals as goal
 
 pub returns : goal.returns
 returns c =
-    let n : length c.args.a.now ≡ 33 = omega (arith, c.well_formed) in
-    let xs = take (33 - (c.args.l + 1)) (drop (c.args.l + 1) c.args.a.now) in
-    zeros_said c.args.a.now c.args.l c.all.result n c.requires
-    (cases_from_all _ _ _ (λ x. x ≡ 0) (λ x. x ≡ 0 → ⊥) c.all.ensures.ran (YieldsList-from_slice xs (search rules)) (λ x q k. search (rules, tests)) (λ x q k. search (rules, tests)))
+    let a = c.args.a.now in
+    let l = c.args.l in
+    let r = c.all_zero.result in
+    same_answer r
+    (λ h k lt. elim (dec_le 33 k) [
+      | yes g ↦ get_or_past a k 0 (omega (arith, c.told-a))
+      | no g ↦ h k (omega arith) (omega (arith, c.told-a))
+    ])
+    (λ h k le lt. h k (omega arith)) (zeros_from r a (l + 1) (33 - (l + 1)) (omega (arith, c.told-a, c.requires)) c.all_zero.ensures)

@@ -34,7 +34,7 @@ stored c =
       level = a.level;
       turn = l.turn;
       tail = l.tail;
-      stretch = l.stretch;
+      max_load_turn = l.max_load_turn;
     }
 
 pub returns-clause-writes : goal.returns-clause-writes
@@ -57,5 +57,5 @@ returns-clause-keeps c =
     rw (c.from-2.ensures, bool_is c.match-form.kind.1) (λ j. (
       map-set_same (λ (l : Leaf). l.turn) row i (stored c) blank_leaf refl j,
       map-set_same (λ (l : Leaf). l.tail) row i (stored c) blank_leaf refl j,
-      map-set_same (λ (l : Leaf). l.stretch) row i (stored c) blank_leaf refl j,
+      map-set_same (λ (l : Leaf). l.max_load_turn) row i (stored c) blank_leaf refl j,
     ))

@@ -62,7 +62,7 @@ pub returns : goal.returns
 returns c =
     let found : c.derive_all.result ≡ Some c.in_ok-derived.derived = c.ok_or.ensures.ok_part ∙ ap result_ok c.in_ok-derived.was in
     let derives : (p : Plan) (g : judging.Given p c.args.raw.now c.args.row.now)
-    → Derives p (Some c.in_ok-derived.derived) c.derive_all.new.columns.turns c.derive_all.new.columns.tails c.derive_all.new.columns.stretches = λ p g.
+    → Derives p (Some c.in_ok-derived.derived) c.derive_all.new.columns.turns c.derive_all.new.columns.tails c.derive_all.new.columns.max_load_turns = λ p g.
     rw found at (c.derive_all.ensures p (record { plan = g.read; seen = c.if-not-seen_all.ensures g.read; called = c.if-not-called.ensures g.read }) g.same) in
     let accepted : (p : Plan) → RawOf p c.args.raw.now c.args.row.now → judged p ≡ plan p = λ p k.
     let g = judging.given k in

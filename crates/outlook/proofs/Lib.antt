@@ -1,0 +1,9 @@
+pub mod Quieting
+pub mod Walking
+pub mod Leaving
+pub mod Stilling
+pub mod Growing
+pub mod Levels
+pub mod Seeing
+pub mod Meaning
+pub mod Examples

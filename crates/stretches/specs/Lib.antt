@@ -1,0 +1,2 @@
+pub mod Stretches
+pub mod Private
