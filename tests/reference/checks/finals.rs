@@ -4,15 +4,12 @@
 use std::collections::BTreeMap;
 
 use reference::composed::{Composed, Place};
-use reference::gen::{self, Random};
 use reference::listed::Listed;
 use reference::numbers::Numbers;
 use reference::plan::{text, Kind, Plan};
 
+use super::small::{each_plan, PLANS};
 use super::tally::Tally;
-
-const PLANS: usize = 6_000;
-const MOST_RUNS: usize = 200;
 
 /// How often each kind of decision is to be met, with a point ahead and without, and
 /// how many points of each kind whose visits differ.
@@ -98,18 +95,10 @@ fn of_plan(tally: &mut Tally, met: &mut Met, listed: &Listed) {
 }
 
 pub fn check(tally: &mut Tally) {
-    let mut random = Random::new(34);
     let mut met = Met::default();
-    let mut plans = 0;
-    while plans < PLANS {
-        let plan = gen::small_or_calling_plan(&mut random);
-        if let Some(listed) = Listed::new(&plan, MOST_RUNS) {
-            of_plan(tally, &mut met, &listed);
-            plans += 1;
-        }
-    }
+    each_plan(34, |listed| of_plan(tally, &mut met, listed));
     println!(
-        "  {} histories of {plans} plans: {:?}",
+        "  {} histories of {PLANS} plans: {:?}",
         met.histories, met.kinds
     );
     println!("  points whose visits differ: {:?}", met.by_visit);

@@ -10,6 +10,7 @@ mod readings_of_calls;
 mod readings_of_texts;
 mod replay;
 mod sheet;
+mod small;
 mod tables;
 mod tally;
 mod texts;

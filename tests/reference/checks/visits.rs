@@ -13,11 +13,8 @@ use reference::numbers::Numbers;
 use reference::plan::{text, Form, Kind, Plan};
 use reference::rules;
 
+use super::small::{each_plan, PLANS};
 use super::tally::Tally;
-
-/// Plans whose histories are all listed, and how many runs they have at most.
-const PLANS: usize = 6_000;
-const MOST_RUNS: usize = 200;
 
 /// Random histories of small and of large plans, and the longest that is played.
 const SMALL: usize = 8_000;
@@ -222,16 +219,8 @@ fn of_plan(tally: &mut Tally, met: &mut Met, listed: &Listed) {
 }
 
 fn all_histories(tally: &mut Tally) {
-    let mut random = Random::new(36);
     let mut met = Met::default();
-    let mut plans = 0;
-    while plans < PLANS {
-        let plan = gen::small_or_calling_plan(&mut random);
-        if let Some(listed) = Listed::new(&plan, MOST_RUNS) {
-            of_plan(tally, &mut met, &listed);
-            plans += 1;
-        }
-    }
+    each_plan(36, |listed| of_plan(tally, &mut met, listed));
     let Met {
         histories,
         shorter,
@@ -239,7 +228,7 @@ fn all_histories(tally: &mut Tally) {
         spared,
         spared_plans,
     } = met;
-    println!("  {histories} histories of {plans} plans; visits with a smaller stretch than");
+    println!("  {histories} histories of {PLANS} plans; visits with a smaller stretch than");
     println!("  their point: {shorter:?}");
     println!("    {features:?}");
     println!(
