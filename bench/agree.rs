@@ -7,6 +7,7 @@ use crate::jobs::{jobs, Call};
 use crate::memory::{Head, Leaf, Reply, State, FUNCTIONS, LEVELS};
 use crate::plans::Plan;
 use crate::random::{random_text, spoil, Random};
+use crate::reference::calls::RESUME;
 use crate::reference::place::Place;
 use crate::sides::{Side, PROVED, REFERENCE};
 
@@ -24,8 +25,10 @@ pub struct Tally {
     /// How often each refusal and each word was answered, by their numbers.
     refusals: BTreeMap<u64, usize>,
     words: [usize; 6],
-    /// The words of decisions after which no point could come; go, suspend and stay are the first three behind that of refusals.
+    /// The words of decisions after which no point could come; go, suspend, stay and resume are the first four behind that of refusals.
     final_words: [usize; 6],
+    /// Those of reports that let the others come back, where a point could still come.
+    returns: usize,
     /// The stretch of each point's last visit in a history, and how often it was another at the next.
     stretches: BTreeMap<u64, u64>,
     differing: usize,
@@ -96,6 +99,7 @@ impl Tally {
         let row = &row[..head.leaves];
         let ahead = Place { row, head, state }.ahead();
         self.final_words[reply.word as usize] += usize::from(ahead.is_final());
+        self.returns += usize::from(reply.word == RESUME && !ahead.is_final());
         if state.level > 0 {
             let point = state.leaves[state.level as usize];
             let before = self.stretches.insert(point, ahead.stretch());
@@ -181,7 +185,7 @@ fn damage_leaf(random: &mut Random, leaf: &mut Leaf) {
 
 fn damage_head(random: &mut Random, head: &mut Head) {
     let at = random.index(FUNCTIONS);
-    match random.below(9) {
+    match random.below(11) {
         0 => head.deadline = moved(random, head.deadline),
         1 => head.switching = moved(random, head.switching),
         2 => head.total = moved(random, head.total),
@@ -190,6 +194,8 @@ fn damage_head(random: &mut Random, head: &mut Head) {
         5 => head.leaves = moved(random, head.leaves as u64) as usize,
         6 => head.functions = moved(random, head.functions as u64) as usize,
         7 => head.bounds[at + 1] = moved(random, head.bounds[at + 1]),
+        8 => head.edition = moved(random, head.edition),
+        9 => head.resuming = moved(random, head.resuming),
         _ => head.totals[at] = moved(random, head.totals[at]),
     }
 }
@@ -337,7 +343,11 @@ fn measured(tally: &mut Tally, random: &mut Random, plan: &Plan) {
         let reply = job.run(&REFERENCE, &mut two, &mut moved_by_two);
         let same_table = one.row == two.row && one.head == two.head;
         let same_memory = same_table && moved_by_one == moved_by_two;
-        let accepted = (reply.word == 0) == (job.call == Call::Read);
+        let accepted = match job.call {
+            Call::Read => reply.word == 0,
+            Call::Report(_) if plan.head.edition == 2 => reply.word == RESUME,
+            _ => reply.word > 0,
+        };
         tally.note(proved == reply && same_memory && accepted, || {
             let (call, shape, leaves) = (job.call.name(), plan.shape, plan.leaves);
             format!("{call} of {shape} {leaves}: {proved:?} {reply:?}")
@@ -392,21 +402,27 @@ pub fn agree(plans: &[Plan]) -> Tally {
         refusals,
         words,
         final_words,
+        returns,
         differing,
         ..
     } = &tally;
     println!("answers by refusal, 0 for none: {refusals:?}");
     println!("answers of calls by word, 0 for refused: {words:?}");
     println!("answers of final decisions by word: {final_words:?}");
+    println!("returns where a point can still come: {returns}");
     println!("visits with another stretch than the last of the same point: {differing}");
     // 18 is for lines of logs.
     let mut numbers = (0..=17).chain([19]);
     let all_met = numbers.all(|number| refusals.contains_key(&number)) && !words.contains(&0);
-    let finals_met = !final_words[1..=3].contains(&0);
+    let finals_met = !final_words[1..=4].contains(&0);
+    let returns_met = *returns > 0;
     let visits_met = *differing > 0;
     tally.note(all_met, || "not every refusal and word was met".to_string());
     tally.note(finals_met, || {
         "not every word of a final decision was met".to_string()
+    });
+    tally.note(returns_met, || {
+        "no return was met where a point can still come".to_string()
     });
     tally.note(visits_met, || {
         "no point was met whose visits have different stretches".to_string()

@@ -49,7 +49,23 @@ fn chain(count: usize) -> String {
     task(&functions)
 }
 
-/// Single lines, and texts that end early or go on.
+/// First lines, with a function without leaves or none behind.
+fn task_lines() -> Vec<(String, u64, u64)> {
+    let empty = |line: &str| format!("{line}\n(fun\n)\n)\n");
+    vec![
+        ("(task 1 0\n)\n".to_string(), 2, 2),
+        (empty("(task 0 0"), 3, 1),
+        (empty("(task 1 1048577"), 3, 1),
+        (empty("(task 1 0"), 0, 0),
+        (empty("(task 1 0 0"), 0, 0),
+        (empty("(task 1 0 1048576"), 0, 0),
+        (empty("(task 1 0 1048577"), 3, 1),
+        (empty("(task 1 0 01"), 2, 1),
+        (empty("(task 1 0 1 1"), 2, 1),
+    ]
+}
+
+/// Other lines, and texts that end early or go on.
 fn lines() -> Vec<(String, u64, u64)> {
     let refused = |line, number| (one(&[line]), number, 3);
     let leaf_after = |text: &str| format!("{}{text}", one(&["(leaf s 1 1)"]));
@@ -74,10 +90,6 @@ fn lines() -> Vec<(String, u64, u64)> {
         refused("(then", 2),
         (one(&["(if p 1 1", ")"]), 2, 4),
         (one(&["(if p 1 1", "(then", ")", ")"]), 2, 6),
-        ("(task 1 0\n)\n".to_string(), 2, 2),
-        ("(task 0 0\n(fun\n)\n)\n".to_string(), 3, 1),
-        ("(task 1 1048577\n(fun\n)\n)\n".to_string(), 3, 1),
-        ("(task 1 0\n(fun\n)\n)\n".to_string(), 0, 0),
         (String::new(), 2, 1),
         (leaf_after("\n"), 2, 6),
         (leaf_after("(fun\n"), 2, 6),
@@ -164,7 +176,7 @@ fn wholes() -> Vec<(String, u64, u64)> {
 
 /// Each text with its ruling.
 pub fn texts() -> Vec<(Vec<u8>, Ruling)> {
-    let all = [lines(), costless(), limits(), wholes()];
+    let all = [task_lines(), lines(), costless(), limits(), wholes()];
     let all = all.into_iter().flatten();
     all.map(|(text, number, line)| (text.into_bytes(), Ruling { number, line }))
         .collect()
@@ -244,8 +256,19 @@ fn costless_points() -> Vec<Passed> {
     all
 }
 
+/// Heads of no edition, of edition 1 with a cost of resuming, and of edition 2 with one too large.
+fn no_editions() -> Vec<Passed> {
+    let with = |(edition, resume)| {
+        let mut table = table(&one(&["(leaf p 1 1)"]));
+        (table.head.edition, table.head.resuming) = (edition, resume);
+        table
+    };
+    let heads = [(0, 0), (1, 1), (2, 1_048_577), (3, 0)];
+    heads.into_iter().map(with).collect()
+}
+
 pub fn tables() -> Vec<Passed> {
-    [too_deep(), costless_points()]
+    [too_deep(), costless_points(), no_editions()]
         .into_iter()
         .flatten()
         .collect()

@@ -141,7 +141,9 @@ fn ending(plan: &Plan, mut state: State) -> State {
 
 /// The four calls on a plan.
 pub fn jobs(plan: &Plan) -> Vec<Job<'_>> {
-    let (before_report, point, stop) = farthest(plan);
+    let (mut before_report, point, stop) = farthest(plan);
+    // In edition 2 the others are suspended, so that the report decides whether they come back.
+    before_report.suspended = (plan.head.edition == 2).into();
     let job = |call, before| Job { plan, call, before };
     vec![
         job(Call::Read, State::FRESH),

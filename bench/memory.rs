@@ -38,6 +38,8 @@ pub struct Leaf {
 pub struct Head {
     pub deadline: u64,
     pub switching: u64,
+    pub edition: u64,
+    pub resuming: u64,
     pub total: u64,
     pub max_load_total: u64,
     pub leaves: usize,

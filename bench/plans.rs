@@ -1,6 +1,7 @@
 //! The plans that are measured.
 
 use trials::worked::PLAN_A;
+use trials::worked_returns::PLAN_A_2;
 
 use crate::memory::{Head, Leaf, Ruling};
 use crate::reference;
@@ -22,12 +23,15 @@ pub enum Shape {
     Deep,
     /// One point, with silent leaves, ifs and loops before and behind it.
     Silent,
+    /// As shallow ones, in edition 2.
+    Returning,
 }
 
-pub const SHAPES: [(Shape, &str); 3] = [
+pub const SHAPES: [(Shape, &str); 4] = [
     (Shape::Shallow, "shallow"),
     (Shape::Deep, "deep"),
     (Shape::Silent, "silent"),
+    (Shape::Returning, "returning"),
 ];
 
 /// A plan with its table.
@@ -162,13 +166,18 @@ fn table(text: &[u8], leaves: usize) -> (Vec<Leaf>, Head) {
 
 pub fn plan(shape: (Shape, &'static str), leaves: usize) -> Plan {
     let functions = match shape.0 {
-        Shape::Shallow => shallow(leaves),
+        Shape::Shallow | Shape::Returning => shallow(leaves),
         Shape::Deep => deep(leaves),
         Shape::Silent => silent(leaves),
     };
     let switching = 4;
-    let text =
-        |deadline: u64| format!("(task {deadline} {switching}\n{functions}\n)\n").into_bytes();
+    let resume = match shape.0 {
+        Shape::Returning => " 1",
+        _ => "",
+    };
+    let text = |deadline: u64| {
+        format!("(task {deadline} {switching}{resume}\n{functions}\n)\n").into_bytes()
+    };
     // Between what the plan takes alone and under load, so that decisions turn in the course of a run.
     let (_, head) = table(&text(MOST_TIME), leaves);
     let text = text(head.total + switching + (head.max_load_total - head.total) / 2);
@@ -187,15 +196,24 @@ pub fn plans() -> Vec<Plan> {
     SHAPES.into_iter().flat_map(sized).collect()
 }
 
-/// Plan A of document 01.
-pub fn plan_a() -> Plan {
-    let (text, leaves) = (PLAN_A.as_bytes().to_vec(), LEAVES_OF_PLAN_A);
+fn of_plan_a(shape: &'static str, text: &str) -> Plan {
+    let (text, leaves) = (text.as_bytes().to_vec(), LEAVES_OF_PLAN_A);
     let (row, head) = table(&text, leaves);
     Plan {
-        shape: "plan A",
+        shape,
         leaves,
         text,
         row,
         head,
     }
+}
+
+/// Plan A of document 01.
+pub fn plan_a() -> Plan {
+    of_plan_a("plan A", PLAN_A)
+}
+
+/// Plan A in edition 2.
+pub fn plan_a_2() -> Plan {
+    of_plan_a("plan A, edition 2", PLAN_A_2)
 }

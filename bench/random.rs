@@ -111,10 +111,12 @@ pub fn random_text(random: &mut Random) -> Vec<u8> {
     let (points, calls) = (random.pick(&[30, 60, 90]), random.pick(&[5, 30]));
     let cost = random.pick(&[1, 10, 1 << 20]);
     let costless = random.chance(COSTLESS);
+    // Every second plan is of edition 2, with little to pay for coming back, or much.
+    let resume = random.pick(&["", "", "", "", " 0", " 1", " 3", " 1048576"]);
     let mut writer = Writer {
         leaves: 4 + random.index(40),
         random,
-        lines: vec![format!("(task {deadline} 3")],
+        lines: vec![format!("(task {deadline} 3{resume}")],
         functions: 0,
         points,
         calls,

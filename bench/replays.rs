@@ -4,7 +4,7 @@ use std::io;
 
 use crate::agree::Tally;
 use crate::logs::log;
-use crate::plans::{plan, plan_a, Plan, SHAPES};
+use crate::plans::{plan, plan_a, plan_a_2, Plan, SHAPES};
 use crate::programs::{Program, Programs, PROGRAMS};
 
 /// Repetitions, of which the fastest and the median count.
@@ -17,12 +17,13 @@ const LARGE: usize = 512;
 const COMPARED: usize = 20_000;
 const LARGE_COMPARED: usize = 3_000;
 
-/// What the log on plan A is answered with, among others; else little was compared.
-const ANSWERS: [&str; 11] = [
+/// What the logs on plan A are answered with, among others; else little was compared.
+const ANSWERS: [&str; 12] = [
     "go ",
     "suspend ",
     "stay ",
-    "resume ",
+    "resume 0",
+    "resume 8 ",
     "ended ",
     "refused 12",
     "refused 14",
@@ -55,6 +56,9 @@ fn compared() -> Vec<(String, Plan, String)> {
         on_plan_a("plan A, the greatest numbers", GREATEST.to_string()),
         on_plan_a("plan A, no lines", String::new()),
     ];
+    let second = plan_a_2();
+    let log_of_second = log(&second, COMPARED);
+    cases.push((second.shape.to_string(), second, log_of_second));
     for shape in SHAPES {
         let plan = plan(shape, LARGE);
         let log = log(&plan, LARGE_COMPARED);

@@ -11,8 +11,9 @@ const LEAST_LEAVES: usize = 16;
 const LEGEND: &str = "
 The reference is plain safe Rust that makes the same checks on the same memory. Shallow plans have points, silent leaves, ifs and calls one after
 the other; deep ones have loops in one another, from 64 leaves on down to level 32, and the other leaves spread over the levels; silent ones have
-one point, in the middle, so that a release looks through all leaves before it, and its report, which is final, through all behind it. Read makes a
-table of the text; release begins from a fresh state; report is that of the farthest point at the highest level; end comes where the run can end.";
+one point, in the middle, so that a release looks through all leaves before it, and its report, which is final, through all behind it; returning ones
+are the shallow ones in edition 2, where the report lets the suspended others come back. Read makes a table of the text; release begins from a fresh
+state; report is that of the farthest point at the highest level; end comes where the run can end.";
 
 pub fn print_legend() {
     println!("{LEGEND}");

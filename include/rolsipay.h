@@ -27,10 +27,10 @@ extern "C" {
 #endif
 
 /* The version of this header, to be compared by #if: 10000 * major + 100 * minor + patch. The library carries none: take both from one dist/. */
-#define ROLSIPAY_VERSION 10400            /* 1.4.0 */
+#define ROLSIPAY_VERSION 10500            /* 1.5.0 */
 
 /* The most stack that a call takes, in bytes, whatever it is given; docs/MEMORY.md tells how it was measured. */
-#define ROLSIPAY_STACK_READ 83968         /* rolsipay_read */
+#define ROLSIPAY_STACK_READ 86016         /* rolsipay_read */
 #define ROLSIPAY_STACK_CALL 14336         /* rolsipay_release, rolsipay_report and rolsipay_end, each */
 
 /* The limits. Of a longer row only the first ROLSIPAY_LEAVES records are used. */
@@ -40,10 +40,10 @@ extern "C" {
 #define ROLSIPAY_BRACKETS 64              /* open brackets */
 #define ROLSIPAY_LEVELS 32                /* the greatest level; level 0 is the release */
 #define ROLSIPAY_ROUNDS 65535             /* rounds of a loop */
-#define ROLSIPAY_COST 1048576             /* the greatest cost and switch cost, 2^20 */
+#define ROLSIPAY_COST 1048576             /* the greatest cost, switch cost and cost of resuming, 2^20 */
 #define ROLSIPAY_TIME 1099511627776       /* the greatest deadline and total, 2^40 */
 
-/* The words of a reply. */
+/* The words of a reply. Behind go, resume and ended the others run, behind suspend and stay they do not; resume is said by an end, and in edition 2 by a report. */
 #define ROLSIPAY_REFUSED 0
 #define ROLSIPAY_GO 1
 #define ROLSIPAY_SUSPEND 2
@@ -87,10 +87,12 @@ typedef struct {
     uint64_t max_load_turn; /* of a loop: largest cost of a round under load, else 0 */
 } rolsipay_leaf;
 
-/* What stands beside the row: 440 bytes. */
+/* What stands beside the row: 456 bytes. */
 typedef struct {
     uint64_t deadline;
     uint64_t switching;      /* switch cost */
+    uint64_t edition;        /* 2 where the task line has a third number, the cost of resuming, else 1 */
+    uint64_t resuming;       /* cost of resuming; 0 in edition 1 */
     uint64_t total;          /* largest isolated cost of a run */
     uint64_t max_load_total; /* largest cost of a run under load */
     size_t leaves;
@@ -119,9 +121,10 @@ typedef struct {
 
 /* What a call answers: the word, and a refusal's number, else 0; of an accepted release or report the remaining time and the margin; of every accepted call 1
  * if the reading exceeds the deadline, else 0. The margin is deadline - reading - remaining - stretch - switch cost. Where no run with these reports meets a
- * further point, the release or report is final, and the margin is deadline - reading - stretch; remaining is given there too. The stretch is the largest cost
- * under load up to the next point or the end, of a report from this visit on, over all runs with these reports, of a release from the start. A margin below
- * -2^62 is given as -2^62. */
+ * further point, the release or report is final, and the margin is deadline - reading - stretch; remaining is given there too. In edition 2 the cost of
+ * resuming comes off as well where the others were suspended before the report. The stretch is the largest cost under load up to the next point or the end,
+ * of a report from this visit on, over all runs with these reports, of a release from the start. A margin below -2^62 is given as -2^62. A report's remaining
+ * is 1 at least, as its point costs a tick; so 0 tells the resume of an end from that of a report. */
 typedef struct {
     uint64_t word;
     uint64_t number;
@@ -135,11 +138,12 @@ typedef struct {
 typedef char rolsipay_leaf_has_88_bytes[sizeof(rolsipay_leaf) == 88 ? 1 : -1];
 typedef char rolsipay_leaf_after_is_at_48[offsetof(rolsipay_leaf, after) == 48 ? 1 : -1];
 typedef char rolsipay_leaf_max_load_turn_is_at_80[offsetof(rolsipay_leaf, max_load_turn) == 80 ? 1 : -1];
-typedef char rolsipay_head_has_440_bytes[sizeof(rolsipay_head) == 440 ? 1 : -1];
-typedef char rolsipay_head_leaves_is_at_32[offsetof(rolsipay_head, leaves) == 32 ? 1 : -1];
-typedef char rolsipay_head_bounds_is_at_48[offsetof(rolsipay_head, bounds) == 48 ? 1 : -1];
-typedef char rolsipay_head_totals_is_at_184[offsetof(rolsipay_head, totals) == 184 ? 1 : -1];
-typedef char rolsipay_head_max_load_totals_is_at_312[offsetof(rolsipay_head, max_load_totals) == 312 ? 1 : -1];
+typedef char rolsipay_head_has_456_bytes[sizeof(rolsipay_head) == 456 ? 1 : -1];
+typedef char rolsipay_head_resuming_is_at_24[offsetof(rolsipay_head, resuming) == 24 ? 1 : -1];
+typedef char rolsipay_head_leaves_is_at_48[offsetof(rolsipay_head, leaves) == 48 ? 1 : -1];
+typedef char rolsipay_head_bounds_is_at_64[offsetof(rolsipay_head, bounds) == 64 ? 1 : -1];
+typedef char rolsipay_head_totals_is_at_200[offsetof(rolsipay_head, totals) == 200 ? 1 : -1];
+typedef char rolsipay_head_max_load_totals_is_at_328[offsetof(rolsipay_head, max_load_totals) == 328 ? 1 : -1];
 typedef char rolsipay_state_has_824_bytes[sizeof(rolsipay_state) == 824 ? 1 : -1];
 typedef char rolsipay_state_leaves_is_at_32[offsetof(rolsipay_state, leaves) == 32 ? 1 : -1];
 typedef char rolsipay_state_times_is_at_560[offsetof(rolsipay_state, times) == 560 ? 1 : -1];
@@ -155,8 +159,9 @@ rolsipay_ruling rolsipay_read(const uint8_t *text, size_t bytes, rolsipay_leaf *
  * call leaves the state as it was. */
 rolsipay_reply rolsipay_release(const rolsipay_leaf *row, size_t records, const rolsipay_head *head, rolsipay_state *state);
 
-/* Report of a point, by its number, with a reading, the ticks elapsed since the release: refusals 11, 14, 15, 16, 17. Stay if the others were suspended before,
- * whatever the margin; else go if the margin is 0 or more, suspend if not. */
+/* Report of a point, by its number, with a reading, the ticks elapsed since the release: refusals 11, 14, 15, 16, 17. Where the others ran before, go if the
+ * margin is 0 or more, suspend if not. Where they were suspended, stay, whatever the margin; but in edition 2 resume if the margin is 0 or more: let them run
+ * again, in at most the cost of resuming, and go on. */
 rolsipay_reply rolsipay_report(const rolsipay_leaf *row, size_t records, const rolsipay_head *head, rolsipay_state *state, uint64_t point,
                                uint64_t reading);
 

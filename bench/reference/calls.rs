@@ -2,6 +2,7 @@
 
 use super::check::table;
 use super::place::{Ahead, Next, Place};
+use super::SECOND;
 use crate::memory::{Head, Leaf, Reply, State};
 
 const BROKEN: u64 = 11;
@@ -17,7 +18,7 @@ const GO: u64 = 1;
 const SUSPEND: u64 = 2;
 const STAY: u64 = 3;
 pub const RESUME: u64 = 4;
-pub const ENDED: u64 = 5;
+const ENDED: u64 = 5;
 
 /// A margin is not given below this.
 const LEAST_MARGIN: i128 = -(1 << 62);
@@ -37,12 +38,15 @@ fn decide(head: &Head, remaining: u64, ahead: Ahead, reading: u64, suspended: bo
         true => 0,
         false => remaining + head.switching,
     };
-    let needed = ahead.stretch() + reserve;
+    let returns = suspended && head.edition == SECOND;
+    let back = if returns { head.resuming } else { 0 };
+    let needed = ahead.stretch() + reserve + back;
     let margin = i128::from(head.deadline) - i128::from(reading) - i128::from(needed);
-    let word = match suspended {
-        true => STAY,
-        false if margin < 0 => SUSPEND,
-        false => GO,
+    let word = match (suspended, margin >= 0) {
+        (false, true) => GO,
+        (false, false) => SUSPEND,
+        (true, true) if returns => RESUME,
+        (true, _) => STAY,
     };
     Reply {
         word,
@@ -125,7 +129,7 @@ pub fn report_on(
     let ahead = place.from_visit(leaf, &next);
     let reply = decide(head, remaining, ahead, reading, state.suspended != 0);
     move_on(state, &next, point, remaining);
-    state.suspended = (reply.word != GO).into();
+    state.suspended = matches!(reply.word, SUSPEND | STAY).into();
     state.reading = reading;
     reply
 }

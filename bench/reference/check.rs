@@ -2,8 +2,8 @@
 
 use super::derive::{derive, Compared};
 use super::{
-    Inside, FUNCTION_BRACKETS, MOST_BRACKETS, MOST_COST, MOST_LEVEL, MOST_ROUNDS, MOST_SWITCHING,
-    MOST_TIME,
+    Inside, FIRST, FUNCTION_BRACKETS, MOST_BRACKETS, MOST_COST, MOST_LEVEL, MOST_RESUME,
+    MOST_ROUNDS, MOST_SWITCHING, MOST_TIME, SECOND,
 };
 use crate::memory::{Head, Leaf, CALL, FUNCTIONS, IF, LEAF, LEAVES, LOOP};
 
@@ -104,6 +104,11 @@ fn placed(leaf: &Leaf, at: usize, to: usize, level: u64) -> bool {
 fn ranged(head: &Head, records: usize) -> bool {
     (1..=MOST_TIME).contains(&head.deadline)
         && head.switching <= MOST_SWITCHING
+        && match head.edition {
+            FIRST => head.resuming == 0,
+            SECOND => head.resuming <= MOST_RESUME,
+            _ => false,
+        }
         && head.leaves <= records.min(LEAVES)
         && (1..=FUNCTIONS).contains(&head.functions)
         && head.bounds[0] == 0

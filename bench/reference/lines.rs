@@ -15,8 +15,8 @@ pub struct Block {
 }
 
 pub enum Line {
-    /// Deadline and switch cost.
-    Task(u64, u64),
+    /// Deadline, switch cost and, in edition 2, the cost of resuming.
+    Task(u64, u64, Option<u64>),
     Fun,
     Then,
     Else,
@@ -47,7 +47,12 @@ impl Rest<'_> {
         } else if self.skip(b"(fun") {
             Line::Fun
         } else if self.skip(b"(task ") {
-            Line::Task(self.number()?, self.field()?)
+            let (deadline, switching) = (self.number()?, self.field()?);
+            let resume = match self.skip(b" ") {
+                true => Some(self.number()?),
+                false => None,
+            };
+            Line::Task(deadline, switching, resume)
         } else {
             return None;
         };

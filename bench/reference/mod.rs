@@ -13,11 +13,16 @@ pub use read::read;
 /// The ranges of document 01.
 const MOST_COST: u64 = 1 << 20;
 const MOST_SWITCHING: u64 = 1 << 20;
+const MOST_RESUME: u64 = 1 << 20;
 const MOST_TIME: u64 = 1 << 40;
 const MOST_ROUNDS: u64 = 65_535;
 const MOST_TARGET: u64 = 15;
 const MOST_LEVEL: u64 = 32;
 const MOST_BRACKETS: usize = 64;
+
+/// The editions of document 02, L7.
+const FIRST: u64 = 1;
+const SECOND: u64 = 2;
 
 /// The brackets open inside a function: the task's and its own.
 const FUNCTION_BRACKETS: usize = 2;

@@ -3,8 +3,8 @@
 use super::derive::{derive, Written};
 use super::lines::{Block, Line, Rest};
 use super::{
-    Inside, FUNCTION_BRACKETS, MOST_BRACKETS, MOST_COST, MOST_LEVEL, MOST_ROUNDS, MOST_SWITCHING,
-    MOST_TARGET, MOST_TIME,
+    Inside, FIRST, FUNCTION_BRACKETS, MOST_BRACKETS, MOST_COST, MOST_LEVEL, MOST_RESUME,
+    MOST_ROUNDS, MOST_SWITCHING, MOST_TARGET, MOST_TIME, SECOND,
 };
 use crate::memory::{Head, Leaf, Ruling, CALL, FUNCTIONS, IF, LEAF, LEAVES, LOOP, TEXT};
 
@@ -174,14 +174,17 @@ impl Reader<'_> {
 
     /// Rules 2 to 7 and 19: the lines.
     fn task(&mut self) -> Result<(), u64> {
-        let Line::Task(deadline, switching) = self.take()? else {
+        let Line::Task(deadline, switching, resume) = self.take()? else {
             return Err(FORM);
         };
-        if !(1..=MOST_TIME).contains(&deadline) || switching > MOST_SWITCHING {
+        let timed = (1..=MOST_TIME).contains(&deadline) && switching <= MOST_SWITCHING;
+        if !timed || resume.unwrap_or(0) > MOST_RESUME {
             return Err(RANGE);
         }
         self.head.deadline = deadline;
         self.head.switching = switching;
+        self.head.edition = if resume.is_some() { SECOND } else { FIRST };
+        self.head.resuming = resume.unwrap_or(0);
         loop {
             match self.take()? {
                 Line::Fun => self.function()?,

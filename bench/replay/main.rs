@@ -79,7 +79,7 @@ impl Replay<'_> {
         };
         let (last, stopped) = (self.state.reading, self.state.suspended != 0);
         let reply = self.call(checked, &entry);
-        print::answer(&mut self.out, &reply);
+        print::answer(&mut self.out, &entry, &reply);
         if reply.word == REFUSED {
             return;
         }

@@ -1,7 +1,8 @@
 //! The lines that are printed.
 
+use crate::entry::Entry;
 use crate::memory::Reply;
-use crate::reference::calls::{ENDED, REFUSED, RESUME};
+use crate::reference::calls::REFUSED;
 
 /// The words of replies by their numbers.
 const WORDS: [&[u8]; 6] = [b"refused", b"go", b"suspend", b"stay", b"resume", b"ended"];
@@ -35,11 +36,12 @@ fn put_signed(out: &mut Vec<u8>, number: i64) {
     put_number(out, number.unsigned_abs());
 }
 
-pub fn answer(out: &mut Vec<u8>, reply: &Reply) {
+/// The reply to the call of a line.
+pub fn answer(out: &mut Vec<u8>, entry: &Entry, reply: &Reply) {
     out.extend_from_slice(WORDS[reply.word as usize]);
-    match reply.word {
-        REFUSED => put_field(out, reply.number),
-        RESUME | ENDED => put_field(out, reply.late),
+    match (entry, reply.word) {
+        (_, REFUSED) => put_field(out, reply.number),
+        (Entry::End(_), _) => put_field(out, reply.late),
         _ => {
             put_field(out, reply.remaining);
             put_signed(out, reply.margin);

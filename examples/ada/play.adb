@@ -1,5 +1,6 @@
---  Reads the plan in the file that it is given and plays the marked cases m1 to m5 of plan A, m5 as document 02 has it, each from a fresh state. One line an
---  answer: the word, remaining and margin, then 1 if late, else 0; for the end the word and the late mark; or `refused` and the number.
+--  Reads the plan in the file that it is given and plays the marked cases m1 to m5 of plan A, m5 as document 02 has it, each from a fresh state. The file may
+--  have plan A with a third number in its task line too. One line an answer: the word, remaining and margin, then 1 if late, else 0; for the end the word and
+--  the late mark; or `refused` and the number.
 with Ada.Command_Line;
 with Ada.IO_Exceptions;
 with Ada.Streams; use Ada.Streams;
@@ -30,11 +31,12 @@ procedure Play is
    is (case N is when Go => "go", when Suspend => "suspend", when Stay => "stay", when Resume => "resume",
        when Ended => "ended", when others => "refused");
 
+   --  A report's remaining is 1 at least, and an end's 0.
    procedure Print (R : Reply) is
    begin
       if R.Word = Refused then
          Ada.Text_IO.Put_Line ("refused " & Shown (R.Number));
-      elsif R.Word = Resume or else R.Word = Ended then
+      elsif R.Word = Ended or else (R.Word = Resume and then R.Remaining = 0) then
          Ada.Text_IO.Put_Line (Word (R.Word) & " " & Shown (R.Late));
       else
          Ada.Text_IO.Put_Line (Word (R.Word) & " " & Shown (R.Remaining) & " " & Shown (R.Margin) & " " & Shown (R.Late));
@@ -92,7 +94,8 @@ begin
       return;
    end if;
    Ada.Text_IO.Put_Line
-     ("task " & Shown (Head.Total) & " " & Shown (Head.Max_Load_Total) & " " & Shown (Head.Deadline) & " " & Shown (Head.Switching));
+     ("task " & Shown (Head.Total) & " " & Shown (Head.Max_Load_Total) & " " & Shown (Head.Deadline) & " " & Shown (Head.Switching)
+      & (if Head.Edition = 2 then " " & Shown (Head.Resuming) else ""));
    Run ("m1 m4 m5", (0, 0, 1, 9, 1, 33, 1, 50, 1, 88, 1, 88));
    Run ("m2", (0, 0, 1, 28));
    Run ("m2", (0, 0, 1, 29));

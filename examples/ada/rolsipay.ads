@@ -7,10 +7,10 @@ with System;
 package Rolsipay is
 
    --  The version of this binding. The library carries none: take both from one dist/.
-   Version : constant := 10_400;
+   Version : constant := 10_500;
 
    --  The most stack that a call takes, in bytes: Read; Release, Report and Finish, each.
-   Stack_Read : constant := 83_968;
+   Stack_Read : constant := 86_016;
    Stack_Call : constant := 14_336;
 
    Max_Text      : constant := 65_536;
@@ -22,7 +22,7 @@ package Rolsipay is
    Max_Cost      : constant := 1_048_576;
    Max_Time      : constant := 1_099_511_627_776;
 
-   --  The words of a reply.
+   --  The words of a reply. Resume is said by an end, and in edition 2 by a report.
    Refused : constant := 0;
    Go      : constant := 1;
    Suspend : constant := 2;
@@ -63,11 +63,11 @@ package Rolsipay is
    type Leaves is array (Natural range <>) of aliased Leaf with Convention => C;
 
    type Head_Record is record
-      Deadline, Switching, Total, Max_Load_Total : Unsigned_64 := 0;
-      Leaves, Functions                          : Interfaces.C.size_t := 0;
-      Bounds                                     : Numbers (0 .. Max_Functions) := (others => 0);
-      Totals, Max_Load_Totals                    : Numbers (1 .. Max_Functions) := (others => 0);
-   end record with Convention => C, Size => 440 * 8;
+      Deadline, Switching, Edition, Resuming, Total, Max_Load_Total : Unsigned_64 := 0;
+      Leaves, Functions                                             : Interfaces.C.size_t := 0;
+      Bounds                                                        : Numbers (0 .. Max_Functions) := (others => 0);
+      Totals, Max_Load_Totals                                       : Numbers (1 .. Max_Functions) := (others => 0);
+   end record with Convention => C, Size => 456 * 8;
 
    --  A fresh state is all zeros.
    type State_Record is record

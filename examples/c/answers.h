@@ -33,12 +33,13 @@ static rolsipay_reply end(uint64_t reading)
     return rolsipay_end(row, ROLSIPAY_LEAVES, &head, &state, reading);
 }
 
-/* Prints an answer as one line: the word, remaining and margin, then 1 if late, else 0; for the end the word and the late mark; or `refused` and the number. */
+/* Prints an answer as one line: the word, remaining and margin, then 1 if late, else 0; for the end the word and the late mark; or `refused` and the number. A
+ * report's remaining is 1 at least, and an end's 0. */
 static void print(rolsipay_reply reply)
 {
     if (reply.word == ROLSIPAY_REFUSED)
         printf("refused %" PRIu64 "\n", reply.number);
-    else if (reply.word == ROLSIPAY_RESUME || reply.word == ROLSIPAY_ENDED)
+    else if (reply.word == ROLSIPAY_ENDED || (reply.word == ROLSIPAY_RESUME && reply.remaining == 0))
         printf("%s %" PRIu64 "\n", words[reply.word], reply.late);
     else
         printf("%s %" PRIu64 " %" PRId64 " %" PRIu64 "\n", words[reply.word], reply.remaining, reply.margin, reply.late);

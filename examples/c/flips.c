@@ -99,7 +99,7 @@ static void flip_limits(const char *name, next_call *call)
 static void flip_all(const char *name, next_call *call)
 {
     flip_limits(name, call);
-    flip("the rest of head", &head.total, sizeof head - offsetof(rolsipay_head, total), call);
+    flip("the rest of head", &head.edition, sizeof head - offsetof(rolsipay_head, edition), call);
     flip("row", row, head.leaves * sizeof *row, call);
     FLIP(state.running, call);
     FLIP(state.suspended, call);

@@ -1,5 +1,5 @@
-/* Plays the runs that docs/GUIDE.md shows beside the marked cases: plan A in time, shared to the end and late, the smallest plan, plan B, and the four traps.
- * It is run at the top of the repository. Each run has a line with its name, then one line an answer. */
+/* Plays the runs that docs/GUIDE.md shows beside the marked cases: plan A in time, shared to the end and late, plan A with a cost of resuming, U, the smallest
+ * plan, plan B, and the four traps. It is run at the top of the repository. Each run has a line with its name, then one line an answer. */
 #include "answers.h"
 
 #include <string.h>
@@ -28,6 +28,10 @@ static const struct run runs[] = {
     {"plan A, time won back", "examples/plan-a.plan", {R(0, 0), R(1, 9), R(1, 33), R(1, 57), R(1, 60), E(62)}},
     {"plan A, shared to the end", "examples/plan-a.plan", {R(0, 0), R(1, 4), R(1, 28), R(1, 52), R(1, 76), E(88)}},
     {"plan A, late", "examples/plan-a.plan", {R(0, 0), R(1, 100), R(1, 101), E(102)}},
+    {"plan A with U, one return", "examples/plan-a-2.plan", {R(0, 0), R(1, 9), R(1, 33), R(1, 57), R(1, 73), E(88)}},
+    {"plan A with U, two returns", "examples/plan-a-2.plan", {R(0, 0), R(1, 29), R(1, 35), R(1, 62), R(1, 78), E(93)}},
+    {"plan A with U, visit 4 at 85", "examples/plan-a-2.plan", {R(0, 0), R(1, 9), R(1, 33), R(1, 57), R(1, 85), E(100)}},
+    {"plan A with U, visit 4 at 86", "examples/plan-a-2.plan", {R(0, 0), R(1, 9), R(1, 33), R(1, 57), R(1, 86), E(94)}},
     {"plan B, else part", "examples/plan-b.plan", {R(1, 0), R(4, 13), R(0, 15), E(19)}},
     {"plan B, then part", "examples/plan-b.plan", {R(1, 0), R(0, 3), R(2, 3), R(0, 5), R(4, 9), R(0, 11), E(15)}},
     {"trap 1", "examples/traps/1-two-paths.plan", {R(0, 0), R(3, 12), E(42)}},

@@ -1,5 +1,5 @@
 /* Reads the plan in the file that it is given and plays the marked cases m1 to m5 of plan A, m5 as document 02 has it, each from a fresh state, one line an
- * answer. */
+ * answer. The file may have plan A with a third number in its task line too. */
 #include "answers.h"
 
 #include <string.h>
@@ -37,7 +37,10 @@ int main(int argc, char **argv)
         printf("refused %" PRIu64 " %" PRIu64 "\n", ruling.number, ruling.line);
         return 1;
     }
-    printf("task %" PRIu64 " %" PRIu64 " %" PRIu64 " %" PRIu64 "\n", head.total, head.max_load_total, head.deadline, head.switching);
+    printf("task %" PRIu64 " %" PRIu64 " %" PRIu64 " %" PRIu64, head.total, head.max_load_total, head.deadline, head.switching);
+    if (head.edition == 2)
+        printf(" %" PRIu64, head.resuming);
+    printf("\n");
     PLAY("m1 m4 m5", m1_m4_m5);
     PLAY("m2", m2_goes);
     PLAY("m2", m2_suspends);

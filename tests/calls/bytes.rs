@@ -7,6 +7,7 @@ use lent::state::{State, RUNNING, STATE, SUSPENDED};
 use lent::tally::{Met, Tally};
 use reference::calls::Answer;
 use reference::composed::Composed;
+use reference::edition::{editions, Edition};
 use reference::gen::{self, Random};
 use reference::plan::{Form, Kind, Plan, MOST_LEAVES};
 use reference::records::RECORD;
@@ -83,8 +84,8 @@ fn change_some(random: &mut Random, table: &mut Table, state: &mut State) {
 }
 
 /// Row, head and state at random, on their own and together with good ones.
-fn random_bytes(tally: &mut Tally, random: &mut Random) {
-    let plan = gen::small_plan(random);
+fn random_bytes(tally: &mut Tally, random: &mut Random, edition: Edition) {
+    let plan = gen::small_plan(random, edition);
     let composed = Composed::new(&plan);
     let good = (table::table(&composed), some_state(random, &composed));
     let any = (any_table(random), any_state(random));
@@ -112,8 +113,8 @@ fn random_bytes(tally: &mut Tally, random: &mut Random) {
 }
 
 /// Good ones with one to three bytes changed, in a row with more behind.
-fn changed_bytes(tally: &mut Tally, random: &mut Random) {
-    let plan = gen::small_plan(random);
+fn changed_bytes(tally: &mut Tally, random: &mut Random, edition: Edition) {
+    let plan = gen::small_plan(random, edition);
     let composed = Composed::new(&plan);
     let mut table = table::table(&composed);
     let more = random.pick(&[0, 0, 1, 5]);
@@ -140,8 +141,8 @@ fn changed_bytes(tally: &mut Tally, random: &mut Random) {
 
 /// Any number but 0 says yes: a refused call leaves it as it was, an accepted one
 /// makes it 1, or 0 where it says no afterwards.
-fn other_yes(tally: &mut Tally, random: &mut Random) {
-    let plan = gen::small_plan(random);
+fn other_yes(tally: &mut Tally, random: &mut Random, edition: Edition) {
+    let plan = gen::small_plan(random, edition);
     let composed = Composed::new(&plan);
     let table = table::table(&composed);
     let state = some_state(random, &composed);
@@ -176,6 +177,7 @@ fn longest_rows(tally: &mut Tally) {
         let plan = Plan {
             deadline: 5_000,
             switch: 1,
+            resume: None,
             functions: vec![(0..leaves).map(form).collect()],
         };
         let table = table::table(&Composed::new(&plan));
@@ -195,12 +197,12 @@ pub fn compare_all(tally: &mut Tally) {
     let mut random = Random::new(94);
     tally.met = Met::default();
     longest_rows(tally);
-    for _ in 0..1_000 {
-        random_bytes(tally, &mut random);
-        changed_bytes(tally, &mut random);
+    for edition in editions(1_000) {
+        random_bytes(tally, &mut random, edition);
+        changed_bytes(tally, &mut random, edition);
     }
-    for _ in 0..100 {
-        other_yes(tally, &mut random);
+    for edition in editions(100) {
+        other_yes(tally, &mut random, edition);
     }
     let met = &tally.met;
     let refused = &met.refusals[11..];
@@ -208,6 +210,7 @@ pub fn compare_all(tally: &mut Tally) {
         "  any bytes: {} calls, refused by 11 to 17: {refused:?}",
         met.calls
     );
-    let enough = met.refusals[11] >= 10_000 && met.words.iter().all(|&count| count >= 100);
+    let enough =
+        met.refusals[11] >= 10_000 && met.words(Edition::Second).iter().all(|&count| count >= 100);
     tally.holds(enough, || "any bytes, refused and accepted".to_string());
 }

@@ -7,6 +7,7 @@ use lent::places::{self, Standings};
 use lent::state::{Frame, State, EARLIER, LEAVES, LEVEL, RUNNING, STATE, SUSPENDED};
 use lent::tally::Tally;
 use reference::composed::Composed;
+use reference::edition::{editions, Edition};
 use reference::gen::{self, Random};
 use reference::listed::Listed;
 use reference::numbers::Numbers;
@@ -78,11 +79,10 @@ fn every_number_of_state(tally: &mut Tally, random: &mut Random, small: &Small) 
     }
 }
 
-fn states(tally: &mut Tally) {
-    let mut random = Random::new(86);
+fn states_of(tally: &mut Tally, random: &mut Random, edition: Edition) {
     let (mut plans, mut standings) = (0, 0);
-    while plans < 250 {
-        let plan = gen::small_plan(&mut random);
+    while plans < edition.share(250) {
+        let plan = gen::small_plan(random, edition);
         let Some(small) = Small::new(&plan) else {
             continue;
         };
@@ -92,10 +92,16 @@ fn states(tally: &mut Tally) {
             format!("two histories that lead to one place differ: {plan:?}")
         });
         for _ in 0..2 {
-            every_number_of_state(tally, &mut random, &small);
+            every_number_of_state(tally, random, &small);
         }
     }
-    println!("  {plans} plans with {standings} places to stand at");
+    println!("  {edition}: {plans} plans with {standings} places to stand at");
+}
+
+fn states(tally: &mut Tally) {
+    for edition in Edition::BOTH {
+        states_of(tally, &mut Random::new(86), edition);
+    }
 }
 
 /// Any stack, its leaves and counts small numbers.
@@ -127,11 +133,10 @@ fn near_stack(random: &mut Random, leaves: u64, mut stack: Vec<Frame>) -> Vec<Fr
 
 /// Good stacks, near ones and any. The times of a stack at which no run stands are
 /// worked out as those of a good one, so that they do not tell.
-fn stacks(tally: &mut Tally) {
-    let mut random = Random::new(87);
+fn stacks_of(tally: &mut Tally, random: &mut Random, edition: Edition) {
     let mut plans = 0;
-    while plans < 300 {
-        let plan = gen::small_plan(&mut random);
+    while plans < edition.share(300) {
+        let plan = gen::small_plan(random, edition);
         let Some(small) = Small::new(&plan) else {
             continue;
         };
@@ -140,45 +145,57 @@ fn stacks(tally: &mut Tally) {
         let pairs = (0..=leaves).flat_map(|leaf| (0..5).map(move |earlier| (leaf, earlier)));
         let mut all: Vec<Vec<Frame>> = pairs.map(|frame| vec![frame]).collect();
         for _ in 0..100 {
-            all.push(any_stack(&mut random, leaves));
-            let good = small.standings.state(&mut random, &small.listed);
+            all.push(any_stack(random, leaves));
+            let good = small.standings.state(random, &small.listed);
             let stack = good.stack().unwrap_or_default();
             let times = places::times_along(&small.composed, &stack);
             tally.holds(times[..] == *good.times(), || {
                 format!("times along {stack:?} in {plan:?}")
             });
-            all.push(near_stack(&mut random, leaves, stack.clone()));
+            all.push(near_stack(random, leaves, stack.clone()));
             all.push(stack);
         }
         for stack in all.iter().filter(|stack| stack.len() <= 32) {
             let state = State::standing(stack, &places::times_along(&small.composed, stack));
-            small.calls(tally, &mut random, "a stack where no times tell", &state);
+            small.calls(tally, random, "a stack where no times tell", &state);
         }
     }
 }
 
-/// Large plans at any of their places: counts up to the bounds, levels up to 32.
-fn large_states(tally: &mut Tally) {
-    let mut random = Random::new(88);
-    let mut plans: Vec<Plan> = deep::plans().into_iter().map(|(_, plan)| plan).collect();
-    for _ in 0..40 {
-        plans.push(gen::large_plan(&mut random));
+fn stacks(tally: &mut Tally) {
+    for edition in Edition::BOTH {
+        stacks_of(tally, &mut Random::new(87), edition);
     }
-    for plan in &plans {
-        let composed = Composed::new(plan);
-        let table = table::table(&composed);
-        for _ in 0..100 {
-            let mut state = some_state(&mut random, &composed);
-            let call = fitting_call(&mut random, &composed, &state);
-            let wanted = law::on_plan(&composed, &state, call);
-            tally.call("a place of a large plan", &table, &state, call, &wanted);
-            let level = state.0[LEVEL] as usize;
-            let up = random.index(level + 2);
-            let any = random.index(STATE);
-            let at = random.pick(&[LEVEL, LEAVES + up, EARLIER + up, any]);
-            state.0[at] = random.other(state.0[at]);
-            let wanted = law::on_plan(&composed, &state, call);
-            tally.call("a large plan, state changed", &table, &state, call, &wanted);
+}
+
+/// Any of the places of a large plan: counts up to the bounds, levels up to 32.
+fn places_of(tally: &mut Tally, random: &mut Random, plan: &Plan) {
+    let composed = Composed::new(plan);
+    let table = table::table(&composed);
+    for _ in 0..100 {
+        let mut state = some_state(random, &composed);
+        let call = fitting_call(random, &composed, &state);
+        let wanted = law::on_plan(&composed, &state, call);
+        tally.call("a place of a large plan", &table, &state, call, &wanted);
+        let level = state.0[LEVEL] as usize;
+        let up = random.index(level + 2);
+        let any = random.index(STATE);
+        let at = random.pick(&[LEVEL, LEAVES + up, EARLIER + up, any]);
+        state.0[at] = random.other(state.0[at]);
+        let wanted = law::on_plan(&composed, &state, call);
+        tally.call("a large plan, state changed", &table, &state, call, &wanted);
+    }
+}
+
+fn large_states(tally: &mut Tally) {
+    for edition in Edition::BOTH {
+        let mut random = Random::new(88);
+        let mut plans = deep::of_edition(edition);
+        for _ in 0..edition.share(40) {
+            plans.push(gen::large_plan(&mut random, edition));
+        }
+        for plan in &plans {
+            places_of(tally, &mut random, plan);
         }
     }
 }
@@ -186,8 +203,8 @@ fn large_states(tally: &mut Tally) {
 /// Idle states are not judged, whatever else they hold.
 fn idle_states(tally: &mut Tally) {
     let mut random = Random::new(89);
-    for _ in 0..3_000 {
-        let plan = gen::small_plan(&mut random);
+    for edition in editions(3_000) {
+        let plan = gen::small_plan(&mut random, edition);
         let composed = Composed::new(&plan);
         let table = table::table(&composed);
         let mut state = places::some_state(&mut random, &composed);
@@ -238,6 +255,15 @@ fn change_leaf(random: &mut Random, forms: &mut [Form]) {
     }
 }
 
+/// An edition 1 plan in edition 2 with a U of 0, one with that U in edition 1, and any
+/// other with a U of one less.
+fn next_edition(plan: &Plan) -> Plan {
+    Plan {
+        resume: plan.resume.map_or(Some(0), |cost| cost.checked_sub(1)),
+        ..plan.clone()
+    }
+}
+
 /// A plan much like another: one leaf changed, or the deadline, or the switch.
 fn near_plan(random: &mut Random, plan: &Plan) -> Plan {
     let mut near = plan.clone();
@@ -255,17 +281,18 @@ fn near_plan(random: &mut Random, plan: &Plan) -> Plan {
 /// States that a history reached, moved to the table of another plan.
 fn moved_states(tally: &mut Tally) {
     let mut random = Random::new(90);
-    for _ in 0..3_000 {
-        let plan = gen::small_plan(&mut random);
+    for edition in editions(3_000) {
+        let plan = gen::small_plan(&mut random, edition);
         let composed = Composed::new(&plan);
         let reports = random.index(12);
         let state = reached(&mut random, &composed, reports);
         if !state.is_running() {
             continue;
         }
-        for roll in 0..6 {
+        for roll in 0..7 {
             let moved = match roll {
-                0 => gen::small_plan(&mut random),
+                0 => gen::small_plan(&mut random, edition),
+                1 => next_edition(&plan),
                 _ => near_plan(&mut random, &plan),
             };
             if plan::read(&plan::text(&moved), 512).is_err() {

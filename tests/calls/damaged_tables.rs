@@ -6,6 +6,7 @@ use lent::law;
 use reference::calls::Answer;
 use reference::composed::Composed;
 use reference::costless::{self, Costless};
+use reference::edition::editions;
 use reference::gen::{self, Random};
 use reference::plan::Plan;
 use reference::table;
@@ -44,8 +45,8 @@ fn every_number_of_table(tally: &mut Tally, random: &mut Random, plan: &Plan) {
 
 fn tables(tally: &mut Tally) {
     let mut random = Random::new(84);
-    for _ in 0..80 {
-        let plan = gen::small_plan(&mut random);
+    for edition in editions(80) {
+        let plan = gen::small_plan(&mut random, edition);
         every_number_of_table(tally, &mut random, &plan);
     }
     for (name, plan) in deep::plans() {
@@ -65,8 +66,8 @@ fn tables(tally: &mut Tally) {
 /// Rows cut off: the table is that of no plan any more.
 fn shorter_rows(tally: &mut Tally) {
     let mut random = Random::new(85);
-    for _ in 0..800 {
-        let plan = gen::small_plan(&mut random);
+    for edition in editions(800) {
+        let plan = gen::small_plan(&mut random, edition);
         let composed = Composed::new(&plan);
         let table = table::table(&composed);
         let records = table.row.len();

@@ -2,6 +2,7 @@
 
 use reference::aimed::{many, nest, task, words};
 use reference::composed::Composed;
+use reference::edition::Edition;
 use reference::numbers::Numbers;
 use reference::plan::{self, Plan, MOST_LEAVES};
 
@@ -96,6 +97,16 @@ fn choices() -> Vec<String> {
         ")",
     ];
     words(&choice.repeat(168))
+}
+
+/// The plans in this edition.
+pub fn of_edition(edition: Edition) -> Vec<Plan> {
+    let resume = match edition {
+        Edition::First => None,
+        Edition::Second => Some(2),
+    };
+    let plans = plans().into_iter();
+    plans.map(|(_, plan)| Plan { resume, ..plan }).collect()
 }
 
 /// Each with its name.

@@ -7,11 +7,13 @@ use lent::state::{State, EARLIER, LEAVES, LEVEL, LEVELS, STATE, SUSPENDED};
 use lent::tally::{Met, Tally};
 use reference::calls::{Answer, Controller};
 use reference::composed::Composed;
+use reference::edition::Edition;
 use reference::finals::Finals;
 use reference::gen::{self, Random};
 use reference::listed::Listed;
 use reference::numbers::Numbers;
 use reference::plan::Plan;
+use reference::returns::Returns;
 use reference::table::{self, Table};
 use reference::visits::Visits;
 
@@ -23,19 +25,23 @@ const PLANS: usize = 8_100;
 const MOST_RUNS: usize = 500;
 const CALLS: usize = 40;
 
+/// Large plans of each edition.
+const LARGE: usize = 150;
+
 /// How readings are picked in a history: mostly small steps, mostly where
 /// decisions turn, or from everywhere.
 const STEADY: u64 = 0;
 const TURNING: u64 = 1;
 const WILD: u64 = 2;
 
-/// The highest level that was reported, the final decisions, and those at visits whose
-/// stretch is smaller than that of their point.
+/// The highest level that was reported, the final decisions, those at visits whose
+/// stretch is smaller than that of their point, and those while suspended.
 #[derive(Default)]
 struct Reached {
     highest: usize,
     finals: Finals,
     visits: Visits,
+    returns: Returns,
 }
 
 /// One history, with the reference's controller beside the state.
@@ -95,8 +101,8 @@ impl<'a, N: Numbers> History<'a, N> {
         }
     }
 
-    /// The last reading with which the next report of this point still goes on;
-    /// the deadline where it cannot come next.
+    /// The last reading with which the others run once this point is reported next, or
+    /// with which the margin of a stay is 0; the deadline where it cannot come next.
     fn turning(&self, point: u64) -> i128 {
         let deadline = i128::from(self.numbers.plan().deadline);
         self.controller.turning(point).unwrap_or(deadline)
@@ -174,6 +180,7 @@ impl<'a, N: Numbers> History<'a, N> {
                 self.reached.highest = self.reached.highest.max(level);
                 self.reached.finals.note(self.numbers, place, answer);
                 self.reached.visits.note(self.numbers, place, answer);
+                self.reached.returns.note(self.numbers, place, answer);
                 law::moved(self.numbers, &self.state, place)
                     .decided(self.controller.last_reading(), self.controller.suspended())
             }
@@ -239,11 +246,11 @@ impl<'a, N: Numbers> History<'a, N> {
 }
 
 /// Every number of these is read off the list of all runs.
-fn small_plans(tally: &mut Tally) -> Reached {
+fn small_plans(tally: &mut Tally, edition: Edition) -> Reached {
     let mut random = Random::new(82);
     let (mut plans, mut reached) = (0, Reached::default());
-    while plans < PLANS {
-        let plan = gen::small_plan(&mut random);
+    while plans < edition.share(PLANS) {
+        let plan = gen::small_plan(&mut random, edition);
         let Some(listed) = Listed::new(&plan, MOST_RUNS) else {
             continue;
         };
@@ -259,14 +266,14 @@ fn small_plans(tally: &mut Tally) -> Reached {
 }
 
 /// Those at the caps are gone through upwards, and once more like the others.
-fn large_plans(tally: &mut Tally) -> Reached {
+fn large_plans(tally: &mut Tally, edition: Edition) -> Reached {
     let mut random = Random::new(83);
     let mut plans: Vec<(Plan, bool)> = Vec::new();
-    for (_, plan) in deep::plans() {
+    for plan in deep::of_edition(edition) {
         plans.extend([(plan.clone(), true), (plan, false)]);
     }
-    for _ in 0..150 {
-        plans.push((gen::large_plan(&mut random), false));
+    for _ in 0..LARGE {
+        plans.push((gen::large_plan(&mut random, edition), false));
     }
     let mut reached = Reached::default();
     for (plan, upward) in &plans {
@@ -282,49 +289,72 @@ fn large_plans(tally: &mut Tally) -> Reached {
 }
 
 /// An answer that no call was to give would be one that was not compared.
-fn all_met(tally: &mut Tally) {
-    let met = &tally.met;
-    println!("  {} calls, words {:?}", met.calls, met.words);
+fn all_met(tally: &mut Tally, edition: Edition) {
+    let (met, least) = (&tally.met, edition.share(1_000));
+    let words = met.words(edition);
+    println!("  {edition}: {} calls, words {words:?}", met.calls);
     println!("  refused by 11 to 17: {:?}", &met.refusals[11..]);
     println!(
         "  late {}, margins held {}, 0 and -1: {:?}",
         met.late, met.held, met.edges
     );
-    let often = met.words.iter().chain(&met.refusals[11..]);
+    let often = words.iter().chain(&met.refusals[11..]);
     let often = often.chain(&met.edges).chain([&met.late, &met.held]);
-    let enough = often.into_iter().all(|&count| count >= 1_000);
-    tally.holds(enough, || "each answer is met a thousand times".to_string());
+    let enough = often.into_iter().all(|&count| count >= least);
+    tally.holds(enough, || format!("each answer is met {least} times"));
+}
+
+fn on_small_plans(tally: &mut Tally, edition: Edition) {
+    let Reached {
+        highest,
+        finals,
+        visits,
+        returns,
+    } = small_plans(tally, edition);
+    let calls = tally.met.calls;
+    println!("  {edition}: {calls} calls on listed plans, levels up to {highest}");
+    println!("  final decisions: {finals}");
+    println!("  visits with a smaller stretch than their point: {visits}");
+    println!("  while suspended: {returns}");
+    let enough = calls >= edition.share(200_000);
+    tally.holds(enough && highest >= 5, || {
+        "enough calls on listed plans, and points at level 5".to_string()
+    });
+    tally.holds(finals.met(edition, edition.share(500)), || {
+        "final decisions of every kind".to_string()
+    });
+    tally.holds(visits.met(edition, edition.share(40)), || {
+        "visits with a smaller stretch of every kind".to_string()
+    });
+    let twice = edition == Edition::First || returns.twice(100, 20);
+    let several = returns.met(edition, 100) && twice;
+    tally.holds(several, || "returns of every kind".to_string());
+}
+
+fn on_large_plans(tally: &mut Tally, edition: Edition) {
+    let Reached {
+        highest,
+        finals,
+        visits,
+        returns,
+    } = large_plans(tally, edition);
+    println!("  final decisions on large plans: {finals}");
+    println!("  visits with a smaller stretch there: {visits}");
+    println!("  while suspended there: {returns}");
+    tally.holds(highest == 32 && finals.answered(edition, 5), || {
+        "points at level 32, and final decisions".to_string()
+    });
+    let several = returns.answered(5) && returns.twice(20, 100);
+    tally.holds(edition == Edition::First || several, || {
+        "returns on large plans".to_string()
+    });
 }
 
 pub fn compare_all(tally: &mut Tally) {
-    tally.met = Met::default();
-    let Reached {
-        highest,
-        finals,
-        visits,
-    } = small_plans(tally);
-    let calls = tally.met.calls;
-    println!("  {calls} calls on listed plans, levels up to {highest}");
-    println!("  final decisions: {finals}");
-    println!("  visits with a smaller stretch than their point: {visits}");
-    tally.holds(calls >= 200_000 && highest >= 5, || {
-        "enough calls on listed plans, and points at level 5".to_string()
-    });
-    tally.holds(finals.met(500), || {
-        "final decisions of every kind".to_string()
-    });
-    tally.holds(visits.met(40), || {
-        "visits with a smaller stretch of every kind".to_string()
-    });
-    let Reached {
-        highest,
-        finals,
-        visits,
-    } = large_plans(tally);
-    println!("  final decisions on large plans: {finals}");
-    println!("  visits with a smaller stretch there: {visits}");
-    tally.holds(highest == 32 && finals.answered(5), || {
-        "points at level 32, and final decisions".to_string()
-    });
-    all_met(tally);
+    for edition in Edition::BOTH {
+        tally.met = Met::default();
+        on_small_plans(tally, edition);
+        on_large_plans(tally, edition);
+        all_met(tally, edition);
+    }
 }

@@ -161,6 +161,21 @@ fn at_caps(tally: &mut Tally) {
     play(tally, "no costs", &text, None, &lines);
 }
 
+/// The same in edition 2, with U at its caps: no point comes, so that nobody comes back
+/// before the end, and U comes off no margin.
+fn second_edition(tally: &mut Tally) {
+    for resume in [0, 1, MOST_COST] {
+        let line = format!("(task 10 3 {resume}\n");
+        let with = |loaded: u64| text(10, 3, 7, loaded).replacen("(task 10 3\n", &line, 1);
+        let lines = between("release -> go 7 1 0", "end 10 -> ended 0");
+        play(tally, "edition 2", &with(9), None, &lines);
+        let lines = between("release -> suspend 7 -10 0", "end 10 -> resume 0");
+        play(tally, "edition 2, 20 under load", &with(20), None, &lines);
+    }
+    let beyond = text(10, 3, 7, 9).replacen(" 3\n", " 3 1048577\n", 1);
+    play(tally, "beyond a cap", &beyond, Some((3, 1)), &[]);
+}
+
 /// Costs, switch cost and deadline one above their caps, and no deadline.
 fn beyond_caps(tally: &mut Tally) {
     let (cost, most) = (MOST_COST, MOST_DEADLINE);
@@ -180,5 +195,6 @@ pub fn compare_all(tally: &mut Tally) {
     marked(tally);
     dear_under_load(tally);
     at_caps(tally);
+    second_edition(tally);
     beyond_caps(tally);
 }

@@ -36,7 +36,7 @@ pub fn calls_on(tally: &mut Tally, name: &str, table: &Table, lines: &[&str]) ->
         let (words, wanted) = line.split_once(" -> ").expect("a call and its answer");
         let call = call_of(words);
         let mut after = state.clone();
-        let found = made(table, &mut after, call).and_then(|reply| reply.answer());
+        let found = made(table, &mut after, call).and_then(|reply| reply.answer(call));
         let right = found.is_some_and(|answer| answer.line() == wanted);
         tally.holds(right, || {
             format!("{name}: {words} gives {found:?}, wanted {wanted}")

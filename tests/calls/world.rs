@@ -11,6 +11,7 @@ use reference::finals::Finals;
 use reference::gen::Random;
 use reference::numbers::Numbers;
 use reference::plan::{text, Form, Kind, Plan};
+use reference::returns::Returns;
 use reference::table::Table;
 use reference::visits::Visits;
 
@@ -33,6 +34,7 @@ pub struct Met {
     pub broken_off: usize,
     pub finals: Finals,
     pub visits: Visits,
+    pub returns: Returns,
 }
 
 impl Met {
@@ -49,15 +51,16 @@ impl Met {
             "    visits with a smaller stretch than their point: {}",
             self.visits
         );
+        println!("    while suspended: {}", self.returns);
     }
 }
 
 /// A release that is open, as the rules see it: where the run stands, the last
-/// accepted reading, and whether the condition held at every decision.
+/// accepted reading, and whether the others may run.
 struct Open {
     place: Place,
     reading: u64,
-    held: bool,
+    may_run: bool,
 }
 
 pub struct World<'a> {
@@ -134,47 +137,61 @@ impl<'a> World<'a> {
     /// The answer to a call on the state that the last call left.
     fn answer(&mut self, call: Call) -> Option<Answer> {
         self.met.calls += 1;
-        made(self.table, &mut self.state, call)?.answer()
+        made(self.table, &mut self.state, call)?.answer(call)
+    }
+
+    /// Whether the others may run since the latest decision, or as no release is open.
+    fn others_may_run(&self) -> bool {
+        self.open.as_ref().is_none_or(|open| open.may_run)
     }
 
     /// Claimed after each call.
     fn others_right(&mut self, call: Call) -> Result<(), Stopped> {
-        let held = self.open.as_ref().is_none_or(|open| open.held);
-        let others = self.others;
-        self.holds(others == held, || {
-            format!("others {others} after {call:?}, condition {held}")
+        let (others, may_run) = (self.others, self.others_may_run());
+        self.holds(others == may_run, || {
+            format!("others {others} after {call:?}, by the rules {may_run}")
         })
+    }
+
+    /// Whether the others may run once a decision at this place with the clock as its
+    /// reading is made. In an edition 1 plan the condition must hold there and at every
+    /// decision before; in one of edition 2 (02, L7) there alone, if they run before it, and
+    /// the rule of return if they are suspended.
+    fn may_run(&self, place: &Place) -> bool {
+        let needed = self.clock + self.composed.needed(place);
+        match self.plan.resume {
+            None => self.others_may_run() && needed <= self.plan.deadline,
+            Some(_) if self.others => needed <= self.plan.deadline,
+            Some(cost) => needed + cost <= self.plan.deadline,
+        }
     }
 
     /// A call of the timed run that is to be decided at this place.
     fn decide(&mut self, call: Call, place: Place) -> Result<(), Stopped> {
-        let reading = self.clock;
-        let Plan {
-            deadline, switch, ..
-        } = *self.plan;
+        let (reading, may_run) = (self.clock, self.may_run(&place));
         let answer = self.answer(call);
         let Some(decision @ Answer::Decision { word, late, .. }) = answer else {
             return self.holds(false, || format!("{answer:?} for {call:?}"));
         };
-        self.holds(reading <= deadline && !late, || {
+        self.holds(reading <= self.plan.deadline && !late, || {
             format!("{answer:?} for {call:?}")
         })?;
         self.met.finals.note(self.composed, &place, decision);
         self.met.visits.note(self.composed, &place, decision);
-        let needed = self.composed.needed(&place);
-        let held = self.open.as_ref().is_none_or(|open| open.held);
-        if word == Word::Suspend {
-            self.others = false;
-            self.clock += self.ticks(switch);
-            match place.is_empty() {
-                true => self.met.at_release += 1,
-                false => self.met.at_report += 1,
-            }
+        self.met.returns.note(self.composed, &place, decision);
+        self.others = word.others_after(self.others);
+        match place.is_empty() {
+            _ if word != Word::Suspend => {}
+            true => self.met.at_release += 1,
+            false => self.met.at_report += 1,
+        }
+        if matches!(word, Word::Suspend | Word::Resume) {
+            self.clock += self.ticks(word.switching(self.plan));
         }
         self.open = Some(Open {
             place,
             reading,
-            held: held && needed + reading <= deadline,
+            may_run,
         });
         self.others_right(call)
     }
@@ -244,9 +261,7 @@ impl<'a> World<'a> {
         self.holds(self.clock <= self.plan.deadline && !late, || {
             format!("{answer:?} for {call:?}")
         })?;
-        if word == Word::Resume {
-            self.others = true;
-        }
+        self.others = word.others_after(self.others);
         self.others_right(call)
     }
 

@@ -17,7 +17,7 @@ const OFTEN: usize = 40;
 fn ready(plan: &Plan, play: &mut dyn FnMut(&mut Calls)) {
     let table = table::table(&Composed::new(plan));
     let mut state = State::fresh();
-    play(&mut |call| made(&table, &mut state, call)?.answer());
+    play(&mut |call| made(&table, &mut state, call)?.answer(call));
 }
 
 pub fn compare_all(tally: &mut Tally) {

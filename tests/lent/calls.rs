@@ -43,21 +43,25 @@ impl Reply {
         }
     }
 
-    /// What the reply says; None where it says nothing that a call answers.
-    pub fn answer(&self) -> Option<Answer> {
+    /// What the reply to this call says; None where it says nothing that such a call
+    /// answers.
+    pub fn answer(&self, call: Call) -> Option<Answer> {
         let late = self.late == 1;
-        let answer = match self.word {
-            0 => Answer::Refused(u32::try_from(self.number).ok()?),
-            word @ 1..=3 => Answer::Decision {
-                word: WORDS[word as usize - 1],
-                remaining: self.remaining,
-                margin: self.margin,
+        let at = (self.word as usize).checked_sub(1);
+        let answer = match (at, call) {
+            (None, _) => Answer::Refused(u32::try_from(self.number).ok()?),
+            (Some(at @ 3..=4), Call::End(_)) => Answer::End {
+                word: WORDS[at],
                 late,
             },
-            word @ 4..=5 => Answer::End {
-                word: WORDS[word as usize - 1],
-                late,
-            },
+            (Some(at @ 0..=1), Call::Release) | (Some(at @ 0..=3), Call::Report(..)) => {
+                Answer::Decision {
+                    word: WORDS[at],
+                    remaining: self.remaining,
+                    margin: self.margin,
+                    late,
+                }
+            }
             _ => return None,
         };
         (Reply::of(answer) == *self).then_some(answer)

@@ -40,15 +40,12 @@ fn decided<N: Numbers>(
     reading: u64,
     suspended: bool,
 ) -> Outcome {
-    let deadline = numbers.plan().deadline;
+    let plan = numbers.plan();
     let remaining = numbers.remaining(place);
-    let margin = margin(deadline, reading, numbers.needed(place));
-    let word = match (suspended, margin >= 0) {
-        (true, _) => Word::Stay,
-        (false, true) => Word::Go,
-        (false, false) => Word::Suspend,
-    };
-    let late = reading > deadline;
+    let needed = numbers.needed(place) + plan.cost_of_return(suspended);
+    let margin = margin(plan.deadline, reading, needed);
+    let word = Word::of(plan, suspended, margin);
+    let late = reading > plan.deadline;
     Outcome {
         answer: Answer::Decision {
             word,
@@ -56,7 +53,7 @@ fn decided<N: Numbers>(
             margin,
             late,
         },
-        state: moved(numbers, before, place).decided(reading, word != Word::Go),
+        state: moved(numbers, before, place).decided(reading, !word.others_run()),
     }
 }
 

@@ -3,6 +3,7 @@
 use reference::calls::{Answer, LEAST_MARGIN};
 use reference::composed::Composed;
 use reference::count::Count;
+use reference::edition::Edition;
 use reference::gen::Random;
 use reference::numbers::Numbers;
 use reference::plan::{self, Refusal};
@@ -19,8 +20,9 @@ use super::state::State;
 #[derive(Default)]
 pub struct Met {
     pub calls: usize,
-    /// By the number of the reply's word; the first is for refusals.
-    pub words: [usize; 6],
+    /// By the number of the reply's word; the first is for refusals, and resume at a report
+    /// stands last.
+    words: [usize; 7],
     pub refusals: [usize; 18],
     pub late: usize,
     /// Margins that were held, and those of 0 and -1.
@@ -29,9 +31,21 @@ pub struct Met {
 }
 
 impl Met {
+    /// How often refusals and each word of this edition were.
+    pub fn words(&self, edition: Edition) -> &[usize] {
+        match edition {
+            Edition::First => &self.words[..6],
+            Edition::Second => &self.words,
+        }
+    }
+
     fn note(&mut self, answer: Answer) {
         self.calls += 1;
-        self.words[Reply::of(answer).word as usize] += 1;
+        let kind = match answer.is_return() {
+            true => 6,
+            false => Reply::of(answer).word as usize,
+        };
+        self.words[kind] += 1;
         match answer {
             Answer::Refused(number) => self.refusals[number as usize] += 1,
             Answer::End { late, .. } => self.late += usize::from(late),

@@ -150,6 +150,7 @@ static void nested_row(uint64_t ifs, int otherwise)
 {
     memset(&head, 0, sizeof head);
     head.deadline = 1;
+    head.edition = 1;
     head.leaves = ROLSIPAY_LEAVES;
     head.functions = 1;
     head.bounds[1] = ROLSIPAY_LEAVES;
@@ -199,7 +200,8 @@ static void lost(const char *what)
         expect(ROLSIPAY_BROKEN, call, 0, what);
 }
 
-/* The state of the deepest place, first as it is, then changed so that no run stands there. */
+/* The state of the deepest place, first as it is, then changed so that no run stands there. In edition 2 the others are suspended before each report that is
+ * measured, and resume. */
 static void places(void)
 {
     write_called();
@@ -207,8 +209,11 @@ static void places(void)
     expect(0, RELEASE, 0, "called");
     for (uint64_t point = 31; point <= 62; point++)
         astray += answered(REPORT, point) != 0;
-    for (uint64_t point = 0; point < 31; point++)
+    for (uint64_t point = 0; point < 31; point++) {
+        state.suspended = head.edition == 2;
         expect(0, REPORT, point, "called");
+        astray += state.suspended != 0;
+    }
     expect(ROLSIPAY_BUSY, RELEASE, 0, "called");
     expect(ROLSIPAY_ASTRAY, REPORT, 31, "called");
     expect(ROLSIPAY_ASTRAY, END, 0, "called");
@@ -272,6 +277,10 @@ static void stacks(const size_t documented[CALLS])
     refused_lines();
     refused_texts();
     broken_tables();
+    places();
+    chain();
+    resume = " 3";
+    play(&DEEPEST, "deepest, edition 2");
     places();
     chain();
     for (int i = 0; i < CALLS; i++) {

@@ -4,6 +4,9 @@
 
 #include "measure.h"
 
+/* What stands behind T in a task line: nothing, or in edition 2 a space and U. */
+static const char *resume = "";
+
 /* Where the ifs of a nesting stand: around the loops, inside all loops but the last, or in turn with them. */
 enum order { AROUND, INSIDE, IN_TURN, ORDERS };
 
@@ -67,7 +70,7 @@ static char *write_forms(char *at, const struct nesting *nesting)
 /* Makes the text that of a nesting. */
 static void write_nesting(const struct nesting *nesting)
 {
-    char *at = text + sprintf(text, "(task 1099511627776 0\n%s(fun\n", nesting->before);
+    char *at = text + sprintf(text, "(task 1099511627776 0%s\n%s(fun\n", resume, nesting->before);
     at = write_forms(at, nesting);
     for (int i = 0; i < nesting->behind; i++)
         at += sprintf(at, "(leaf %c 1 1)\n", nesting->kind);
@@ -88,7 +91,7 @@ static char *write_function(char *at, int ifs, int loops, const char *line)
 /* The deepest place: main is a call in 31 nested ifs, and what it calls is 31 nested loops, so that a run stands at level 32 behind ifs at level 1. */
 static void write_called(void)
 {
-    char *at = text + sprintf(text, "(task 1099511627776 0\n");
+    char *at = text + sprintf(text, "(task 1099511627776 0%s\n", resume);
     at = write_function(at, 0, 31, "");
     at = write_function(at, 31, 0, "(call p 0 1 1)\n");
     bytes = (size_t)(at + sprintf(at, ")\n") - text);
@@ -97,7 +100,7 @@ static void write_called(void)
 /* The longest way back: 16 functions, each a call of the one before in 31 nested ifs, 512 leaves in all. */
 static void write_chain(void)
 {
-    char *at = text + sprintf(text, "(task 1099511627776 0\n");
+    char *at = text + sprintf(text, "(task 1099511627776 0%s\n", resume);
     char line[32] = "(leaf p 1 1)\n";
     for (int f = 0; f < ROLSIPAY_FUNCTIONS; f++) {
         at = write_function(at, 31, 0, line);

@@ -2,8 +2,8 @@
 //! told from its bytes alone.
 
 /// The columns of the fields: of the first and of the second line of a heading, and of
-/// a point's line.
-const TASK: &[usize] = &[14, 14, 14, 14];
+/// a point's line. The last one of the first line is that of U, and blank in edition 1.
+const TASK: &[usize] = &[14, 14, 14, 14, 14];
 const PAGE: &[usize] = &[14];
 const POINT: &[usize] = &[6, 4, 14, 14];
 
@@ -54,7 +54,12 @@ fn heading(page: &[&str], number: usize) -> Result<String, String> {
     if numbers(page[1], PAGE)? != number.to_string() || !blank(page[2]) {
         return Err(format!("page {number} has {:?} and {:?}", page[1], page[2]));
     }
-    numbers(page[0], TASK)
+    let edition_1 = &TASK[..TASK.len() - 1];
+    let fields = match blank(&page[0][edition_1.iter().sum()..]) {
+        true => edition_1,
+        false => TASK,
+    };
+    numbers(page[0], fields)
 }
 
 /// The listing that stands on a sheet. Behind the last point of it there are blank

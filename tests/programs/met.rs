@@ -16,12 +16,15 @@ use super::points::COUNTS;
 /// No total, and so no tail and no stretch, passes this.
 pub const MOST_TOTAL: u64 = rules::MOST_TOTAL as u64;
 
-/// The fields of a listing, and the largest number of each.
-const FIELDS: [(&str, u64); 8] = [
+/// The fields of a listing's first line, and those of all its lines with the largest
+/// number of each.
+const TASK: usize = 5;
+const FIELDS: [(&str, u64); TASK + 4] = [
     ("total", MOST_TOTAL),
     ("max-load total", MOST_TOTAL),
     ("D", MOST_DEADLINE),
     ("T", MOST_COST),
+    ("U", MOST_COST),
     ("point", MOST_LEAVES as u64 - 1),
     ("level", MOST_LEVEL as u64),
     ("tail", MOST_TOTAL),
@@ -50,9 +53,9 @@ impl Met {
         };
         let figures = figures(&Composed::new(&plan));
         self.points.insert(figures.points.len());
-        let (task, point) = self.largest.split_at_mut(4);
-        note_numbers(task, figures.task);
-        for numbers in figures.points {
+        let (task, point) = self.largest.split_at_mut(TASK);
+        note_numbers(task, &figures.task);
+        for numbers in &figures.points {
             note_numbers(point, numbers);
         }
     }
@@ -79,8 +82,8 @@ impl Met {
     }
 }
 
-fn note_numbers(fields: &mut [BTreeMap<usize, u64>], numbers: [u64; 4]) {
-    for (largest, number) in fields.iter_mut().zip(numbers) {
+fn note_numbers(fields: &mut [BTreeMap<usize, u64>], numbers: &[u64]) {
+    for (largest, &number) in fields.iter_mut().zip(numbers) {
         let known = largest.entry(digits(number)).or_default();
         *known = number.max(*known);
     }

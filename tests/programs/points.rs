@@ -37,6 +37,7 @@ fn mixed(random: &mut Random, mut points: usize) -> Vec<u8> {
     let mut plan = Plan {
         deadline: 1 + random.below(MOST_DEADLINE),
         switch: random.below(MOST_COST + 1),
+        resume: random.pick(&[None, Some(0), Some(MOST_COST)]),
         functions: vec![forms],
     };
     plan.renumber();

@@ -6,6 +6,7 @@ use std::path::Path;
 
 use reference::aimed;
 use reference::damage;
+use reference::edition::editions;
 use reference::gen::{self, Random};
 use reference::plan::{self, MOST_BYTES};
 
@@ -73,14 +74,14 @@ pub fn aimed(comparison: &mut Comparison) {
 
 pub fn random(comparison: &mut Comparison) {
     let mut random = Random::new(81);
-    for round in 0..400 {
+    for (round, edition) in editions(400).enumerate() {
         let shape = match round % 8 {
             0 => gen::large_shape(&mut random),
             _ => gen::small_shape(&mut random),
         };
-        let valid = plan::text(&gen::valid_plan(&mut random, shape));
+        let valid = plan::text(&gen::valid_plan(&mut random, shape, edition));
         comparison.text("a valid plan", &valid);
-        let loose = plan::text(&gen::loose_plan(&mut random, shape));
+        let loose = plan::text(&gen::loose_plan(&mut random, shape, edition));
         comparison.text("a plan that may break rules", &loose);
         let changed = damage::damaged(&mut random, &valid);
         comparison.text("a damaged text", &changed);

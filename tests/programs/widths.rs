@@ -15,9 +15,10 @@ fn edges(digits: u32) -> [u64; 2] {
     [next / 10, (next - 1).min(MOST_TOTAL)]
 }
 
-fn plan(deadline: u64, switch: u64, forms: &[String]) -> String {
+fn plan(deadline: u64, switch: u64, resume: Option<u64>, forms: &[String]) -> String {
     let forms = joined(forms);
-    format!("(task {deadline} {switch}\n(fun\n{forms})\n)\n")
+    let behind = resume.map_or(String::new(), |cost| format!(" {cost}"));
+    format!("(task {deadline} {switch}{behind}\n(fun\n{forms})\n)\n")
 }
 
 /// Silent forms that take this in all, by loops of leaves of most cost; `leaf` is a
@@ -51,7 +52,7 @@ fn of_totals(total: u64, max_load: u64) -> Vec<String> {
 }
 
 /// Each width of a total beside each width of a max-load total, which is no smaller;
-/// D and T go through theirs.
+/// D, T and U go through theirs, in both editions.
 fn totals(comparison: &mut Comparison) {
     for narrow in 1..=WIDEST {
         for wide in narrow..=WIDEST {
@@ -59,9 +60,12 @@ fn totals(comparison: &mut Comparison) {
                 let forms = of_totals(edges(narrow)[edge], edges(wide)[edge]);
                 let deadline = edges(1 + (narrow + wide) % WIDEST)[edge];
                 let switch = edges(1 + (narrow + wide) % 7)[edge].min(MOST_COST);
-                let text = plan(deadline, switch, &forms);
+                let resume = edges(1 + narrow % 7)[edge].min(MOST_COST);
                 let group = format!("totals of {narrow} and {wide} digits");
-                comparison.text(&group, text.as_bytes());
+                for resume in [None, Some(resume)] {
+                    let text = plan(deadline, switch, resume, &forms);
+                    comparison.text(&group, text.as_bytes());
+                }
             }
         }
     }
@@ -73,8 +77,11 @@ fn levels(comparison: &mut Comparison) {
     let inner = MOST_LEVEL - 1;
     let loops = nest(&["(loop p 1 1 1"], inner, &["(leaf p 1 1)"], &[")"]);
     let behind = steady(MOST_TOTAL - 1 - 2 * inner as u64);
-    let text = plan(MOST_TOTAL, MOST_COST, &[loops, behind].concat());
-    comparison.text("a point of each level", text.as_bytes());
+    let forms = [loops, behind].concat();
+    for resume in [None, Some(0), Some(MOST_COST)] {
+        let text = plan(MOST_TOTAL, MOST_COST, resume, &forms);
+        comparison.text("a point of each level", text.as_bytes());
+    }
 }
 
 /// The last point that a plan may have, in loops that make its tail wide.
@@ -86,7 +93,7 @@ fn last_point(comparison: &mut Comparison) {
         &[&most],
         &[")", ")"],
     );
-    let text = plan(1, 0, &[many("(leaf p 1 1)", 509), loops].concat());
+    let text = plan(1, 0, None, &[many("(leaf p 1 1)", 509), loops].concat());
     comparison.text("a wide tail of point 511", text.as_bytes());
 }
 

@@ -67,7 +67,12 @@ fn changed_texts(tally: &mut Tally, base: &[u8]) {
 
 pub fn compare_all(tally: &mut Tally) {
     known_texts(tally);
-    for base in [aimed::EVERY_FORM, aimed::SMALLEST, aimed::MANY_DIGITS] {
+    for base in [
+        aimed::EVERY_FORM,
+        aimed::SMALLEST,
+        aimed::SMALLEST_2,
+        aimed::MANY_DIGITS,
+    ] {
         changed_texts(tally, base.as_bytes());
     }
 }

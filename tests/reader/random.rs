@@ -4,6 +4,7 @@
 use lent::tally::Tally;
 use reference::damage;
 use reference::edges;
+use reference::edition::{editions, Edition};
 use reference::gen::{self, Random};
 use reference::listed::Listed;
 use reference::plan::{self, Form, Kind, Plan};
@@ -46,7 +47,8 @@ impl Held {
         self.several += usize::from(plan.functions.len() > 1);
     }
 
-    fn is_rich(&self) -> bool {
+    /// Whether a quarter of so many hold each.
+    fn is_rich(&self, plans: usize) -> bool {
         let kinds = [
             self.loops,
             self.ifs,
@@ -56,16 +58,16 @@ impl Held {
             self.points,
             self.several,
         ];
-        kinds.iter().all(|&count| count >= PLANS / 4)
+        kinds.iter().all(|&count| count >= plans / 4)
     }
 }
 
 /// Every number of these is read off the list of all runs.
-pub fn listed_plans(tally: &mut Tally) {
-    let mut random = Random::new(62);
+fn listed_plans_of(tally: &mut Tally, random: &mut Random, edition: Edition) {
+    let plans = edition.share(PLANS);
     let mut held = Held::default();
-    while held.plans < PLANS {
-        let plan = gen::small_plan(&mut random);
+    while held.plans < plans {
+        let plan = gen::small_plan(random, edition);
         let Some(listed) = Listed::new(&plan, MOST_RUNS) else {
             continue;
         };
@@ -74,8 +76,16 @@ pub fn listed_plans(tally: &mut Tally) {
         let records = random.pick(&[leaves, leaves + 1, 512, 513, 1 << 40]);
         tally.accepted("a small plan", &plan::text(&plan), records, &listed);
     }
-    println!("  {} plans, {} runs listed", held.plans, held.runs);
-    tally.holds(held.is_rich(), || "small plans of every kind".to_string());
+    println!("  {edition}: {plans} plans, {} runs listed", held.runs);
+    tally.holds(held.is_rich(plans), || {
+        format!("small plans of every kind, {edition}")
+    });
+}
+
+pub fn listed_plans(tally: &mut Tally) {
+    for edition in Edition::BOTH {
+        listed_plans_of(tally, &mut Random::new(62), edition);
+    }
 }
 
 /// A text with rows of every length, or of one.
@@ -90,13 +100,13 @@ fn compare(tally: &mut Tally, random: &mut Random, group: &str, text: &[u8], eve
 /// Accepted plans, plans that may break rules, all of them damaged, and any bytes.
 fn any_texts(tally: &mut Tally) {
     let mut random = Random::new(41);
-    for round in 0..6_400 {
+    for (round, edition) in editions(6_400).enumerate() {
         let shape = match round % 5 {
             0 => gen::large_shape(&mut random),
             _ => gen::small_shape(&mut random),
         };
-        let valid = plan::text(&gen::valid_plan(&mut random, shape));
-        let loose = plan::text(&gen::loose_plan(&mut random, shape));
+        let valid = plan::text(&gen::valid_plan(&mut random, shape, edition));
+        let loose = plan::text(&gen::loose_plan(&mut random, shape, edition));
         let deep = gen::deep_text(&mut random);
         for (group, text, often) in [
             ("a valid plan", &valid, 2),
@@ -118,8 +128,8 @@ fn any_texts(tally: &mut Tally) {
 
 fn large_plans(tally: &mut Tally) {
     let mut random = Random::new(64);
-    for _ in 0..400 {
-        let plan = gen::large_plan(&mut random);
+    for edition in editions(400) {
+        let plan = gen::large_plan(&mut random, edition);
         tally.text("a large plan", &plan::text(&plan), 512);
     }
 }
@@ -127,8 +137,8 @@ fn large_plans(tally: &mut Tally) {
 /// Totals at 2^40 and beside it.
 fn totals_at_edge(tally: &mut Tally) {
     let mut random = Random::new(65);
-    for _ in 0..200 {
-        let plan = gen::small_plan(&mut random);
+    for edition in editions(200) {
+        let plan = gen::small_plan(&mut random, edition);
         for (name, plan, refusal) in edges::topped(&mut random, &plan) {
             known(tally, name, &plan::text(&plan), 512, refusal);
         }

@@ -37,6 +37,9 @@ const FIVE_LEAVES: [&str; 11] = [
 
 pub const SMALLEST: &str = "(task 10 3\n(fun\n(leaf s 7 9)\n)\n)\n";
 
+/// The same of edition 2, where dropping or doubling bytes makes it of edition 1.
+pub const SMALLEST_2: &str = "(task 10 3 5\n(fun\n(leaf s 7 9)\n)\n)\n";
+
 /// A number of more digits than any range has, so that a byte can be wrong behind those
 /// that tell it: 3, on line 3.
 pub const MANY_DIGITS: &str = "(task 10 3\n(fun\n(leaf s 7 99999999999999)\n)\n)\n";

@@ -3,7 +3,7 @@
 //! that these calls left, so refusal 11 does not arise.
 
 use super::numbers::{Numbers, Times};
-use super::plan::MOST_LEVEL;
+use super::plan::{Plan, MOST_LEVEL};
 
 pub const LEAST_MARGIN: i64 = -(1 << 62);
 
@@ -24,6 +24,42 @@ impl Word {
             Word::Stay => "stay",
             Word::Resume => "resume",
             Word::Ended => "ended",
+        }
+    }
+
+    /// The word of a decision with this margin. While they are suspended the others come
+    /// back in an edition 2 plan alone (02, L7).
+    pub fn of(plan: &Plan, suspended: bool, margin: i64) -> Word {
+        match (suspended, margin >= 0) {
+            (false, true) => Word::Go,
+            (false, false) => Word::Suspend,
+            (true, true) if plan.resume.is_some() => Word::Resume,
+            (true, _) => Word::Stay,
+        }
+    }
+
+    /// Whether the others run once this is answered.
+    pub fn others_run(self) -> bool {
+        !matches!(self, Word::Suspend | Word::Stay)
+    }
+
+    /// Whether the others run once a world of timed runs hears this: they are suspended
+    /// from suspend to resume, whatever is answered between.
+    pub fn others_after(self, before: bool) -> bool {
+        match self {
+            Word::Suspend => false,
+            Word::Resume => true,
+            Word::Go | Word::Stay | Word::Ended => before,
+        }
+    }
+
+    /// The most by which the clock moves on once a decision answers this: T after suspend,
+    /// U after resume (02, L7).
+    pub fn switching(self, plan: &Plan) -> u64 {
+        match self {
+            Word::Suspend => plan.switch,
+            Word::Resume => plan.cost_of_return(true),
+            Word::Go | Word::Stay | Word::Ended => 0,
         }
     }
 }
@@ -54,6 +90,17 @@ pub enum Answer {
 }
 
 impl Answer {
+    /// Whether the others come back by it at a report (02, L7).
+    pub fn is_return(&self) -> bool {
+        matches!(
+            self,
+            Answer::Decision {
+                word: Word::Resume,
+                ..
+            }
+        )
+    }
+
     /// The printed answer, without its line feed.
     pub fn line(&self) -> String {
         match *self {
@@ -134,14 +181,20 @@ impl<'a, N: Numbers> Controller<'a, N> {
         }
     }
 
-    /// The last reading with which the next report of this point still goes on,
-    /// below 0 where none does; None where the point cannot come next.
+    /// The last reading with which the others run once this point is reported next, or
+    /// with which the margin is 0 where they stay suspended; below 0 where there is none;
+    /// None where the point cannot come next.
     pub fn turning(&self, point: u64) -> Option<i128> {
         let next = self
             .numbers
             .report(self.place()?, usize::try_from(point).ok()?)?;
         let deadline = self.numbers.plan().deadline;
-        Some(i128::from(deadline) - i128::from((self.needed)(self.numbers, &next)))
+        Some(i128::from(deadline) - i128::from(self.weighed(&next, self.suspended())))
+    }
+
+    /// What a decision at a place sets beside the elapsed time.
+    fn weighed(&self, place: &N::Place, suspended: bool) -> u64 {
+        (self.needed)(self.numbers, place) + self.numbers.plan().cost_of_return(suspended)
     }
 
     pub fn call(&mut self, call: Call) -> Answer {
@@ -208,19 +261,15 @@ impl<'a, N: Numbers> Controller<'a, N> {
 
     /// The decision at a place that a run has reached.
     fn decide(&mut self, place: N::Place, reading: u64, suspended: bool) -> Answer {
-        let deadline = self.numbers.plan().deadline;
+        let plan = self.numbers.plan();
         let remaining = self.numbers.remaining(&place);
-        let margin = margin(deadline, reading, (self.needed)(self.numbers, &place));
-        let word = match (suspended, margin >= 0) {
-            (true, _) => Word::Stay,
-            (false, true) => Word::Go,
-            (false, false) => Word::Suspend,
-        };
-        let late = reading > deadline;
+        let margin = margin(plan.deadline, reading, self.weighed(&place, suspended));
+        let word = Word::of(plan, suspended, margin);
+        let late = reading > plan.deadline;
         self.running = Some(Running {
             place,
             reading,
-            suspended: word != Word::Go,
+            suspended: !word.others_run(),
         });
         Answer::Decision {
             word,

@@ -1,6 +1,7 @@
 //! Plans with one point that costs nothing, which 19 alone refuses, and the same with
 //! that leaf silent. Tables of both can be worked out, as if rule 19 were not there.
 
+use super::edition::editions;
 use super::gen::{self, Random};
 use super::plan::{self, Kind, Plan, MOST_LEAVES};
 use super::rules;
@@ -60,10 +61,11 @@ const EVERYWHERE: &str = "(task 900 5\n(fun\n(leaf s 1 2)\n)\n(fun\n\
     (if p 2 2\n(then\n(loop s 4 1 1\n(leaf s 1 1)\n)\n)\n(else\n\
     (if s 1 3\n(then\n(leaf p 2 2)\n)\n(else\n)\n)\n)\n)\n(leaf s 6 8)\n)\n)\n";
 
-/// Those of a plan that has every kind of leaf everywhere, and of so many random ones.
+/// Those of a plan that has every kind of leaf everywhere, of so many random ones, and of
+/// those of edition 2.
 pub fn plans(random: &mut Random, count: usize) -> Vec<Costless> {
     let everywhere = plan::read(EVERYWHERE.as_bytes(), MOST_LEAVES);
     let mut accepted = vec![everywhere.expect("an accepted plan")];
-    accepted.extend((0..count).map(|_| gen::small_plan(random)));
+    accepted.extend(editions(count).map(|edition| gen::small_plan(random, edition)));
     accepted.iter().flat_map(of_plan).collect()
 }

@@ -116,7 +116,7 @@ fn change_bytes(random: &mut Random, text: &mut Vec<u8>) {
 }
 
 /// Lines that are put where they may not stand.
-const STRAY_LINES: [&[u8]; 22] = [
+const STRAY_LINES: [&[u8]; 24] = [
     b"\n",
     b")\n",
     b"(fun\n",
@@ -124,6 +124,8 @@ const STRAY_LINES: [&[u8]; 22] = [
     b"(else\n",
     b"(task 1 0\n",
     b"(task 0 0\n",
+    b"(task 1 0 0\n",
+    b"(task 1 0 1048577\n",
     b"(leaf s 0 0)\n",
     b"(leaf p 1 0)\n",
     b"(leaf s 1048577 0)\n",
@@ -254,6 +256,20 @@ pub fn silenced(text: &[u8], line: usize) -> Vec<u8> {
     all.concat()
 }
 
+/// A number more on the first line, or its last one dropped: another edition, or none.
+fn change_edition(random: &mut Random, text: &mut Vec<u8>) {
+    let mut all = lines(text);
+    let numbers: [&[u8]; 8] = [b"0", b"1", b"9", b"1048576", b"1048577", b"00", b"01", b"x"];
+    let line = all[0].strip_suffix(b"\n").unwrap_or(&all[0]);
+    let mut fields: Vec<&[u8]> = line.split(|&byte| byte == b' ').collect();
+    match fields.len() > 3 && random.chance(80) {
+        true => drop(fields.pop()),
+        false => fields.push(random.pick(&numbers)),
+    }
+    all[0] = [&fields.join(&b' '), &b"\n"[..]].concat();
+    *text = all.concat();
+}
+
 /// Changes of the text's ends.
 fn change_ends(random: &mut Random, text: &mut Vec<u8>) {
     match random.below(5) {
@@ -283,12 +299,13 @@ pub fn damaged(random: &mut Random, text: &[u8]) -> Vec<u8> {
         if text.is_empty() {
             break;
         }
-        match random.below(11) {
+        match random.below(12) {
             0..=2 => change_bytes(random, &mut text),
             3 | 4 => change_lines(random, &mut text),
             5 | 6 => change_number(random, &mut text),
             7 | 8 => change_fields(random, &mut text),
             9 => change_costs(random, &mut text),
+            10 => change_edition(random, &mut text),
             _ => change_ends(random, &mut text),
         }
     }

@@ -4,14 +4,15 @@
 use std::fmt;
 
 use super::calls::{Answer, Word};
+use super::edition::Edition;
 use super::numbers::Numbers;
 
 #[derive(Default)]
 pub struct Finals {
     /// Those of releases: go and suspend.
     releases: [usize; 2],
-    /// Those of reports: go, suspend and stay.
-    reports: [usize; 3],
+    /// Those of reports: go, suspend, stay and resume.
+    reports: [usize; 4],
     /// Margins of 0 and -1.
     edges: [usize; 2],
     /// Those that go on and would not if remaining and T came off there too.
@@ -43,16 +44,17 @@ impl Finals {
         self.spared += usize::from(word == Word::Go && margin < taken);
     }
 
-    /// Whether each word was answered at least so often.
-    pub fn answered(&self, least: usize) -> bool {
-        let mut words = self.releases.iter().chain(&self.reports);
+    /// Whether each word of this edition was answered at least so often.
+    pub fn answered(&self, edition: Edition, least: usize) -> bool {
+        let reports = &self.reports[..edition.words()];
+        let mut words = self.releases.iter().chain(reports);
         words.all(|&count| count >= least)
     }
 
     /// Whether so were those at the edges and those that are spared a suspension.
-    pub fn met(&self, least: usize) -> bool {
+    pub fn met(&self, edition: Edition, least: usize) -> bool {
         let mut others = self.edges.iter().chain([&self.spared]);
-        self.answered(least) && others.all(|&count| count >= least)
+        self.answered(edition, least) && others.all(|&count| count >= least)
     }
 }
 

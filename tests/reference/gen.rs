@@ -1,6 +1,7 @@
 //! A deterministic pseudo-random generator, random valid plans, random runs.
 
 use super::composed::{function_totals, Composed, Cost};
+use super::edition::Edition;
 use super::numbers::Numbers;
 use super::plan::{self, Form, Kind, Plan, MOST_COST, MOST_DEADLINE};
 use super::rules;
@@ -195,8 +196,14 @@ impl Builder<'_> {
     }
 }
 
+/// U of an edition 2 plan, often at an edge.
+fn some_resume(random: &mut Random, cost: u64) -> u64 {
+    let small = random.below(cost / 4 + 2);
+    random.pick(&[0, 0, 1, 1, small, small, small, MOST_COST])
+}
+
 /// A plan by the grammar that may break rules 7 to 10 and 19.
-pub fn loose_plan(random: &mut Random, shape: Shape) -> Plan {
+pub fn loose_plan(random: &mut Random, shape: Shape, edition: Edition) -> Plan {
     let costless = random.chance(COSTLESS);
     let mut functions = Vec::new();
     let share = shape.leaves / shape.functions + 1;
@@ -214,9 +221,14 @@ pub fn loose_plan(random: &mut Random, shape: Shape) -> Plan {
     }
     let switch = random.below(shape.cost + 1);
     let deadline = 1 + random.below(MOST_DEADLINE);
+    let resume = match edition {
+        Edition::First => None,
+        Edition::Second => Some(some_resume(random, shape.cost)),
+    };
     let mut plan = Plan {
         deadline,
         switch,
+        resume,
         functions,
     };
     plan.renumber();
@@ -304,14 +316,25 @@ fn set_deadline(random: &mut Random, plan: &mut Plan) {
     plan.deadline = near.clamp(1, MOST_DEADLINE);
 }
 
+/// In edition 2 sometimes a U of about as much as the deadline leaves beside total and T.
+fn set_resume(random: &mut Random, plan: &mut Plan) {
+    if plan.resume.is_some() && random.chance(25) {
+        let fitting = Composed::new(plan).total() + plan.switch;
+        let slack = plan.deadline.saturating_sub(fitting);
+        let near = (slack + 1).saturating_sub(random.below(3));
+        plan.resume = Some(near.min(MOST_COST));
+    }
+}
+
 /// A plan that the reader accepts.
-pub fn valid_plan(random: &mut Random, mut shape: Shape) -> Plan {
+pub fn valid_plan(random: &mut Random, mut shape: Shape, edition: Edition) -> Plan {
     loop {
-        let mut plan = loose_plan(random, shape);
+        let mut plan = loose_plan(random, shape, edition);
         call_all(random, &mut plan, shape.cost);
         show_points(&mut plan);
         if shorten(&mut plan) && plan::read(&plan::text(&plan), usize::MAX).is_ok() {
             set_deadline(random, &mut plan);
+            set_resume(random, &mut plan);
             return plan;
         }
         // Too many levels, leaves or bytes: the next try is more modest.
@@ -321,23 +344,46 @@ pub fn valid_plan(random: &mut Random, mut shape: Shape) -> Plan {
     }
 }
 
-pub fn small_plan(random: &mut Random) -> Plan {
+/// A small plan; in edition 2 every third time one in whose runs the others often come
+/// back.
+pub fn small_plan(random: &mut Random, edition: Edition) -> Plan {
+    if edition == Edition::Second && random.below(3) == 0 {
+        return returning_plan(random);
+    }
     let shape = small_shape(random);
-    valid_plan(random, shape)
+    valid_plan(random, shape, edition)
 }
 
 /// A small plan, every second time one whose functions are often called more than once.
-pub fn small_or_calling_plan(random: &mut Random) -> Plan {
+pub fn small_or_calling_plan(random: &mut Random, edition: Edition) -> Plan {
     let mut shape = small_shape(random);
     if random.chance(50) {
         (shape.functions, shape.calls) = (4, 50);
     }
-    valid_plan(random, shape)
+    valid_plan(random, shape, edition)
 }
 
-pub fn large_plan(random: &mut Random) -> Plan {
+/// A small plan of edition 2 in whose runs the others often come back more than once:
+/// many points, T and U small beside the costs, and D not far above what must fit.
+fn returning_plan(random: &mut Random) -> Plan {
+    let mut shape = small_shape(random);
+    (shape.points, shape.loops) = (80, 35);
+    (shape.bound, shape.cost) = (1 + random.below(8), random.pick(&[10, 100]));
+    let mut plan = valid_plan(random, shape, Edition::Second);
+    let resume = random.below(3);
+    (plan.switch, plan.resume) = (random.below(3), Some(resume));
+    let numbers = Composed::new(&plan);
+    let points = plan.leaves().into_iter().filter(|(_, form)| form.point);
+    let stretches = points.map(|(_, form)| numbers.stretch(form.leaf));
+    let most = stretches.max().unwrap_or(0);
+    let fitting = numbers.total() + plan.switch + resume;
+    plan.deadline = (fitting + random.below(most + 2)).max(1);
+    plan
+}
+
+pub fn large_plan(random: &mut Random, edition: Edition) -> Plan {
     let shape = large_shape(random);
-    valid_plan(random, shape)
+    valid_plan(random, shape, edition)
 }
 
 /// Adds the leaves visited in one random run of these forms.

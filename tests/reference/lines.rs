@@ -2,7 +2,8 @@
 
 /// A line by its own shape, before it is known whether it may stand here.
 pub enum Line {
-    Task(u64, u64),
+    /// D and T, and U of an edition 2 plan (02, L7).
+    Task(u64, u64, Option<u64>),
     Fun,
     Leaf(bool, u64, u64),
     Call(bool, u64, u64, u64),
@@ -56,7 +57,8 @@ pub fn shape(line: &[u8]) -> Option<Line> {
         fields.push(last.strip_suffix(b")")?);
     }
     match fields.as_slice() {
-        [b"(task", d, t] => Some(Line::Task(number(d)?, number(t)?)),
+        [b"(task", d, t] => Some(Line::Task(number(d)?, number(t)?, None)),
+        [b"(task", d, t, u] => Some(Line::Task(number(d)?, number(t)?, Some(number(u)?))),
         [b"(fun"] => Some(Line::Fun),
         [b"(leaf", k, c, m] => Some(Line::Leaf(point(k)?, number(c)?, number(m)?)),
         [b"(call", k, f, c, m] => Some(Line::Call(point(k)?, number(f)?, number(c)?, number(m)?)),

@@ -80,10 +80,11 @@ pub trait Numbers {
     }
 }
 
-/// The numbers that a listing shows: of the task the total, the max-load total, D and
-/// T, and of each point, in leaf order, its number, its level, its tail and its stretch.
+/// The numbers that a listing shows: of the task the total, the max-load total, D, T and,
+/// in an edition 2 plan, U (02, L7), and of each point, in leaf order, its number, its
+/// level, its tail and its stretch.
 pub struct Figures {
-    pub task: [u64; 4],
+    pub task: Vec<u64>,
     pub points: Vec<[u64; 4]>,
 }
 
@@ -96,8 +97,9 @@ pub fn figures<N: Numbers>(numbers: &N) -> Figures {
     let leaves = plan.leaves().into_iter();
     let points = leaves.filter(|(_, form)| form.point);
     let (total, max_load) = (numbers.total(), numbers.max_load_total());
+    let task = [total, max_load, plan.deadline, plan.switch];
     Figures {
-        task: [total, max_load, plan.deadline, plan.switch],
+        task: task.into_iter().chain(plan.resume).collect(),
         points: points.map(|(_, form)| point(form.leaf)).collect(),
     }
 }
@@ -105,9 +107,13 @@ pub fn figures<N: Numbers>(numbers: &N) -> Figures {
 impl Figures {
     /// What the table program prints for an accepted plan with these.
     pub fn listing(&self) -> String {
-        let line = |word: &str, [a, b, c, d]: [u64; 4]| format!("{word} {a} {b} {c} {d}\n");
-        let points = self.points.iter().map(|&point| line("point", point));
-        line("task", self.task) + &points.collect::<String>()
+        let field = |number: &u64| format!(" {number}");
+        let line = |word: &str, numbers: &[u64]| {
+            let fields: String = numbers.iter().map(field).collect();
+            format!("{word}{fields}\n")
+        };
+        let points = self.points.iter().map(|point| line("point", point));
+        line("task", &self.task) + &points.collect::<String>()
     }
 }
 

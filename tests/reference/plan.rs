@@ -41,12 +41,20 @@ pub struct Form {
 pub struct Plan {
     pub deadline: u64,
     pub switch: u64,
+    /// The cost of resuming, U, of an edition 2 plan (02, L7); None in edition 1.
+    pub resume: Option<u64>,
     pub functions: Vec<Vec<Form>>,
 }
 
 impl Plan {
     pub fn main(&self) -> usize {
         self.functions.len() - 1
+    }
+
+    /// What coming back takes off a margin: U where the others are suspended in an
+    /// edition 2 plan, and nothing elsewhere.
+    pub fn cost_of_return(&self, suspended: bool) -> u64 {
+        self.resume.filter(|_| suspended).unwrap_or(0)
     }
 
     /// Every form of the plan in leaf order, with the number of its function.
@@ -124,7 +132,9 @@ enum Open {
 fn in_range(line: &Line) -> bool {
     let costs = |c: u64, m: u64| c <= MOST_COST && m <= MOST_COST;
     match *line {
-        Line::Task(d, t) => (1..=MOST_DEADLINE).contains(&d) && t <= MOST_COST,
+        Line::Task(d, t, u) => {
+            (1..=MOST_DEADLINE).contains(&d) && t.max(u.unwrap_or(0)) <= MOST_COST
+        }
         Line::Leaf(_, c, m) | Line::If(_, c, m) => costs(c, m),
         Line::Call(_, f, c, m) => f <= MOST_TARGET && costs(c, m),
         Line::Loop(_, b, c, m) => (1..=MOST_BOUND).contains(&b) && costs(c, m),
@@ -247,10 +257,11 @@ impl Reader {
             kind,
         };
         match line {
-            Line::Task(d, t) => {
+            Line::Task(d, t, u) => {
                 self.begun = true;
                 self.plan.deadline = d;
                 self.plan.switch = t;
+                self.plan.resume = u;
                 self.open.push(Open::Task);
             }
             Line::Fun => {
@@ -313,6 +324,7 @@ pub fn read_lines(text: &[u8], row: usize) -> Result<Plan, Refusal> {
         plan: Plan {
             deadline: 0,
             switch: 0,
+            resume: None,
             functions: Vec::new(),
         },
         heights: Vec::new(),
@@ -369,7 +381,8 @@ pub fn text(plan: &Plan) -> Vec<u8> {
             }
         }
     }
-    let mut all = format!("(task {} {}\n", plan.deadline, plan.switch);
+    let resume = plan.resume.map_or(String::new(), |cost| format!(" {cost}"));
+    let mut all = format!("(task {} {}{resume}\n", plan.deadline, plan.switch);
     for forms in &plan.functions {
         all.push_str("(fun\n");
         forms_text(forms, &mut all);

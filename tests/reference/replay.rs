@@ -37,10 +37,11 @@ pub fn call_of(line: &[u8]) -> Option<Call> {
     }
 }
 
-/// An accepted release or report: its reading, and whether the answer was go.
+/// An accepted release or report: its reading, and whether the gap after it is shared,
+/// the answer being go or, in an edition 2 plan, resume (02, L7).
 struct Decision {
     reading: u64,
-    went_on: bool,
+    shared: bool,
 }
 
 /// Ticks shared and ticks suspended of a release with these decisions whose end has
@@ -50,7 +51,7 @@ fn ticks(decisions: &[Decision], end: u64) -> (u64, u64) {
     let (mut shared, mut suspended) = (0, 0);
     for (decision, next) in decisions.iter().zip(later.chain([end])) {
         let gap = next - decision.reading;
-        match decision.went_on {
+        match decision.shared {
             true => shared += gap,
             false => suspended += gap,
         }
@@ -87,7 +88,7 @@ impl<'a, N: Numbers> Replay<'a, N> {
         match (call, answer) {
             (_, Answer::Decision { word, .. }) => self.decisions.push(Decision {
                 reading: self.controller.last_reading(),
-                went_on: word == Word::Go,
+                shared: matches!(word, Word::Go | Word::Resume),
             }),
             (Call::End(reading), Answer::End { .. }) => printed += &self.sums(reading),
             _ => {}

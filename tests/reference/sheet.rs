@@ -10,10 +10,10 @@ const COLUMNS: usize = 72;
 const HEADING: usize = 3;
 const POINTS: usize = LINES - HEADING;
 
-/// The columns of each field: in the first line of a heading total, max-load total, D
-/// and T, in the second the number of the page, in the third none; in the line of a
-/// point its number, its level, its tail and its stretch.
-const TASK_FIELDS: [usize; 4] = [14, 14, 14, 14];
+/// The columns of each field: in the first line of a heading total, max-load total, D,
+/// T and, in an edition 2 plan, U (02, L7), in the second the number of the page, in the
+/// third none; in the line of a point its number, its level, its tail and its stretch.
+const TASK_FIELDS: [usize; 5] = [14, 14, 14, 14, 14];
 const PAGE_FIELDS: [usize; 1] = [14];
 const POINT_FIELDS: [usize; 4] = [6, 4, 14, 14];
 
@@ -23,9 +23,9 @@ type Page = [Line; LINES];
 const BLANK: Page = [[b' '; COLUMNS]; LINES];
 
 /// Writes each number into its field, the last digit into the field's last column.
-fn write<const COUNT: usize>(line: &mut Line, fields: [usize; COUNT], numbers: [u64; COUNT]) {
+fn write(line: &mut Line, fields: &[usize], numbers: &[u64]) {
     let mut end = 0;
-    for (field, number) in fields.into_iter().zip(numbers) {
+    for (&field, number) in fields.iter().zip(numbers) {
         let digits = number.to_string();
         assert!(digits.len() <= field, "{number} has {field} columns");
         end += field;
@@ -36,11 +36,11 @@ fn write<const COUNT: usize>(line: &mut Line, fields: [usize; COUNT], numbers: [
 /// The page of this number, from 1, with its heading and its points.
 fn page(figures: &Figures, number: usize) -> Page {
     let mut page = BLANK;
-    write(&mut page[0], TASK_FIELDS, figures.task);
-    write(&mut page[1], PAGE_FIELDS, [number as u64]);
+    write(&mut page[0], &TASK_FIELDS, &figures.task);
+    write(&mut page[1], &PAGE_FIELDS, &[number as u64]);
     let points = figures.points.iter().skip((number - 1) * POINTS);
-    for (line, &point) in page[HEADING..].iter_mut().zip(points) {
-        write(line, POINT_FIELDS, point);
+    for (line, point) in page[HEADING..].iter_mut().zip(points) {
+        write(line, &POINT_FIELDS, point);
     }
     page
 }

@@ -9,16 +9,18 @@ use super::numbers::Numbers;
 use super::plan::{self, Plan, MOST_FUNCTIONS, MOST_LEAVES};
 use super::records::{self, Record, MAX_LOAD_TURN, RECORD, TAIL, TURN};
 
-/// Where the numbers of the head stand: D, T, both totals, how many leaves and
-/// functions there are, the bounds of the functions, their isolated totals and their
-/// max-load totals.
+/// Where the numbers of the head stand: D, T, the edition, U (0 in edition 1), both
+/// totals, how many leaves and functions there are, the bounds of the functions, their
+/// isolated totals and their max-load totals.
 pub const DEADLINE: usize = 0;
 pub const SWITCH: usize = 1;
-pub const TOTAL: usize = 2;
-pub const MAX_LOAD_TOTAL: usize = 3;
-pub const LEAVES: usize = 4;
-pub const FUNCTIONS: usize = 5;
-pub const BOUNDS: usize = 6;
+pub const EDITION: usize = 2;
+pub const RESUMING: usize = 3;
+pub const TOTAL: usize = 4;
+pub const MAX_LOAD_TOTAL: usize = 5;
+pub const LEAVES: usize = 6;
+pub const FUNCTIONS: usize = 7;
+pub const BOUNDS: usize = 8;
 pub const TOTALS: usize = BOUNDS + MOST_FUNCTIONS + 1;
 pub const MAX_LOAD_TOTALS: usize = TOTALS + MOST_FUNCTIONS;
 pub const HEAD: usize = MAX_LOAD_TOTALS + MOST_FUNCTIONS;
@@ -92,6 +94,7 @@ pub fn head(plan: &Plan, totals: [u64; 2], of_functions: [Vec<u64>; 2]) -> Head 
     let functions = plan.functions.len() as u64;
     let all = [
         &[plan.deadline, plan.switch],
+        &plan.resume.map_or([1, 0], |cost| [2, cost]),
         &totals[..],
         &[leaves, functions],
         &records::bounds(plan),
@@ -147,6 +150,7 @@ pub fn plan_of(lent: &Table) -> Option<Plan> {
     Some(Plan {
         deadline: lent.head[DEADLINE],
         switch: lent.head[SWITCH],
+        resume: (lent.head[EDITION] == 2).then_some(lent.head[RESUMING]),
         functions,
     })
 }

@@ -4,12 +4,13 @@
 use std::fmt;
 
 use super::calls::{Answer, Word};
+use super::edition::Edition;
 use super::numbers::Numbers;
 
 #[derive(Default)]
 pub struct Visits {
-    /// Go, suspend and stay.
-    words: [usize; 3],
+    /// Go, suspend, stay and resume.
+    words: [usize; 4],
     /// Margins of 0 and -1.
     edges: [usize; 2],
     /// Those that go on and would not with the stretch of their point.
@@ -32,10 +33,11 @@ impl Visits {
         self.spared += usize::from(word == Word::Go && margin < less as i64);
     }
 
-    /// Whether each word, each edge and those that are spared a suspension were met at
-    /// least so often.
-    pub fn met(&self, least: usize) -> bool {
-        let mut counts = self.words.iter().chain(&self.edges).chain([&self.spared]);
+    /// Whether each word of this edition, each edge and those that are spared a suspension
+    /// were met at least so often.
+    pub fn met(&self, edition: Edition, least: usize) -> bool {
+        let words = &self.words[..edition.words()];
+        let mut counts = words.iter().chain(&self.edges).chain([&self.spared]);
         counts.all(|&count| count >= least)
     }
 }

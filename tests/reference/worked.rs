@@ -2,9 +2,10 @@
 //! state, with answers worked out by hand: the marked cases m1 to m5 and m8 to
 //! m12, the edges and traps named there, and readings that tell others apart.
 //! The reference's own checks and the tests of the proved calls run them all, with
-//! those of the last stretch and of the stretch of a visit.
+//! those of the last stretch, of the stretch of a visit and of coming back.
 
 use super::worked_last::LAST_STRETCH;
+use super::worked_returns::RETURNS;
 use super::worked_visits::OWN_STRETCH;
 
 pub const PLAN_A: &str = "(task 100 4\n(fun\n(leaf p 5 9)\n(loop p 3 2 4\n(leaf s 10 20)\n)\n\
@@ -43,6 +44,7 @@ pub const CASES: &[&[Case]] = &[
     LATE,
     LAST_STRETCH,
     OWN_STRETCH,
+    RETURNS,
 ];
 
 const ON_PLAN_A: &[Case] = &[

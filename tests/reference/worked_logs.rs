@@ -3,6 +3,7 @@
 
 use super::worked::{smallest, EMPTY, PLAN_A, PLAN_B};
 use super::worked_last::TWO_CALLS;
+use super::worked_returns::{FREE_RETURN, PLAN_A_2, SEVEN_VISITS};
 use super::worked_visits::FILTER;
 
 pub struct Case {
@@ -12,7 +13,7 @@ pub struct Case {
     pub printed: &'static str,
 }
 
-pub const CASES: &[&[Case]] = &[ON_PLAN_A, ON_OTHER_PLANS, LARGE_NUMBERS, ENDS];
+pub const CASES: &[&[Case]] = &[ON_PLAN_A, ON_OTHER_PLANS, COMING_BACK, LARGE_NUMBERS, ENDS];
 
 const ON_PLAN_A: &[Case] = &[
     // Every visit takes its max-load cost up to the suspension at 57 (m3); then the
@@ -145,6 +146,61 @@ const ON_OTHER_PLANS: &[Case] = &[
         plan: EMPTY,
         log: "release\nend 0\nrelease\nend 1\n",
         printed: "go 0 1 0\nended 0\n0 0 0\ngo 0 1 0\nended 0\n1 0 1\n",
+    },
+];
+
+/// Edition 2 (02, L7): the gap after a report's resume is shared.
+const COMING_BACK: &[Case] = &[
+    // As plan A's worst case up to 73, then U takes 3 ticks and the last visit 4 + 8.
+    Case {
+        name: "plan A's worst case comes back",
+        plan: PLAN_A_2,
+        log: "release\npoint 0 0\npoint 1 9\npoint 1 33\npoint 1 57\npoint 1 73\nend 88\n",
+        printed: "go 49 47 0\ngo 49 38 0\ngo 44 19 0\ngo 32 7 0\nsuspend 20 -5 0\n\
+            resume 8 12 0\nended 0\n72 16 88\n",
+    },
+    // Suspended from 29 to 37 and from 53 to 85; in the second release from 29 to 49, and
+    // from 89 to its end.
+    Case {
+        name: "two stops in each release",
+        plan: PLAN_A_2,
+        log: "release\npoint 0 0\npoint 1 29\npoint 1 37\npoint 1 53\npoint 1 85\nend 100\n\
+            release\npoint 0 0\npoint 1 29\npoint 1 38\npoint 1 49\npoint 1 89\nend 100\n",
+        printed: "go 49 47 0\ngo 49 38 0\nsuspend 44 -1 0\nresume 32 0 0\nsuspend 20 -1 0\n\
+            resume 8 0 0\nended 0\n60 40 100\n\
+            go 49 47 0\ngo 49 38 0\nsuspend 44 -1 0\nstay 32 -1 0\nresume 20 0 0\n\
+            suspend 8 -1 0\nresume 0\n69 31 100\n",
+    },
+    // Suspended from 23 to 25, 31 to 33, 39 to 41 and 53 to 60.
+    Case {
+        name: "four stops",
+        plan: SEVEN_VISITS,
+        log: "release\npoint 0 23\npoint 0 25\npoint 0 31\npoint 0 33\npoint 0 39\npoint 0 41\n\
+            point 0 53\nend 60\n",
+        printed: "go 28 30 0\nsuspend 28 -1 0\nresume 24 0 0\nsuspend 20 -1 0\nresume 16 0 0\n\
+            suspend 12 -1 0\nresume 8 0 0\nsuspend 4 -1 0\nresume 0\n47 13 60\n",
+    },
+    // The log of the gap after stay, with the others back from 40 on: only 39 to 40 is
+    // suspended. Refused lines end no gap.
+    Case {
+        name: "a U of 0, with refused lines behind the return",
+        plan: FREE_RETURN,
+        log: "release\npoint 0 39\npoint 1 39\npoint 1 40\npoint 0 41\nrelease\nend 30\n\
+            point 1 41\nend 100\n",
+        printed: "go 49 47 0\nsuspend 49 -1 0\nstay 44 -11 0\nresume 32 0 0\nrefused 17\n\
+            refused 12\nrefused 16\ngo 20 11 0\nended 0\n99 1 100\n",
+    },
+    Case {
+        name: "a task line of edition 2 out of range",
+        plan: "(task 100 4 1048577\n(fun\n)\n)\n",
+        log: "release\nend 0\n",
+        printed: "refused 3 1\n",
+    },
+    Case {
+        name: "a task line of four numbers",
+        plan: "(task 100 4 3 0\n(fun\n)\n)\n",
+        log: "",
+        printed: "refused 2 1\n",
     },
 ];
 

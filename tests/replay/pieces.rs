@@ -3,6 +3,7 @@
 use std::io::{self, Read, Write};
 
 use reference::composed::Composed;
+use reference::edition::editions;
 use reference::gen::{self, Random};
 use reference::plan;
 use reference::program::{packet_pipe, pieces_of, run_on_pieces, PIECE};
@@ -96,8 +97,8 @@ const RANDOM_LOGS: usize = 400;
 
 fn random_pieces(replays: &mut Replays) {
     let mut random = Random::new(103);
-    for _ in 0..RANDOM_LOGS {
-        let plan = gen::small_plan(&mut random);
+    for edition in editions(RANDOM_LOGS) {
+        let plan = gen::small_plan(&mut random, edition);
         let log = random_log(&mut random, &Composed::new(&plan), 3_000);
         let pieces = scattered(&mut random, &log);
         replays.pieces("a log in random pieces", &plan::text(&plan), pieces);

@@ -4,6 +4,7 @@ use std::collections::BTreeMap;
 
 use reference::composed::Composed;
 use reference::damage;
+use reference::edition::Edition;
 use reference::gen::{self, Random};
 use reference::numbers::Numbers;
 use reference::plan::{self, Plan};
@@ -15,9 +16,9 @@ use super::replays::Replays;
 const SMALL_PLANS: usize = 3_000;
 const LARGE_PLANS: usize = 300;
 
-/// Every kind of line that is printed, refusals by their numbers, and how often each
-/// must be met. No log is refused by 11.
-const KINDS: [&str; 16] = [
+/// Every kind of line that is printed, refusals by their numbers, the one of edition 2
+/// alone last, and how often each must be met. No log is refused by 11.
+const KINDS: [&str; 17] = [
     "go",
     "suspend",
     "stay",
@@ -34,6 +35,7 @@ const KINDS: [&str; 16] = [
     "refused 16",
     "refused 17",
     "refused 18",
+    "resume at a report",
 ];
 const OFTEN: usize = 100;
 
@@ -44,6 +46,7 @@ fn kind(line: &str) -> &str {
     let fields: Vec<&str> = line.split(' ').collect();
     match fields.as_slice() {
         ["refused", _] => line,
+        ["resume", _, _, _] => "resume at a report",
         ["0", "0", "0"] => "sums of nothing",
         [_, "0", _] => "sums, all shared",
         ["0", _, _] => "sums, all suspended",
@@ -67,19 +70,24 @@ fn of_plan(replays: &mut Replays, random: &mut Random, met: &mut Met, plan: &Pla
     replays.log("a damaged log", &text, &log);
 }
 
-fn of_plans(replays: &mut Replays, random: &mut Random) {
+fn of_plans(replays: &mut Replays, edition: Edition) {
+    let mut random = Random::new(101);
     let mut met = Met::new();
-    for _ in 0..SMALL_PLANS {
-        let plan = gen::small_plan(random);
-        of_plan(replays, random, &mut met, &plan);
+    for _ in 0..edition.share(SMALL_PLANS) {
+        let plan = gen::small_plan(&mut random, edition);
+        of_plan(replays, &mut random, &mut met, &plan);
     }
-    for _ in 0..LARGE_PLANS {
-        let plan = gen::large_plan(random);
-        of_plan(replays, random, &mut met, &plan);
+    for _ in 0..edition.share(LARGE_PLANS) {
+        let plan = gen::large_plan(&mut random, edition);
+        of_plan(replays, &mut random, &mut met, &plan);
     }
-    println!("lines of random logs: {met:?}");
+    println!("lines of random logs, {edition}: {met:?}");
+    let kinds = match edition {
+        Edition::First => &KINDS[..KINDS.len() - 1],
+        Edition::Second => &KINDS,
+    };
     // A kind of line that is hardly met is hardly compared.
-    for kind in KINDS {
+    for &kind in kinds {
         let enough = met.get(kind).is_some_and(|&count| count >= OFTEN);
         replays.count.holds(enough, &format!("{kind} is met often"));
     }
@@ -126,7 +134,8 @@ fn megabytes(replays: &mut Replays, random: &mut Random) {
 }
 
 pub fn compare_all(replays: &mut Replays) {
-    let mut random = Random::new(101);
-    of_plans(replays, &mut random);
-    megabytes(replays, &mut random);
+    for edition in Edition::BOTH {
+        of_plans(replays, edition);
+    }
+    megabytes(replays, &mut Random::new(102));
 }

@@ -3,6 +3,7 @@
 
 use reference::composed::Composed;
 use reference::edges;
+use reference::edition::{editions, Edition};
 use reference::gen::{self, Random};
 use reference::plan::{
     Form, Kind, Plan, MOST_BOUND, MOST_COST, MOST_DEADLINE, MOST_FUNCTIONS, MOST_LEAVES,
@@ -24,6 +25,7 @@ fn plan(functions: Vec<Vec<Form>>) -> Plan {
     let mut plan = Plan {
         deadline: 100,
         switch: 1,
+        resume: None,
         functions,
     };
     plan.renumber();
@@ -93,30 +95,32 @@ fn by_depth() -> Vec<Plan> {
     plans
 }
 
-/// Rule 3 by deadlines and switch costs.
+/// Rule 3 by deadlines, switch costs and costs of resuming.
 fn by_task() -> Vec<Plan> {
     let mut plans = Vec::new();
     for deadline in [0, 1, MOST_DEADLINE, MOST_DEADLINE + 1, u64::MAX] {
         for switch in [0, MOST_COST, MOST_COST + 1, u64::MAX] {
-            let mut plan = plan(vec![vec![block()]]);
-            (plan.deadline, plan.switch) = (deadline, switch);
-            plans.push(plan);
+            for resume in [None, Some(0), Some(MOST_COST), Some(MOST_COST + 1)] {
+                let mut plan = plan(vec![vec![block()]]);
+                (plan.deadline, plan.switch, plan.resume) = (deadline, switch, resume);
+                plans.push(plan);
+            }
         }
     }
     plans
 }
 
 /// Rules 8, 9 and 19 by random plans.
-fn by_chance(random: &mut Random) -> Table {
+fn by_chance(random: &mut Random, edition: Edition) -> Table {
     let shape = gen::small_shape(random);
-    let plan = gen::loose_plan(random, shape);
+    let plan = gen::loose_plan(random, shape, edition);
     table::table(&Composed::new(&plan))
 }
 
 /// Rules 3, 5, 8, 9 and 19 by one leaf of an accepted plan: a cost out of range, M
 /// below C, a report left out, a call left out, a cost left out, a report added.
-fn by_one_leaf(random: &mut Random) -> Table {
-    let mut plan = gen::small_plan(random);
+fn by_one_leaf(random: &mut Random, edition: Edition) -> Table {
+    let mut plan = gen::small_plan(random, edition);
     let leaf = random.index(plan.leaves().len().max(1));
     let way = random.below(7);
     plan.change(leaf, |form| match way {
@@ -136,8 +140,8 @@ fn by_one_leaf(random: &mut Random) -> Table {
 }
 
 /// Rule 10 by totals at 2^40 and beside it.
-fn by_totals(random: &mut Random) -> Vec<Table> {
-    let plan = gen::small_plan(random);
+fn by_totals(random: &mut Random, edition: Edition) -> Vec<Table> {
+    let plan = gen::small_plan(random, edition);
     edges::topped(random, &plan)
         .into_iter()
         .map(|(_, plan, _)| table::table(&Composed::new(&plan)))
@@ -148,12 +152,12 @@ fn by_totals(random: &mut Random) -> Vec<Table> {
 pub fn tables(random: &mut Random) -> Vec<Table> {
     let plans = [by_number(), by_depth(), by_task()].concat();
     let mut all: Vec<Table> = plans.iter().map(table::free).collect();
-    for _ in 0..2_000 {
-        all.push(by_chance(random));
-        all.push(by_one_leaf(random));
+    for edition in editions(2_000) {
+        all.push(by_chance(random, edition));
+        all.push(by_one_leaf(random, edition));
     }
-    for _ in 0..100 {
-        all.extend(by_totals(random));
+    for edition in editions(100) {
+        all.extend(by_totals(random, edition));
     }
     all
 }

@@ -9,10 +9,13 @@ use lent::tally::Tally;
 use reference::composed::Composed;
 use reference::costless::{self, Costless};
 use reference::edges;
+use reference::edition::{editions, Edition};
 use reference::gen::{self, Random};
-use reference::plan::{self, Plan, MOST_LEAVES};
+use reference::plan::{self, Plan, MOST_COST, MOST_LEAVES};
 use reference::rulings::Rulings;
-use reference::table::{self, Finding, Table, COLUMNS, FUNCTIONS, LEAVES, PARTS, TOTAL};
+use reference::table::{
+    self, Finding, Table, COLUMNS, EDITION, FUNCTIONS, LEAVES, PARTS, RESUMING, TOTAL,
+};
 
 use super::broken;
 
@@ -44,8 +47,8 @@ fn of_plan(plan: &Plan) -> Table {
     table::table(&Composed::new(plan))
 }
 
-fn small_table(random: &mut Random) -> Table {
-    of_plan(&gen::small_plan(random))
+fn small_table(random: &mut Random, edition: Edition) -> Table {
+    of_plan(&gen::small_plan(random, edition))
 }
 
 /// One number set to others.
@@ -63,8 +66,8 @@ fn change_number(tally: &mut Tally, table: &mut Table, at: usize) {
 /// Every number of small tables, and some of large ones.
 pub fn single_numbers(tally: &mut Tally) {
     let mut random = Random::new(71);
-    for _ in 0..400 {
-        let mut table = small_table(&mut random);
+    for edition in editions(400) {
+        let mut table = small_table(&mut random, edition);
         judge_good(tally, "an accepted plan's table", &table);
         for at in 0..table.count() {
             change_number(tally, &mut table, at);
@@ -103,8 +106,8 @@ fn change_some(random: &mut Random, table: &mut Table) {
 
 pub fn several_numbers(tally: &mut Tally) {
     let mut random = Random::new(72);
-    for _ in 0..1_500 {
-        let table = small_table(&mut random);
+    for edition in editions(1_500) {
+        let table = small_table(&mut random, edition);
         for _ in 0..12 {
             let mut changed = table.clone();
             for _ in 0..2 + random.index(3) {
@@ -118,8 +121,11 @@ pub fn several_numbers(tally: &mut Tally) {
 /// One part of a table as another one has it.
 pub fn mixed_tables(tally: &mut Tally) {
     let mut random = Random::new(73);
-    for _ in 0..1_000 {
-        let (one, other) = (small_table(&mut random), small_table(&mut random));
+    for edition in editions(1_000) {
+        let (one, other) = (
+            small_table(&mut random, edition),
+            small_table(&mut random, edition),
+        );
         for part in 0..PARTS {
             let mut mixed = one.clone();
             match COLUMNS.get(part) {
@@ -138,8 +144,8 @@ pub fn mixed_tables(tally: &mut Tally) {
 /// Rows longer than the plan needs, up to memory for most leaves and beyond it.
 fn longer_rows(tally: &mut Tally) {
     let mut random = Random::new(74);
-    for _ in 0..300 {
-        let mut table = small_table(&mut random);
+    for edition in editions(300) {
+        let mut table = small_table(&mut random, edition);
         let more = random.pick(&[0, 1, 7, 8, 100, 9 * MOST_LEAVES]);
         let behind = (0..more).map(|_| std::array::from_fn(|_| random.next()));
         table.row.extend(behind);
@@ -151,8 +157,8 @@ fn longer_rows(tally: &mut Tally) {
 
 fn shorter_rows(tally: &mut Tally) {
     let mut random = Random::new(75);
-    for _ in 0..1_200 {
-        let table = small_table(&mut random);
+    for edition in editions(1_200) {
+        let table = small_table(&mut random, edition);
         let records = table.row.len();
         for cut in [1, 2, 8, 9, records] {
             let mut shorter = table.clone();
@@ -165,8 +171,8 @@ fn shorter_rows(tally: &mut Tally) {
 /// Numbers of leaves and functions that the row does not have.
 fn wrong_counts(tally: &mut Tally) {
     let mut random = Random::new(77);
-    for _ in 0..300 {
-        let table = small_table(&mut random);
+    for edition in editions(300) {
+        let table = small_table(&mut random, edition);
         for (at, number) in [
             (LEAVES, 512),
             (LEAVES, 513),
@@ -180,6 +186,24 @@ fn wrong_counts(tally: &mut Tally) {
             let mut changed = table.clone();
             changed.head[at] = number;
             judge(tally, "leaves or functions that are not there", &changed);
+        }
+    }
+}
+
+/// Other editions, and each with a U that it does not have (02, L7). Where U is 0 both
+/// editions have such a table.
+pub fn other_editions(tally: &mut Tally) {
+    let mut random = Random::new(79);
+    for edition in editions(300) {
+        let mut table = small_table(&mut random, edition);
+        for number in [0, 1, 2, 3, 257, 258, 1 << 32 | 2, u64::MAX] {
+            for resume in [0, 1, MOST_COST, MOST_COST + 1, 1 << 32, u64::MAX] {
+                (table.head[EDITION], table.head[RESUMING]) = (number, resume);
+                let group = format!("edition {number} with U {resume}");
+                let finding = judge(tally, &group, &table);
+                let good = (number, resume) == (1, 0) || number == 2 && resume <= MOST_COST;
+                tally.holds((finding == Finding::Good) == good, || group.clone());
+            }
         }
     }
 }

@@ -12,6 +12,7 @@ const PARTS: &[Part] = &[
     ("several numbers", checking::several_numbers),
     ("mixed tables", checking::mixed_tables),
     ("rows and counts", checking::rows_and_counts),
+    ("editions", checking::other_editions),
     ("broken rules", checking::broken_rules),
     ("costless", checking::costless_points),
     ("met", all_met),

@@ -8,7 +8,7 @@ use lib.Seq.{sets}
 use Rattle.model.specs.Plan.{Lines, close}
 use Rattle.rows.specs.Rows.{after_at, Part}
 use Rattle.rows.specs.First.{rest}
-use Rattle.columns.specs.Columns.{Rule, column_of}
+use Rattle.columns.specs.Columns.{ColumnRule, column_of}
 use Rattle.columns.specs.Walks.{front, sibling, later, Kept, Listed}
 use Rattle.rows.proofs.Shape.{no_lines}
 use Rattle.columns.proofs.Stores.{sets_before}
@@ -23,19 +23,19 @@ pub kept_both : {i j k : ℕ} {o o' o'' : List ℕ} → Kept i o o' → Kept j o
 kept_both p q a b = record { long = q.long ∙ p.long; same = λ n h. q.same n (omega arith) ∙ p.same n (omega arith) }
 
 -- The forms from number n on are done: t stands at their start.
-pub record Back (u : Rule) (w : List ℕ) (i : ℕ) (l : Lines) (s n t : ℕ) (o o₀ : List ℕ) : Type 0 where
+pub record Back (u : ColumnRule) (w : List ℕ) (i : ℕ) (l : Lines) (s n t : ℕ) (o o₀ : List ℕ) : Type 0 where
   pub stands : t ≡ u.next (later n l) s
   pub done : o ≡ sets o₀ (sibling w i n) (column_of u (later n l) s)
 
 pub no_later : {w hs : List ℕ} {left v i e n : ℕ} {o : List ℕ} → Listed w i e n o → (p : Part w hs left v i e) → later n p.lines ≡ close
 no_later {w} {i = i} {n = n} q p = no_lines (let h = q.ends in omega arith) (later_part n {x = sibling w i n} q.inside refl p)
 
-pub back_start : (u : Rule) {w hs : List ℕ} {left v i e s n : ℕ} {o : List ℕ} (o₀ : List ℕ) → u.next close s ≡ s → Listed w i e n o → (p : Part w hs left v i e)
+pub back_start : (u : ColumnRule) {w hs : List ℕ} {left v i e s n : ℕ} {o : List ℕ} (o₀ : List ℕ) → u.next close s ≡ s → Listed w i e n o → (p : Part w hs left v i e)
     → Back u w i p.lines s n s o₀ o₀
 unfolding column_of
 back_start u o₀ h q p = let c = no_later q p in record { stands = rw c (sym h); done = rw c }
 
-pub back_on : {u : Rule} {w hs : List ℕ} {left v i e s m n t t' x : ℕ} {o o' o₀ : List ℕ} → n ≡ suc m → (p : Part w hs left v i e) → ((j : ℕ) → j < n → sibling w i j < e)
+pub back_on : {u : ColumnRule} {w hs : List ℕ} {left v i e s m n t t' x : ℕ} {o o' o₀ : List ℕ} → n ≡ suc m → (p : Part w hs left v i e) → ((j : ℕ) → j < n → sibling w i j < e)
     → x ≡ sibling w i m → Back u w i p.lines s n t o o₀ → t' ≡ u.next (later m p.lines) s
     → o' ≡ sets o x (front u (later m p.lines) t) → Back u w i p.lines s m t' o' o₀
 unfolding sibling later
@@ -53,7 +53,7 @@ back_on {u} {w} {i = i} {e = e} {s} {m} {n} {t} {t'} {x} {o} {o'} {o₀} hn p lt
           ap (λ (y : List ℕ). sets o₀ (sibling w i m) y) (sym (column_split u k s));
     }
 
-pub back_end : {u : Rule} {w : List ℕ} {i s n t : ℕ} {l : Lines} {o o₀ : List ℕ} → n ≤ 0 → Back u w i l s n t o o₀ → (t ≡ u.next l s) × (o ≡ sets o₀ i (column_of u l s))
+pub back_end : {u : ColumnRule} {w : List ℕ} {i s n t : ℕ} {l : Lines} {o o₀ : List ℕ} → n ≤ 0 → Back u w i l s n t o o₀ → (t ≡ u.next l s) × (o ≡ sets o₀ i (column_of u l s))
 unfolding sibling later
 back_end {u} {w} {i} {s} {n} {t} {l} {o} {o₀} h q = let e : n ≡ 0 = omega arith in (rw e at q.stands, rw e at q.done)
 

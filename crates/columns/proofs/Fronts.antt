@@ -10,11 +10,11 @@ use Rattle.model.specs.Plan.{Block, Lines, close, leaf_line, call_line, loop_lin
 use Rattle.rows.specs.Rows.{field, after_at, block_at, Rep, Part}
 use Rattle.rows.specs.First.{rest}
 use Rattle.rows.proofs.Shape.{LeafAt, CallAt, LoopAt, IfAt, then_in}
-use Rattle.columns.specs.Columns.{Rule, column_of, Contains}
+use Rattle.columns.specs.Columns.{ColumnRule, column_of, Contains}
 use Rattle.columns.specs.Walks.{front}
 use Rattle.columns.proofs.Stores.{sets_then, set_before, contains_append, contains_both}
 
-module _ (u : Rule) where
+module _ (u : ColumnRule) where
   pub column_split : (l : Lines) (s : ℕ) → column_of u l s ≡ front u l (u.next (rest l) s) ++ column_of u (rest l) s
   unfolding column_of front rest
   column_split close s = refl

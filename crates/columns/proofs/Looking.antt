@@ -14,7 +14,7 @@ use Rattle.model.specs.Tail.{tail, mine}
 use Rattle.model.specs.Places.{pick}
 use Rattle.rows.specs.Rows.{field, after_at, block_at, Rep}
 use Rattle.columns.specs.Sums.{lead}
-use Rattle.columns.specs.Columns.{Rule, column_of, rounds, tail_rule, Contains}
+use Rattle.columns.specs.Columns.{ColumnRule, column_of, rounds, tail_rule, Contains}
 use Rattle.columns.proofs.Stores.{sets_below}
 use Rattle.columns.proofs.Fronts.{column_fill}
 
@@ -63,7 +63,7 @@ sets_look (v ∷ vs) o i x h l u =
           omega (arith, a, b, at_same i x v e, look_below vs (suc i) x (omega arith))
     ]
 
-module _ (u : Rule) where
+module _ (u : ColumnRule) where
   pub fill_of : (w : List ℕ) (v i e : ℕ) (l : Lines) (s : ℕ) → Rep w v i e l → e ≡ i + length (column_of u l s)
   fill_of w v i e l s h = sym (column_fill u w v i e l s h)
 

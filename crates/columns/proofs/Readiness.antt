@@ -14,7 +14,7 @@ use Rattle.rows.proofs.Shape.{LoopAt, IfAt}
 use Rattle.rows.specs.Costs.{limit}
 use Rattle.columns.specs.Sums.{lead}
 use Rattle.columns.specs.Walks.{front, Sized, Ready, sibling, later}
-use Rattle.columns.specs.Columns.{Rule, column_of, turn_rule, Contains}
+use Rattle.columns.specs.Columns.{ColumnRule, column_of, turn_rule, Contains}
 use Rattle.columns.proofs.Sizes.{tally_split, loop_lead, if_lead, round_le}
 use Rattle.columns.proofs.Inner.{body_forms, then_forms, else_forms, first_form, after_forms}
 use Rattle.columns.proofs.Fronts.{contains_rest, contains_loop, contains_if}
@@ -92,7 +92,7 @@ unfolding later
 tally_later k ts zero l = omega arith
 tally_later k ts (suc n) l = omega (arith, tally_later k ts n l, tally_split k ts (later n l))
 
-pub contains_later : (u : Rule) (o : List ℕ) (s : ℕ) {w hs : List ℕ} {left v i e : ℕ} (n : ℕ) (p : Part w hs left v i e) → ((j : ℕ) → j < n → sibling w i j < e)
+pub contains_later : (u : ColumnRule) (o : List ℕ) (s : ℕ) {w hs : List ℕ} {left v i e : ℕ} (n : ℕ) (p : Part w hs left v i e) → ((j : ℕ) → j < n → sibling w i j < e)
     → Contains o i (column_of u p.lines s) → Contains o (sibling w i n) (column_of u (later n p.lines) s)
 unfolding sibling later
 contains_later u o s zero p lt h = h

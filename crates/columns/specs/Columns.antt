@@ -6,13 +6,13 @@ use Rattle.columns.specs.Sums.{cap, lead}
 
 -- How a column is computed from what follows: `next l s` stands at the start of the lines l, which s follows; `value l x` is the number of the
 -- first leaf of l, and `inner l x` what follows the body, if its form is a loop, where x follows the form.
-pub record Rule : Type 0 where
+pub record ColumnRule : Type 0 where
   pub next : Lines → ℕ → ℕ
   pub value : Lines → ℕ → ℕ
   pub inner : Lines → ℕ → ℕ
 
 -- The numbers of all leaves of lines, which s follows.
-unfoldable pub column_of : Rule → Lines → ℕ → List ℕ
+unfoldable pub column_of : ColumnRule → Lines → ℕ → List ℕ
 column_of u close s = []
 column_of u (leaf_line b r) s = u.value (leaf_line b r) (u.next r s) ∷ column_of u r s
 column_of u (call_line b f r) s = u.value (call_line b f r) (u.next r s) ∷ column_of u r s
@@ -30,7 +30,7 @@ held_turn k ts (loop_line b n body r) = k b + cap (tally k ts body)
 held_turn k ts (if_line b t e r) = 0
 
 -- The column of these sums.
-abbrev pub turn_rule : (Block → ℕ) → List ℕ → Rule
+abbrev pub turn_rule : (Block → ℕ) → List ℕ → ColumnRule
 turn_rule k ts = record { next = λ l s. 0; value = λ l x. held_turn k ts l; inner = λ l x. 0 }
 
 abbrev pub turns : (Block → ℕ) → List ℕ → Lines → List ℕ
@@ -45,7 +45,7 @@ rounds ts (loop_line b n body r) x = C b + (n - 1) * (tally C ts body + C b) + x
 rounds ts (if_line b t e r) x = 0
 
 -- The column of tails; ts are the isolated totals of the functions.
-abbrev pub tail_rule : List ℕ → Rule
+abbrev pub tail_rule : List ℕ → ColumnRule
 tail_rule ts = record { next = λ l e. tally C ts l + e; value = λ l x. lead C ts l + x; inner = rounds ts }
 
 -- The numbers of xs stand in o, from i on.

@@ -8,10 +8,10 @@ use Rattle.rows.specs.First.{rest}
 use Rattle.rows.specs.Leaves.{numbers}
 use Rattle.rows.specs.Costs.{limit}
 use Rattle.columns.specs.Sums.{lead}
-use Rattle.columns.specs.Columns.{Rule, column_of, turns, Contains}
+use Rattle.columns.specs.Columns.{ColumnRule, column_of, turns, Contains}
 
 -- The numbers of the leaves of the first form, which x follows.
-unfoldable pub front : Rule → Lines → ℕ → List ℕ
+unfoldable pub front : ColumnRule → Lines → ℕ → List ℕ
 front u close x = []
 front u (leaf_line b r) x = u.value (leaf_line b r) x ∷ []
 front u (call_line b f r) x = u.value (call_line b f r) x ∷ []

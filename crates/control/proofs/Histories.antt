@@ -10,6 +10,7 @@ use Rattle.model.specs.Forms.{Forms, main}
 use Rattle.model.specs.Levels.{Standing, so_far, history, Frame, stack}
 use Rattle.model.specs.Acceptance.{Accepted}
 use Rattle.model.specs.Stack.{Levels, whole, decode, times}
+use Rattle.model.specs.declared.Others.{Others}
 use Rattle.model.specs.Decisions.{Place, at_release, Decision}
 use Rattle.model.specs.Controller as places
 use Rattle.model.specs.Controller.{idle, running}
@@ -64,9 +65,9 @@ module _ (p : Plan) (a : Accepted p) where
       let (x, q) = standing_of p (m ∷ h) r in
       history_levels o (m ∷ h) (g ∷ ks) j (stands_times p a o (g ∷ ks) e) x q l (inner_decodes (stack_of o) g ks j)
 
-  pub history_state : (s : State) (x : places.State) (m : ℕ) (h : List ℕ) (ds : List Decision) → Tied p a s x → StateOf p (accepted_traceable p a) x (m ∷ h) ds →
+  pub history_state : (s : State) (x : places.State) (others : Others) (m : ℕ) (h : List ℕ) (ds : List Decision) → Tied p a s x → StateOf p (accepted_traceable p a) x others (m ∷ h) ds →
       (o : OpenRelease) × (s ≡ Open o) × HistoryState p o (m ∷ h)
-  history_state s x m h ds tie k =
+  history_state s x others m h ds tie k =
       let t = subst (Tied p a s) k.state tie in (
         t.release,
         t.is,

@@ -9,6 +9,7 @@ use Rattle.model.specs.Plan.{Plan}
 use Rattle.model.specs.Acceptance.{Accepted}
 use Rattle.model.specs.Stack.{Levels}
 use Rattle.model.specs.declared.Call.{Call}
+use Rattle.model.specs.declared.Others.{Others}
 use Rattle.model.specs.Decisions.{Decision}
 use Rattle.model.specs.Controller as places
 use Rattle.model.proofs.Links.{accepted_traceable}
@@ -37,6 +38,6 @@ calls_alike = alike.alike
 
 -- A state that stands for one after an accepted release and accepted reports is an open release of that history: some run with these reports stands at its
 -- stack, and its remaining times are that run's 33.
-pub state_is_of_history : (p : Plan) (a : Accepted p) (s : State) (x : places.State) (m : ℕ) (h : List ℕ) (ds : List Decision) → Tied p a s x →
-    StateOf p (accepted_traceable p a) x (m ∷ h) ds → (o : OpenRelease) × (s ≡ Open o) × HistoryState p o (m ∷ h)
+pub state_is_of_history : (p : Plan) (a : Accepted p) (s : State) (x : places.State) (others : Others) (m : ℕ) (h : List ℕ) (ds : List Decision) → Tied p a s x →
+    StateOf p (accepted_traceable p a) x others (m ∷ h) ds → (o : OpenRelease) × (s ≡ Open o) × HistoryState p o (m ∷ h)
 state_is_of_history = histories.history_state

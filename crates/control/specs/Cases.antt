@@ -1,5 +1,6 @@
 -- The marked cases m1 to m12 of document 01 ('Plans worked through'), m5 and m11 as document 02 (L3 and L6) has them, as one table: a plan, and calls from a
--- fresh state on its table with their answers, each worked out by hand from the documents' sentences.
+-- fresh state on its table with their answers, each worked out by hand from the documents' sentences. Behind them stand further cases of edition 2 (02, L7),
+-- as a table of the same form.
 -- Assumes nothing: these are definitions.
 use Rattle.std.specs.Prelude.{false, List, [], ◌∷◌, map, ◌≡◌, ℕ, pos, negsuc}
 use Rattle.model.specs.declared.Refusal.TheVariants.{Unfit, Astray}
@@ -7,12 +8,12 @@ use Rattle.model.specs.Plan.{Plan, all_leaves}
 use Rattle.model.specs.Stretch.{stretch_of}
 use Rattle.model.specs.Acceptance.{Accepted}
 use Rattle.model.specs.declared.Call.TheVariants.{Release, Report, End}
-use Rattle.model.specs.declared.Word.TheVariants.{Go, Suspend, Stay}
-use Rattle.model.specs.declared.Ending.TheVariants.{Resume, Ended}
+use Rattle.model.specs.declared.Word.TheVariants.{Go, Suspend, Stay, Resume}
+use Rattle.model.specs.declared.Ending.TheVariants.{Resumed, Ended}
 use Rattle.model.specs.declared.Answer.{Answer}
 use Rattle.model.specs.declared.Answer.TheVariants.{Refused, Decided, Closed}
 use Rattle.model.specs.Histories.{Exchange, ◌gets◌, Answered}
-use Rattle.model.specs.Worked.{plan_A, plan_B, smallest}
+use Rattle.model.specs.Worked.{plan_A, returning_A, plan_B, smallest}
 use Rattle.table.specs.Table.{table_of}
 use Rattle.control.specs.State.{fresh}
 use Rattle.control.specs.Calls.{controller_of}
@@ -45,7 +46,7 @@ unfoldable pub worst_of_A : List Exchange
 worst_of_A =
     (Release gets Decided Go 49 (pos 47) false) ∷ (Report 0 0 gets Decided Go 49 (pos 38) false) ∷ (Report 1 9 gets Decided Go 44 (pos 19) false) ∷
     (Report 1 33 gets Decided Go 32 (pos 7) false) ∷ (Report 1 57 gets Decided Suspend 20 (negsuc 4) false) ∷ (Report 1 73 gets Decided Stay 8 (pos 15) false) ∷
-    (End 81 gets Closed Resume false) ∷ []
+    (End 81 gets Closed Resumed false) ∷ []
 
 unfoldable pub cases : List Case
 cases =
@@ -69,6 +70,38 @@ cases =
     -- m10: D 9, release gives 13; m11: D 10 and D 18, go; m12: D 19, go
     on_smallest 9 (Refused Unfit) ∷ on_smallest 10 (Decided Go 7 (pos 1) false) ∷ on_smallest 18 (Decided Go 7 (pos 9) false) ∷
     on_smallest 19 (Decided Go 7 (pos 10) false) ∷ []
+
+-- Calls on plan A with U 3 (02, L7): the margin of resume and of stay is less by 3 than on plan A, that of go and of suspend is as there.
+abbrev pub on_returning_A : List Exchange → Case
+on_returning_A xs = record { plan = returning_A; total = 49; max_total = 93; stretches = 9 ∷ 24 ∷ 0 ∷ 0 ∷ []; exchanges = xs }
+
+-- Its worst case, m3 up to visit 3 of the loop: visit 4 at 73 has margin 100 − 73 − 12 − 3 and resumes, and the worst run then ends at 73 + 3 + 12 = 88, where
+-- the others run.
+unfoldable pub worst_of_returning_A : List Exchange
+worst_of_returning_A =
+    (Release gets Decided Go 49 (pos 47) false) ∷ (Report 0 0 gets Decided Go 49 (pos 38) false) ∷ (Report 1 9 gets Decided Go 44 (pos 19) false) ∷
+    (Report 1 33 gets Decided Go 32 (pos 7) false) ∷ (Report 1 57 gets Decided Suspend 20 (negsuc 4) false) ∷ (Report 1 73 gets Decided Resume 8 (pos 12) false) ∷
+    (End 88 gets Closed Ended false) ∷ []
+
+-- Returns and stays of edition 2, on plan A with U 3.
+unfoldable pub returns : List Case
+returns =
+    on_returning_A worst_of_returning_A ∷
+    -- visit 4 resumes at 85, 85 + 3 + 12 = 100, and stays suspended at 86
+    on_returning_A ((Release gets Decided Go 49 (pos 47) false) ∷ (Report 0 0 gets Decided Go 49 (pos 38) false) ∷ (Report 1 9 gets Decided Go 44 (pos 19) false) ∷
+    (Report 1 33 gets Decided Go 32 (pos 7) false) ∷ (Report 1 57 gets Decided Suspend 20 (negsuc 4) false) ∷ (Report 1 85 gets Decided Resume 8 (pos 0) false) ∷
+    (End 100 gets Closed Ended false) ∷ []) ∷
+    on_returning_A ((Release gets Decided Go 49 (pos 47) false) ∷ (Report 0 0 gets Decided Go 49 (pos 38) false) ∷ (Report 1 9 gets Decided Go 44 (pos 19) false) ∷
+    (Report 1 33 gets Decided Go 32 (pos 7) false) ∷ (Report 1 57 gets Decided Suspend 20 (negsuc 4) false) ∷ (Report 1 86 gets Decided Stay 8 (negsuc 0) false) ∷
+    (End 94 gets Closed Resumed false) ∷ []) ∷
+    -- two stops and two returns: visit 2 at 35 has margin 100 − 35 − 32 − 24 − 4 − 3 and resumes, visit 3 at 60 has margin 100 − 60 − 20 − 24 − 4 and suspends,
+    -- and visit 4 at 76 has margin 100 − 76 − 12 − 3 and resumes
+    on_returning_A ((Release gets Decided Go 49 (pos 47) false) ∷ (Report 0 0 gets Decided Go 49 (pos 38) false) ∷ (Report 1 29 gets Decided Suspend 44 (negsuc 0) false) ∷
+    (Report 1 35 gets Decided Resume 32 (pos 2) false) ∷ (Report 1 60 gets Decided Suspend 20 (negsuc 7) false) ∷ (Report 1 76 gets Decided Resume 8 (pos 9) false) ∷
+    (End 91 gets Closed Ended false) ∷ []) ∷
+    -- a stay where a further point can come: visit 2 at 38 has margin 100 − 38 − 32 − 24 − 4 − 3
+    on_returning_A ((Release gets Decided Go 49 (pos 47) false) ∷ (Report 0 0 gets Decided Go 49 (pos 38) false) ∷ (Report 1 29 gets Decided Suspend 44 (negsuc 0) false) ∷
+    (Report 1 38 gets Decided Stay 32 (negsuc 0) false) ∷ []) ∷ []
 
 -- A case holds: its plan is accepted, its table has these totals and its leaves these stretches, and the calls on it answer so.
 pub record CaseHolds (c : Case) : Type 0 where

@@ -1,15 +1,18 @@
 -- What only the private functions promise, on lent memory that holds the table of an accepted plan. Nothing of this stands in the contract of `call`.
 -- Assumes nothing: these are definitions.
-use Rattle.std.specs.Prelude.{◌≡◌, [], ◌∷◌, ℕ, replicate, Result, Ok, Err}
+use Rattle.std.specs.Prelude.{Bool, ◌&&◌, ◌≡◌, [], ◌∷◌, ℕ, replicate, Result, Ok, Err}
 use Rattle.std.proofs.Math.Option.{some}
 use Rattle.model.specs.declared.Answer.{Answer}
 use Rattle.model.specs.declared.Answer.TheVariants.{Refused}
 use Rattle.model.specs.declared.Refusal.{Refusal}
+use Rattle.model.specs.declared.Edition.{Edition}
+use Rattle.model.specs.declared.Edition.TheVariants.{Second}
 use Rattle.model.specs.Plan.{Plan}
 use Rattle.model.specs.Forms.{main}
-use Rattle.model.specs.Decisions.{at_report, decide}
+use Rattle.model.specs.Decisions.{at_report, may_return, decide}
 use Rattle.model.specs.Acceptance.{Accepted}
 use Rattle.model.specs.declared.Others.{Others}
+use Rattle.model.specs.declared.Others.TheVariants.{Running, Suspended}
 use Rattle.model.specs.declared.Outlook.{Outlook}
 use Rattle.model.specs.Calls.{Reply, others_after}
 use Rattle.model.specs.Controller.{next_levels, decided}
@@ -32,9 +35,14 @@ use Rattle.control.specs.declared.Weighing.{Weighing}
 use Rattle.control.specs.State.{place_at_release, standing}
 use Rattle.control.specs.Calls.{place_of, in_numbers}
 
--- A plan with this D and T: the decision asks no more of a plan.
-abbrev pub terms : ℕ → ℕ → Plan
-terms deadline switch = record { deadline = deadline; switch = switch; functions = [] }
+-- A plan with this D, T and U: the margin asks no more of a plan. (That of edition 1 is the one with U 0.)
+abbrev pub terms : ℕ → ℕ → ℕ → Plan
+terms deadline switch resume = record { deadline = deadline; switch = switch; edition = Second resume; functions = [] }
+
+-- Whether the rule of a decision holds, by the edition, whether the margin is 0 or more, and what the others did before.
+abbrev pub rule_met : Edition → Bool → Others → Bool
+rule_met edition free Running = free
+rule_met edition free Suspended = may_return edition && free
 
 -- A decision: its answer, and what the others do then.
 abbrev pub weighing : Plan → Outlook → ℕ → Others → Weighing

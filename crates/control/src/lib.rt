@@ -8,7 +8,7 @@ ghost use Rattle.model.specs.Forms.{main};
 ghost use Rattle.model.specs.Stack.{Levels};
 ghost use Rattle.model.specs.declared.Call.TheVariants.{Release, Report, End};
 ghost use Rattle.model.specs.Calls.{others_by_word};
-ghost use Rattle.model.specs.Decisions.{reserve, margin, word};
+ghost use Rattle.model.specs.Decisions.{reserve, way_back, margin, word};
 ghost use Rattle.model.specs.Controller.{idle, next_levels, can_close};
 ghost use Rattle.rows.specs.Rows.{point_at};
 ghost use Rattle.rows.specs.Leaves.{numbers};
@@ -19,10 +19,10 @@ ghost use Rattle.table.specs.Lent.{table_with};
 ghost use Rattle.control.specs.declared.State.TheVariants.{Idle, Open};
 ghost use Rattle.control.specs.State.{standing};
 ghost use Rattle.control.specs.Calls.{place_of, running_at, read_state, reply, on_state, call_on, as_step};
-ghost use Rattle.control.specs.Private.{terms, weighing, opened, arrived, stepped, closing, Headed, Coded, Costed, WholeTable, AtMaxLoad, GoodState, GoodOnCode};
-ghost use Rattle.control.specs.Private.{GoodOnTable, Arriving, moved_to};
+ghost use Rattle.control.specs.Private.{terms, rule_met, weighing, opened, arrived, stepped, closing, Headed, Coded, Costed, WholeTable, AtMaxLoad};
+ghost use Rattle.control.specs.Private.{GoodState, GoodOnCode, GoodOnTable, Arriving, moved_to};
 
-use model::{Answer, Call, Ending, Others, Outlook, Refusal, Word};
+use model::{Answer, Call, Edition, Ending, Others, Outlook, Refusal, Word};
 use outlook::{at_release, at_report};
 use place::{ByLevel, Place, advance, begin, keep_time, place_ok, times_ok, zero_above};
 use rows::{Code, Cost, Leaf, PricedCode};
@@ -84,7 +84,7 @@ const FLOOR: u64 = 1 << 62;
 
 // What is left of `left` behind what is kept free: remaining and switch cost, or nothing where no further point can come.
 fn less_reserve(left: u64, switch: u64, outlook: Outlook) -> u64
-    ensures { result ≡ left - reserve (terms 0 switch) outlook }
+    ensures { result ≡ left - reserve (terms 0 switch 0) outlook }
 {
     if outlook.last {
         left
@@ -94,24 +94,39 @@ fn less_reserve(left: u64, switch: u64, outlook: Outlook) -> u64
     }
 }
 
-// The margin, held at -2^62: what is left of D and 2^62 together, less 2^62.
-fn margin_of(deadline: u64, switch: u64, outlook: Outlook, reading: u64) -> i64
-    requires { deadline ≤ 2 ^ 40 }
-    ensures { result ≡ margin (terms deadline switch) outlook reading }
+// What is kept free besides, for the way back: U where the others are suspended, else nothing. (In edition 1, U is 0.)
+fn way_back(resume: u64, others: Others) -> u64
+    ensures { result ≡ way_back (terms 0 0 resume) others }
 {
-    let free = less_reserve(deadline + FLOOR, switch, outlook);
-    let left = free.saturating_sub(outlook.stretch).saturating_sub(reading);
+    match others {
+        Others::Running => 0,
+        Others::Suspended => resume,
+    }
+}
+
+// The margin, held at -2^62: what is left of D and 2^62 together, less 2^62.
+fn margin_of(head: &Head, outlook: Outlook, reading: u64, others: Others) -> i64
+    requires { head.now.deadline ≤ 2 ^ 40 }
+    ensures { result ≡ margin (terms head.now.deadline head.now.switch head.now.resume) outlook reading others }
+{
+    let free = less_reserve(head.deadline + FLOOR, head.switch, outlook);
+    let left = free
+        .saturating_sub(outlook.stretch)
+        .saturating_sub(way_back(head.resume, others))
+        .saturating_sub(reading);
     left as i64 - FLOOR as i64
 }
 
-// The word of a decision: stay where the others are suspended already; else suspend where the margin is below 0, and go where it is not.
-fn word_of(margin: i64, others: Others) -> Word
-    ensures { result ≡ word (non_neg margin) others }
+// The word of a decision. Where the others run: suspend where the margin is below 0, else go. Where they are suspended: in edition 2 resume where the margin is
+// 0 or more, else stay.
+fn word_of(edition: Edition, margin: i64, others: Others) -> Word
+    ensures { result ≡ word (rule_met edition (non_neg margin) others) others }
 {
     match others {
-        Others::Suspended => Word::Stay,
         Others::Running if margin < 0 => Word::Suspend,
         Others::Running => Word::Go,
+        Others::Suspended if 0 <= margin && matches!(edition, Edition::Second(_)) => Word::Resume,
+        Others::Suspended => Word::Stay,
     }
 }
 
@@ -121,6 +136,7 @@ fn others_by(word: Word, others: Others) -> Others
 {
     match word {
         Word::Suspend => Others::Suspended,
+        Word::Resume => Others::Running,
         Word::Go | Word::Stay => others,
     }
 }
@@ -130,8 +146,8 @@ fn weigh(head: &Head, outlook: Outlook, reading: u64, others: Others) -> Weighin
     requires { Headed head.now }
     ensures { (q : Headed head.now) → result ≡ weighing q.plan outlook reading others }
 {
-    let margin = margin_of(head.deadline, head.switch, outlook, reading);
-    let word = word_of(margin, others);
+    let margin = margin_of(head, outlook, reading, others);
+    let word = word_of(head.edition(), margin, others);
     Weighing {
         answer: Answer::Decided(word, outlook.remaining, margin, head.deadline < reading),
         others: others_by(word, others),

@@ -1,5 +1,5 @@
-// Plays the marked cases m1 to m12 of document 01, m5 and m11 as document 02 (L3 and L6) has them, and prints each answer. What must be printed is worked out
-// by hand beside each list of calls, and stands in the file stdout.
+// Plays the marked cases m1 to m12 of document 01, m5 and m11 as document 02 (L3 and L6) has them, and cases of edition 2 (02, L7), and prints each answer.
+// What must be printed is worked out by hand beside each list of calls, and stands in the file stdout.
 #![tactic(auto)]
 
 use control::{State, call};
@@ -47,6 +47,24 @@ fn plan_a(rt: &impl Print, calls: &[Call]) -> io::Result<()> {
     play(
         rt,
         b"(task 100 4\n(fun\n(leaf p 5 9)\n(loop p 3 2 4\n(leaf s 10 20)\n)\n(leaf s 6 8)\n)\n)\n",
+        calls,
+    )
+}
+
+// Plan A with a third number: edition 2, with U 3, which the margin of resume and of stay is less by.
+fn plan_a_3(rt: &impl Print, calls: &[Call]) -> io::Result<()> {
+    play(
+        rt,
+        b"(task 100 4 3\n(fun\n(leaf p 5 9)\n(loop p 3 2 4\n(leaf s 10 20)\n)\n(leaf s 6 8)\n)\n)\n",
+        calls,
+    )
+}
+
+// The same with U 0.
+fn plan_a_0(rt: &impl Print, calls: &[Call]) -> io::Result<()> {
+    play(
+        rt,
+        b"(task 100 4 0\n(fun\n(leaf p 5 9)\n(loop p 3 2 4\n(leaf s 10 20)\n)\n(leaf s 6 8)\n)\n)\n",
         calls,
     )
 }
@@ -164,8 +182,66 @@ fn smallest_cases(rt: &impl Print) -> io::Result<()> {
     release(rt, b"(task 19 3\n(fun\n(leaf s 7 9)\n)\n)\n")
 }
 
+// The calls of m3 up to the fourth visit of the loop, which is reported at this reading, and an end.
+fn to_the_last_visit(last: u64, end: u64) -> [Call; 7] {
+    [
+        Call::Release,
+        Call::Report(0, 0),
+        Call::Report(1, 9),
+        Call::Report(1, 33),
+        Call::Report(1, 57),
+        Call::Report(1, last),
+        Call::End(end),
+    ]
+}
+
+// Plays decisions at the last point while the others are suspended: three resume, and the end finds the others running; the fourth stays.
+fn last_returns(rt: &impl Print) -> io::Result<()> {
+    // As m3 up to suspend 20 -5; then visit 4 at 73 gives resume 8 12, and the end at 73 + 3 + 12 ended.
+    plan_a_3(rt, &to_the_last_visit(73, 88))?;
+    // With U 0, visit 4 at 73 gives resume 8 15, where plan A stays.
+    plan_a_0(rt, &to_the_last_visit(73, 85))?;
+    // The last reading that resumes, at 85 resume 8 0; and one tick later, stay 8 -1, and the end resumes.
+    plan_a_3(rt, &to_the_last_visit(85, 100))?;
+    plan_a_3(rt, &to_the_last_visit(86, 94))
+}
+
+// Plays decisions before the last point while the others are suspended: a return, and a stay.
+fn early_returns(rt: &impl Print) -> io::Result<()> {
+    // Two stops and two returns: at 29 suspend 44 -1, at 35 resume 32 2, at 60 suspend 20 -8, at 76 resume 8 9, ended.
+    plan_a_3(
+        rt,
+        &[
+            Call::Release,
+            Call::Report(0, 0),
+            Call::Report(1, 29),
+            Call::Report(1, 35),
+            Call::Report(1, 60),
+            Call::Report(1, 76),
+            Call::End(91),
+        ],
+    )?;
+    // Visit 2 at 38: stay 32 -1.
+    plan_a_3(
+        rt,
+        &[
+            Call::Release,
+            Call::Report(0, 0),
+            Call::Report(1, 29),
+            Call::Report(1, 38),
+        ],
+    )
+}
+
+// The cases of edition 2.
+fn returns(rt: &impl Print) -> io::Result<()> {
+    last_returns(rt)?;
+    early_returns(rt)
+}
+
 fn main(rt: HostRuntime) -> io::Result<()> {
     cases_of_a(&rt)?;
     cases_of_b(&rt)?;
-    smallest_cases(&rt)
+    smallest_cases(&rt)?;
+    returns(&rt)
 }

@@ -1,4 +1,4 @@
--- The marked cases hold in every memory that holds the table of their plan.
+-- The marked cases, and those of edition 2, hold in every memory that holds the table of their plan.
 use mathlib.Core.List.{List, [], ◌∷◌, map}
 use mathlib.Core.Path.{◌≡◌, ap, sym, ◌∙◌, subst}
 use Prim.Native.Nat.{ℕ}
@@ -11,11 +11,11 @@ use Rattle.model.proofs.Links.{plan_spans}
 use Rattle.model.proofs.Leaves.{spans_all_row}
 use Rattle.model.proofs.Theorems.{stretch_is_largest}
 use Rattle.table.specs.Table.{Table}
-use Rattle.control.specs.Cases.{Case, cases, CaseHolds, CasesHold}
+use Rattle.control.specs.Cases.{Case, cases, returns, CaseHolds, CasesHold}
 use Rattle.control.specs.State.{fresh}
 use Rattle.control.specs.Calls.{controller_of}
 use Rattle.model.specs.Histories.{Answered}
-use Rattle.control.proofs.Cases.{cases_right}
+use Rattle.control.proofs.Cases.{cases_right, returns_right}
 use Rattle.control.proofs.Columns.{holds_self, row_entry}
 use Rattle.rolsipay.specs.Calling.{zeros}
 use Rattle.demands.specs.Delivered.{Memory}
@@ -51,3 +51,6 @@ each (c ∷ cs) (r, rs) = (record { accepted = r.accepted; stretches_are = stret
 
 pub each_right : EachRight cases
 each_right = each cases cases_right
+
+pub each_return_right : EachRight returns
+each_return_right = each returns returns_right

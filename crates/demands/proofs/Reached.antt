@@ -17,6 +17,7 @@ use Rattle.model.specs.declared.Call.{Call}
 use Rattle.model.specs.declared.Call.TheVariants.{Release, Report, End}
 use Rattle.model.specs.declared.Answer.{Answer}
 use Rattle.model.specs.declared.Answer.TheVariants.{Refused}
+use Rattle.model.specs.declared.Others.{Others}
 use Rattle.model.specs.Calls.{Accepts, Reply, refuse}
 use Rattle.model.specs.Decisions.{Decision, Fit}
 use Rattle.model.specs.Timed.{PointOf, last_reading, opened, Refusable}
@@ -33,7 +34,7 @@ use Rattle.rolsipay.specs.declared.State.{State}
 use Rattle.rolsipay.specs.Calling.{zeros, state_of, lent}
 use Rattle.demands.specs.Delivered.{Memory, after_read, ReadAs, delivered}
 use Rattle.demands.specs.Rules.{TableOf, Refuses, no_plan, nowhere, busy, unfit, idle_report, idle_end, stranger, backward_report, backward_end, astray_report, astray_end}
-use Rattle.demands.specs.Decisions.{Closes, resumes, just_ends}
+use Rattle.demands.specs.Decisions.{ClosesBy, resumes, just_ends}
 use Rattle.demands.proofs.Tables.{table_held, own_text, read_holds, one_plan}
 use Rattle.demands.proofs.Calls as calls
 use Rattle.demands.proofs.Calls.{fate, point_test}
@@ -119,7 +120,7 @@ module _ (p : Plan) (m : Memory) (o : TableOf p m) where
 
   -- A fresh state, or one after an accepted release and accepted reports.
   abbrev pub Known : State → Type 0
-  Known s = (s ≡ zeros) ⊎ ((h : List ℕ) × (ds : List Decision) × Since (delivered m) s h ds)
+  Known s = (s ≡ zeros) ⊎ ((others : Others) × (h : List ℕ) × (ds : List Decision) × Since (delivered m) s others h ds)
 
   -- The state behind a call: where an accepted one leads, or the one before it.
   behind : (s : State) (c : Call) → (Accepts (answer s c) → Known ((delivered m).respond s c).state) → Known s → Known ((delivered m).respond s c).state
@@ -130,21 +131,22 @@ module _ (p : Plan) (m : Memory) (o : TableOf p m) where
       by (inr (k, w, e)) = subst Known (sym (refused_keeps m s c k ((refused_exactly m s c k).1 w))) x
 
   -- The end leaves a fresh state.
-  closes_fresh : {ds : List Decision} {r : ℕ} {x : Reply State} → Closes p ds r x → x.state ≡ zeros
+  closes_fresh : {may_run : Type 0} {r : ℕ} {x : Reply State} → ClosesBy may_run p r x → x.state ≡ zeros
   closes_fresh (resumes q) = refl
   closes_fresh (just_ends q) = refl
 
   -- A call on a fresh state.
   from_fresh : (c : Call) → Known ((delivered m).respond zeros c).state
-  from_fresh Release = behind zeros Release (λ q. inr ([], _, since.released q)) (inl refl)
+  from_fresh Release = behind zeros Release (λ q. inr (_, [], _, since.released q)) (inl refl)
   from_fresh (Report n r) = inl (refused_keeps m zeros (Report n r) Idle ((refused_exactly m zeros (Report n r) Idle).1 (idle_report o refl)))
   from_fresh (End r) = inl (refused_keeps m zeros (End r) Idle ((refused_exactly m zeros (End r) Idle).1 (idle_end o refl)))
 
   -- A call on a state behind a history.
-  from_known : (s : State) (h : List ℕ) (ds : List Decision) → Since (delivered m) s h ds → (c : Call) → Known ((delivered m).respond s c).state
-  from_known s h ds w Release = behind s Release (λ q. absurd (decisions.none_released p m o w q)) (inr (h, ds, w))
-  from_known s h ds w (Report n r) = behind s (Report n r) (λ q. inr (_, _, since.reported w n r q)) (inr (h, ds, w))
-  from_known s h ds w (End r) = behind s (End r) (λ q. inl (closes_fresh (decisions.end_closes p m o w r q))) (inr (h, ds, w))
+  from_known : {s : State} {others : Others} {h : List ℕ} {ds : List Decision} → Since (delivered m) s others h ds → (c : Call) →
+      Known ((delivered m).respond s c).state
+  from_known {s} w Release = behind s Release (λ q. absurd (decisions.none_released p m o w q)) (inr (_, _, _, w))
+  from_known {s} w (Report n r) = behind s (Report n r) (λ q. inr (_, _, _, since.reported w n r q)) (inr (_, _, _, w))
+  from_known {s} w (End r) = behind s (End r) (λ q. inl (closes_fresh (decisions.end_closes p m o w r q))) (inr (_, _, _, w))
 
   -- Every list of calls leads to such a state.
   pub reached_known : {s : State} → Reached (delivered m) s → Known s
@@ -153,7 +155,7 @@ module _ (p : Plan) (m : Memory) (o : TableOf p m) where
     where
       by : Known s → Known ((delivered m).respond s c).state
       by (inl e) = subst (λ x. Known ((delivered m).respond x c).state) (sym e) (from_fresh c)
-      by (inr (h, ds, w)) = from_known s h ds w c
+      by (inr (others, h, ds, w)) = from_known w c
 
   -- THE CALLS THAT THE RULES REFUSE
 
@@ -181,7 +183,7 @@ module _ (p : Plan) (m : Memory) (o : TableOf p m) where
   refusable_fresh f (End r) = ((λ x. tt), λ u. (Idle, idle_end o refl))
 
   -- Behind a history.
-  module _ {s : State} {h : List ℕ} {ds : List Decision} (w : Since (delivered m) s h ds) where
+  module _ {s : State} {others : Others} {h : List ℕ} {ds : List Decision} (w : Since (delivered m) s others h ds) where
     -- Why a report is refused, and that it is.
     report_why : (n r : ℕ) → SomeRefusal s (Report n r) → ¬ PointOf p n ⊎ ((r < last_reading ds) ⊎ ¬ Reported (main p) (h ++ (n ∷ [])))
     report_why n r x = by (is_point (all_leaves p.functions) n) (point_test p n)

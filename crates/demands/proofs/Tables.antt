@@ -118,6 +118,8 @@ table_numbers p m o =
     record {
       deadline = ap (λ (t : Table). t.head.deadline) e;
       switch = ap (λ (t : Table). t.head.switch) e;
+      edition = ap (λ (t : Table). t.head.edition) e;
+      resume = ap (λ (t : Table). t.head.resume) e;
       total = subst (Total (main p)) (sym (ap (λ (t : Table). t.head.total) e)) (model.total_is_largest p).0;
       max_load_total = subst (MaxLoadTotal (main p)) (sym (ap (λ (t : Table). t.head.max_load_total) e)) (model.total_is_largest p).1;
     }

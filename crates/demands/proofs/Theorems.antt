@@ -9,6 +9,7 @@ use lib.ListN.{length, drop}
 use Rattle.std.specs.Prelude.{Ok, Err}
 use Rattle.model.specs.declared.Refusal.{Refusal}
 use Rattle.model.specs.declared.Refusal.TheVariants.{Broken}
+use Rattle.model.specs.declared.Edition.TheVariants.{First}
 use Rattle.model.specs.Plan.{Block, Plan}
 use Rattle.model.specs.Forms.{main}
 use Rattle.model.specs.Runs.{Run, visits}
@@ -17,26 +18,27 @@ use Rattle.model.specs.Acceptance.{sizes, Fits, Accepted}
 use Rattle.model.specs.declared.Call.{Call}
 use Rattle.model.specs.declared.Call.TheVariants.{Release, Report, End}
 use Rattle.model.specs.declared.Answer.TheVariants.{Refused}
+use Rattle.model.specs.declared.Others.{Others}
 use Rattle.model.specs.declared.Others.TheVariants.{Running}
 use Rattle.model.specs.Calls.{Accepts}
-use Rattle.model.specs.Decisions.{Decision, Fit}
+use Rattle.model.specs.Decisions.{Decision, MayRun, Fit}
 use Rattle.model.specs.Timed.{PointOf, last_reading, Refusable, CallList, closed, opened, KeepsDeadline, Plays}
 use Rattle.model.specs.Histories.{Reached, Since}
-use Rattle.model.specs.Worked.{plan_A}
+use Rattle.model.specs.Worked.{plan_A, returning_A}
 use Rattle.model.proofs.Theorems as model
 use Rattle.reader.specs.Print.{print}
 use Rattle.table.proofs.Theorems as table
 use Rattle.control.specs.declared.OpenRelease.{OpenRelease}
 use Rattle.control.specs.declared.State.TheVariants.{Idle, Open}
 use Rattle.control.specs.Meaning.{StandsSomewhere, HistoryState}
-use Rattle.control.specs.Cases.{worst_of_A, cases}
+use Rattle.control.specs.Cases.{worst_of_A, cases, worst_of_returning_A}
 use Rattle.rolsipay.specs.declared.State.{State}
 use Rattle.rolsipay.specs.Calling.{zeros, state_of}
 use Rattle.demands.specs.Delivered.{Memory, read_answer, after_read, ReadAs, delivered}
 use Rattle.demands.specs.Rules.{Ruled, TableOf, Refuses}
 use Rattle.demands.specs.Tables.{Numbers}
-use Rattle.demands.specs.Decisions.{Decides, Closes}
-use Rattle.demands.specs.Lists.{exchanges, text_A}
+use Rattle.demands.specs.Decisions.{Decides, DecidesAsBefore, Closes, ClosesAsBefore}
+use Rattle.demands.specs.Lists.{exchanges, text_A, text_returning_A}
 use Rattle.demands.specs.Cases.{EachRight}
 use Rattle.demands.proofs.Tables as tables
 use Rattle.demands.proofs.Decisions as decisions
@@ -82,7 +84,7 @@ pub later_records_kept : (text : List ℕ) (m : Memory) (p : Plan) → ReadAs te
     drop (sizes p.functions) (after_read text m).row ≡ drop (sizes p.functions) m.row
 later_records_kept = tables.later_records
 
--- Memory that holds the table of p has p's D and T and its totals in its head; and it holds the table of one plan at most.
+-- Memory that holds the table of p has p's D and T, its edition with U, and its totals in its head; and it holds the table of one plan at most.
 pub table_says : (p : Plan) (m : Memory) → TableOf p m → Numbers p m
 table_says = tables.table_numbers
 
@@ -104,13 +106,14 @@ idle_as_fresh = reached.idle_released
 -- Consider lent memory that holds the table of the accepted plan p.
 module _ (p : Plan) (m : Memory) (o : TableOf p m) where
   -- Whatever the calls, refused ones included, each state that they lead to from one of zeros is all zeros, or comes after an accepted release and accepted
-  -- reports h with the decisions ds, the latest first.
-  pub every_state_known : {s : State} → Reached (delivered m) s → (s ≡ zeros) ⊎ ((h : List ℕ) × (ds : List Decision) × Since (delivered m) s h ds)
+  -- reports h with the decisions ds, the latest first, and what the others do by the answers.
+  pub every_state_known : {s : State} → Reached (delivered m) s →
+      (s ≡ zeros) ⊎ ((others : Others) × (h : List ℕ) × (ds : List Decision) × Since (delivered m) s others h ds)
   every_state_known = reached.reached_known p m o
 
   -- After one report or more a release is open in the lent state, and its place and its remaining times are those of its history: some run with these reports
   -- stands at its stack of points, open loops and calls with their visit counts, and its 33 remaining times are that run's.
-  pub state_is_of_history : {s : State} {n : ℕ} {h : List ℕ} {ds : List Decision} → Since (delivered m) s (n ∷ h) ds →
+  pub state_is_of_history : {s : State} {others : Others} {n : ℕ} {h : List ℕ} {ds : List Decision} → Since (delivered m) s others (n ∷ h) ds →
       (o : OpenRelease) × (state_of s ≡ Open o) × HistoryState p o (n ∷ h)
   state_is_of_history = decisions.history_state p m o
 
@@ -120,37 +123,59 @@ module _ (p : Plan) (m : Memory) (o : TableOf p m) where
 
   -- Its answer has the total as remaining, and the release's stretch; it is go if the condition holds and suspend if not.
   pub release_decides : Accepts ((delivered m).respond zeros Release).answer →
-      Decides p [] (record { history = []; reading = 0 }) ((delivered m).respond zeros Release).answer
+      Decides p [] (record { history = []; reading = 0; others = Running }) ((delivered m).respond zeros Release).answer
   release_decides = decisions.release_decided p m o
 
-  -- Consider any state after an accepted release and accepted reports h with the decisions ds, the latest first.
-  module _ {s : State} {h : List ℕ} {ds : List Decision} (w : Since (delivered m) s h ds) where
+  -- A plan whose task line has two numbers is of edition 1. On its table the answer is word for word what it was before there were editions.
+  pub two_numbers_at_release : p.edition ≡ First → Accepts ((delivered m).respond zeros Release).answer →
+      DecidesAsBefore p [] (record { history = []; reading = 0; others = Running }) ((delivered m).respond zeros Release).answer
+  two_numbers_at_release = decisions.release_as_before p m o
+
+  -- Consider any state after an accepted release and accepted reports h with the decisions ds, the latest first, where the others do this by the answers.
+  module _ {s : State} {others : Others} {h : List ℕ} {ds : List Decision} (w : Since (delivered m) s others h ds) where
+    -- The others run there exactly where they may: in edition 1 where the condition held at each of these decisions, in edition 2 where the rule held at the
+    -- latest.
+    pub others_known : (others ≡ Running) ↔ MayRun p ds
+    others_known = decisions.others_told p m o w
+
     -- A report is accepted exactly when its number is a point of the plan, its reading is not below the last accepted one, and some run has these
     -- reports in this order.
     pub report_accepted_exactly : (n reading : ℕ) → Accepts ((delivered m).respond s (Report n reading)).answer ↔
         (PointOf p n × (last_reading ds ≤ reading) × Reported (main p) (h ++ (n ∷ [])))
     report_accepted_exactly = decisions.report_exactly p m o w
 
-    -- Its answer has as remaining the largest isolated sum over all ways the run can still go, and the stretch of this visit. It says suspend exactly at the
-    -- first decision where the condition fails, go before that and stay behind it.
+    -- Its answer has as remaining the largest isolated sum over all ways the run can still go, and the stretch of this visit. In edition 1 it says suspend
+    -- exactly at the first decision where the condition fails, go before that and stay behind it. In edition 2, where the others ran before it, it says go
+    -- exactly if the condition holds, else suspend; where they were suspended, resume exactly if the rule of return holds, else stay.
     pub report_decides : (n reading : ℕ) → Accepts ((delivered m).respond s (Report n reading)).answer →
-        Decides p ds (record { history = h ++ (n ∷ []); reading = reading }) ((delivered m).respond s (Report n reading)).answer
+        Decides p ds (record { history = h ++ (n ∷ []); reading = reading; others = others }) ((delivered m).respond s (Report n reading)).answer
     report_decides = decisions.report_decided p m o w
+
+    -- In a plan of edition 1 it is word for word what it was before there were editions, whatever the others did: no U is in it.
+    pub two_numbers_at_report : p.edition ≡ First → (n reading : ℕ) → Accepts ((delivered m).respond s (Report n reading)).answer →
+        DecidesAsBefore p ds (record { history = h ++ (n ∷ []); reading = reading; others = others }) ((delivered m).respond s (Report n reading)).answer
+    two_numbers_at_report = decisions.report_as_before p m o w
 
     -- An end is accepted exactly when its reading is not below the last accepted one and some run has exactly these reports.
     pub end_accepted_exactly : (reading : ℕ) → Accepts ((delivered m).respond s (End reading)).answer ↔ ((last_reading ds ≤ reading) × Complete (main p) h)
     end_accepted_exactly = decisions.end_exactly p m o w
 
-    -- It answers resume if the others were suspended and ended if not, and every number of the state is 0 again.
+    -- It answers ended if the others may run behind these decisions and resume if not, so that they were suspended, and every number of the state is 0 again.
     pub end_closes : (reading : ℕ) → Accepts ((delivered m).respond s (End reading)).answer → Closes p ds reading ((delivered m).respond s (End reading))
     end_closes = decisions.end_closes p m o w
 
+    -- In a plan of edition 1 that is, as before there were editions, ended exactly if the condition held at each of them.
+    pub two_numbers_at_end : p.edition ≡ First → (reading : ℕ) → Accepts ((delivered m).respond s (End reading)).answer →
+        ClosesAsBefore p ds reading ((delivered m).respond s (End reading))
+    two_numbers_at_end = decisions.end_as_before p m o w
+
 -- DEMAND 3: THE DEADLINE
 
--- Consider any lent memory, any text that is read into it as a plan p, and let p's total + T be within its D. Every list of release, report and end calls on
--- this memory that document 01 describes, from a state of zeros and with the others running, keeps the claim: every call of a timed run is accepted, each
--- reading there is at most D and no late mark is set, and after each call, also a refused one, the others run exactly when no release is open or the
--- condition held at the open release and at every decision since. (Which plan a text is read as is said by `read_as_exactly`.)
+-- Consider any lent memory, any text that is read into it as a plan p, of either edition, and let p's total + T be within its D. Every list of release,
+-- report and end calls on this memory that document 01 describes, from a state of zeros and with the others running, keeps the claim. Every call of a timed
+-- run is accepted, each reading there is at most D and no late mark is set. After each call, also a refused one, the others run exactly when no release is
+-- open or: in edition 1, the condition held at the open release and at every decision since; in edition 2, the rule held at the latest decision, the
+-- condition where they ran before it, the rule of return where they were suspended. (Which plan a text is read as is said by `read_as_exactly`.)
 pub deadline_kept : (text : List ℕ) (m : Memory) (p : Plan) → ReadAs text m p → Fit p → KeepsDeadline p (delivered (after_read text m))
 deadline_kept text m p e f = delivering.keeps_deadline p (after_read text m) (table_written text m p e) f
 
@@ -161,12 +186,12 @@ pub refusable_while_closed : (p : Plan) (m : Memory) → TableOf p m → Fit p �
 refusable_while_closed = reached.refusable_fresh
 
 -- The same behind an accepted release and accepted reports.
-pub refusable_while_open : (p : Plan) (m : Memory) → TableOf p m → {s : State} {h : List ℕ} {ds : List Decision} → Since (delivered m) s h ds →
+pub refusable_while_open : (p : Plan) (m : Memory) → TableOf p m → {s : State} {others : Others} {h : List ℕ} {ds : List Decision} → Since (delivered m) s others h ds →
     (clock : ℕ) (to_come : List Block) (c : Call) →
     ((k : Refusal) × Refuses m (state_of s) c k) ↔ Refusable p (opened (record { clock = clock; to_come = to_come; history = h; decisions = ds })) c
 refusable_while_open p m o w = reached.refusable_open p m o w
 
--- There are such lists: every run of the plan, with any ticks and any switches, is played by one.
+-- There are such lists: every run of the plan, with any ticks and any time for each switch and each return, is played by one.
 pub every_run_played : (m : Memory) (p : Plan) (ticks switches : ℕ → ℕ) (r : Run (main p)) →
     (z : CallList p (delivered m) zeros Running closed) × Plays p (delivered m) ticks switches 0 z (visits r)
 every_run_played m p ticks switches r = model.every_run_played p (delivered m) ticks switches r
@@ -179,6 +204,16 @@ plan_A_read m room = worst.read_A (length m.row) room
 pub worst_case_played : (m : Memory) → 4 ≤ length m.row → (z : CallList plan_A (delivered (after_read text_A m)) zeros Running closed) ×
     (exchanges plan_A (delivered (after_read text_A m)) z ≡ worst_of_A)
 worst_case_played m room = worst.worst_A (after_read text_A m) (table_written text_A m plan_A (plan_A_read m room))
+
+-- The text of plan A with a third number, U 3, is read as that plan of edition 2, into any row of four records or more.
+pub returning_A_read : (m : Memory) → 4 ≤ length m.row → ReadAs text_returning_A m returning_A
+returning_A_read m room = worst.read_returning_A (length m.row) room
+
+-- A run of it in which every visit takes its most, the switch T and the way back U is a list of demand 3: its calls and their answers are these. The others
+-- are suspended at 57, resume at 73, and the end comes at 73 + 3 + 4 + 8 = 88.
+pub return_played : (m : Memory) → 4 ≤ length m.row → (z : CallList returning_A (delivered (after_read text_returning_A m)) zeros Running closed) ×
+    (exchanges returning_A (delivered (after_read text_returning_A m)) z ≡ worst_of_returning_A)
+return_played m room = worst.worst_returning_A (after_read text_returning_A m) (table_written text_returning_A m returning_A (returning_A_read m room))
 
 -- RULE 11 AND THE MARKED CASES
 

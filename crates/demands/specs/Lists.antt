@@ -1,4 +1,4 @@
--- What a list of demand 3 looks like from outside: its calls, each with its answer; and the text of plan A.
+-- What a list of demand 3 looks like from outside: its calls, each with its answer; and the texts of plan A, with two numbers and with three.
 -- Assumes nothing: these are definitions.
 use Rattle.std.specs.Prelude.{List, [], ◌∷◌, ℕ}
 use Rattle.text.specs.Text.{bytes}
@@ -22,3 +22,7 @@ exchanges p k (ends {s = s} {o = o} e z) = (End o.clock gets answer p k s (End o
 -- The text of plan A (01, 'Plans worked through').
 unfoldable pub text_A : List ℕ
 text_A = bytes "(task 100 4\n(fun\n(leaf p 5 9)\n(loop p 3 2 4\n(leaf s 10 20)\n)\n(leaf s 6 8)\n)\n)\n"
+
+-- The text of plan A with U 3, a plan of edition 2 (02, L7).
+unfoldable pub text_returning_A : List ℕ
+text_returning_A = bytes "(task 100 4 3\n(fun\n(leaf p 5 9)\n(loop p 3 2 4\n(leaf s 10 20)\n)\n(leaf s 6 8)\n)\n)\n"

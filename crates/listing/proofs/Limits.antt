@@ -1,4 +1,5 @@
--- The numbers that are listed of an accepted plan are small: a leaf number is below 512, a level at most 32, T at most 2^20, and any other at most 2^40.
+-- The numbers that are listed of an accepted plan are small: a leaf number is below 512, a level at most 32, T and U at most 2^20, and any other at
+-- most 2^40.
 -- Assumes nothing.
 use mathlib.Core.Bool.{Bool, true, false}
 use mathlib.Core.List.{List, [], ◌∷◌, ◌++◌}
@@ -6,7 +7,8 @@ use mathlib.Core.Path.{◌≡◌, refl, ap}
 use Prim.Native.Nat.{ℕ, suc, ◌+◌, ◌-◌, ◌^◌, ◌≤◌, ◌<◌}
 use native.Mathlib.Omega.{arith}
 use lib.ListN.{length, get_or, take, length-map}
-use Rattle.model.specs.Plan.{Block, C, M, Lines, close, leaf_line, call_line, loop_line, if_line, Plan, leaves, all_leaves}
+use Rattle.model.specs.Plan.{Block, C, M, Lines, close, leaf_line, call_line, loop_line, if_line, resume_cost, Plan, leaves, all_leaves}
+use Rattle.model.specs.declared.Edition.{Edition}
 use Rattle.model.specs.Forms.{Forms, done, linked, main}
 use Rattle.model.specs.Runs.{sum, cut, silent, Among, Visit}
 use Rattle.model.specs.Total.{total, tallies}
@@ -27,7 +29,7 @@ use Rattle.rows.proofs.Plans.{function_kept}
 use Rattle.columns.proofs.Known.{known_tallies, main_most}
 use Rattle.table.proofs.Holding.{joined_size}
 use Rattle.table.proofs.Bridge.{formed_plan}
-use Rattle.listing.specs.PlanListing.{task_numbers, point_numbers, points_of, all_points, points}
+use Rattle.listing.specs.PlanListing.{resume_numbers, task_numbers, point_numbers, points_of, all_points, points}
 use Rattle.listing.proofs.Each.{Each, each_append}
 use Rattle.listing.proofs.Points.{among_all}
 use Rattle.listing.proofs.Stretches.{leaves_join}
@@ -46,17 +48,19 @@ pub record PointSmall (x : List ℕ) : Type 0 where
   pub tail_low : tail ≤ 2 ^ 40
   pub stretch_low : stretch ≤ 2 ^ 40
 
--- What is listed of the task: a total, a max-load total and a D of at most 2^40, a T of at most 2^20.
+-- What is listed of the task: a total, a max-load total and a D of at most 2^40, a T of at most 2^20, and in edition 2 a U of at most 2^20.
 pub record TaskSmall (x : List ℕ) : Type 0 where
   pub total : ℕ
   pub max_total : ℕ
   pub deadline : ℕ
   pub switch : ℕ
-  pub is : x ≡ total ∷ max_total ∷ deadline ∷ switch ∷ []
+  pub edition : Edition
+  pub is : x ≡ total ∷ max_total ∷ deadline ∷ switch ∷ resume_numbers edition
   pub total_low : total ≤ 2 ^ 40
   pub max_total_low : max_total ≤ 2 ^ 40
   pub deadline_low : deadline ≤ 2 ^ 40
   pub switch_low : switch ≤ 2 ^ 20
+  pub resume_low : resume_cost edition ≤ 2 ^ 20
 
 -- THE LEAVES OF A FUNCTION
 
@@ -204,7 +208,7 @@ module _ (p : Plan) (a : Accepted p) where
 pub points_small : (p : Plan) → Accepted p → Each PointSmall (points p)
 points_small p a = small_all p p.functions (function_small p a)
 
--- Its total, its max-load total and D are at most 2^40, T at most 2^20.
+-- Its total, its max-load total and D are at most 2^40, T and U at most 2^20.
 pub task_small : (p : Plan) → Accepted p → TaskSmall (task_numbers p)
 task_small p a =
     record {
@@ -212,9 +216,11 @@ task_small p a =
       max_total = total M (main p);
       deadline = p.deadline;
       switch = p.switch;
+      edition = p.edition;
       is = refl;
       total_low = (short_total C (main p) (2 ^ 40)).0 a.short;
       max_total_low = (short_total M (main p) (2 ^ 40)).0 a.short_loaded;
       deadline_low = a.formed.deadline_high;
       switch_low = a.formed.switch_range;
+      resume_low = a.formed.resume_range;
     }

@@ -10,9 +10,12 @@ use native.Mathlib.Omega.{arith}
 use lib.Dec.{eqb}
 use lib.ListN.{length, get_or, take, drop, length-append, length-map, get_or-append, get_or-map}
 use lib.Seq.{sets, take_at, get_or-take, get_or-append-add}
-use Rattle.model.specs.Plan.{Block, C, Lines, close, leaf_line, call_line, loop_line, if_line, Plan, leaves, all_leaves}
+use Rattle.model.specs.Plan.{Block, C, M, Lines, close, leaf_line, call_line, loop_line, if_line, resume_cost, Plan, leaves, all_leaves}
+use Rattle.model.specs.declared.Edition.{Edition}
+use Rattle.model.specs.declared.Edition.TheVariants.{First, Second}
+use Rattle.model.specs.Forms.{main}
 use Rattle.model.specs.Runs.{Among}
-use Rattle.model.specs.Total.{tallies}
+use Rattle.model.specs.Total.{total, tallies}
 use Rattle.model.specs.Stretch.{stretch_of}
 use Rattle.model.specs.Tail.{tail}
 use Rattle.model.specs.Levels.{Leveled, own_levels, blocks}
@@ -20,18 +23,20 @@ use Rattle.model.specs.Acceptance.{size, sizes, Formed, Accepted}
 use Rattle.model.specs.Places.{pick, bit}
 use Rattle.model.proofs.Among.{among_left, among_right}
 use Rattle.reader.specs.Outcome.{Outcome, plan, refused}
+use Rattle.reader.specs.Raw.{padded}
 use Rattle.rows.specs.declared.Leaf.{Leaf}
 use Rattle.reader.specs.Records.{leveled_leaves, no_leaf}
 use Rattle.reader.proofs.Theorems.{row_leaf}
 use Rattle.table.specs.declared.Head.{Head}
-use Rattle.table.specs.Table.{Table, table_of, head_of, all_tails, plan_of}
+use Rattle.table.specs.Table.{Table, table_of, head_of, edition_of, all_tails, plan_of}
 use Rattle.table.specs.Reading.{verdict, result_of}
 use Rattle.table.specs.Lent.{table_with, leaf_of, leaves_from, row_after}
 use Rattle.table.proofs.Holding.{leaves_size}
 use Rattle.table.proofs.Lent.{length_leaves}
+use Rattle.table.proofs.Plans.{edition_said}
 use Rattle.std.specs.Prelude.{Ok}
 use Rattle.table.proofs.Theorems.{read_as_plan, plan_of_table, read_back}
-use Rattle.listing.specs.PlanListing.{point_numbers, points_of, all_points, points, outcome_points}
+use Rattle.listing.specs.PlanListing.{resume_numbers, task_numbers, point_numbers, points_of, all_points, points, outcome_points}
 use Rattle.listing.specs.Summary.{summary_of}
 use Rattle.listing.specs.Private.{leaf_points, leaves_points, Collected}
 use Rattle.listing.proofs.Each.{Each, each_append}
@@ -219,6 +224,15 @@ few_of_text text = by (verdict 512 text) (λ p e. ((read_as_plan 512 text p).0 e
 
 -- FROM THE LENT MEMORY
 
+-- The numbers of the task in five places: U is 0 in edition 1.
+task_stored : (p : Plan) → padded 5 (task_numbers p) ≡ total C (main p) ∷ total M (main p) ∷ p.deadline ∷ p.switch ∷ resume_cost p.edition ∷ []
+task_stored p = by p.edition
+  where
+    by : (e : Edition) → padded 5 (total C (main p) ∷ total M (main p) ∷ p.deadline ∷ p.switch ∷ resume_numbers e) ≡
+        total C (main p) ∷ total M (main p) ∷ p.deadline ∷ p.switch ∷ resume_cost e ∷ []
+    by First = refl
+    by (Second u) = refl
+
 -- The leaves of the table of a plan are the plan's, with their stretches in a column that begins with them.
 module _ (p : Plan) (f : Formed p) (c : List ℕ) (stretched : take (sizes p.functions) c ≡ map (stretch_of p) (all_leaves p.functions)) where
   plan_shown : Shown p c 0 p.functions
@@ -265,8 +279,11 @@ module _ {text : List ℕ} {h : Head} (r : Read text h) (row : List Leaf) {read 
       all : leaves_points c 0 (take h.leaves read) ≡ points r.of
       all = rw (left, r.is, r.head) (plan_collected r.of r.accepted.formed c stretched row)
 
-      pub collected_summary : Ok (record { task = h.total ∷ h.max_load_total ∷ h.deadline ∷ h.switch ∷ []; count = count }) ≡ summary_of (verdict 512 text)
-      collected_summary = rw (r.is, r.head, g.counted, all) refl
+      pub collected_summary : {n : ℕ} {e : Edition} → e ≡ edition_of h.edition h.resume → n ≡ 4 + length (resume_numbers e) →
+          Ok (record { task = h.total ∷ h.max_load_total ∷ h.deadline ∷ h.switch ∷ h.resume ∷ []; task_count = n; count = count }) ≡ summary_of (verdict 512 text)
+      collected_summary {n} s t =
+          let many : n ≡ length (task_numbers r.of) = omega (arith, t, ap (λ (x : Edition). length (resume_numbers x)) (s ∙ edition_said h r.of r.head)) in
+          rw (r.is, many, g.counted, all, r.head, task_stored r.of) refl
 
       pub collected_points : m ≡ sets l 0 (outcome_points (verdict 512 text))
       collected_points = g.stored ∙ rw (all, r.is) refl

@@ -7,14 +7,18 @@ use native.Mathlib.Numerals.{add-one}
 use native.Mathlib.Omega.{arith}
 use lib.Dec.{eqb}
 use lib.ListN.{length, get_or}
-use Rattle.model.specs.Plan.{Plan}
+use Rattle.model.specs.Plan.{C, M, Plan}
+use Rattle.model.specs.declared.Edition.{Edition}
+use Rattle.model.specs.declared.Edition.TheVariants.{First, Second}
+use Rattle.model.specs.Forms.{main}
+use Rattle.model.specs.Total.{total}
 use Rattle.text.specs.Text.{bytes, lines}
 use Rattle.text.specs.Patterns.{is_upper, item, match, matched}
 use Rattle.text.specs.Spelling.{decimal}
 use Rattle.text.proofs.Decimal.{Apart}
 use Rattle.text.proofs.Spell.{nothing, ends, lines_one, ends_decimal, item_decimal}
 use Rattle.print.specs.Lines.{number_field, number_fields, numbers_line, task_line, point_line}
-use Rattle.listing.specs.PlanListing.{task_numbers, points, plan_listing}
+use Rattle.listing.specs.PlanListing.{resume_numbers, task_numbers, task_pattern, points, plan_listing}
 use Rattle.listing.proofs.Each.{Each}
 use Rattle.listing.proofs.Numbers.{Four}
 use Rattle.listing.proofs.Points.{few_all}
@@ -82,11 +86,17 @@ each_read (x ∷ xs) zero f h =
     fields_read (bytes "NLCS") x (refl, refl, (refl, refl, (refl, refl, (refl, refl, tt)))) (omega (arith, f.0))
 each_read (x ∷ xs) (suc i) f h = each_read xs i f.1 (omega arith)
 
+-- Those of a task by the pattern of its edition.
+of_task : (e : Edition) (a b d t : ℕ) →
+    matched (task_pattern e) false (task_line (a ∷ b ∷ d ∷ t ∷ resume_numbers e)) ≡ match false (a ∷ b ∷ d ∷ t ∷ resume_numbers e)
+unfolding numbers_line matched item spaced Capitals
+of_task First a b d t = fields_read (bytes "ABDT") (a ∷ b ∷ d ∷ t ∷ []) (refl, refl, (refl, refl, (refl, refl, (refl, refl, tt)))) refl
+of_task (Second u) a b d t =
+    fields_read (bytes "ABDTU") (a ∷ b ∷ d ∷ t ∷ u ∷ []) (refl, refl, (refl, refl, (refl, refl, (refl, refl, (refl, refl, tt))))) refl
+
 -- The numbers of the first line are read back from its text,
-pub task_read : (p : Plan) → matched (bytes "task A B D T") false (get_or (lines (plan_listing p)) 0 []) ≡ match false (task_numbers p)
-task_read p =
-    rw (lines_of_listing p) (unfold numbers_line matched item spaced Capitals in
-    fields_read (bytes "ABDT") (task_numbers p) (refl, refl, (refl, refl, (refl, refl, (refl, refl, tt)))) refl)
+pub task_read : (p : Plan) → matched (task_pattern p.edition) false (get_or (lines (plan_listing p)) 0 []) ≡ match false (task_numbers p)
+task_read p = rw (lines_of_listing p) (of_task p.edition (total C (main p)) (total M (main p)) p.deadline p.switch)
 
 -- and those of each point from its line.
 pub point_read : (p : Plan) (i : ℕ) → i < length (points p) →

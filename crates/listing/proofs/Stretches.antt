@@ -2,7 +2,7 @@
 use mathlib.Core.List.{List, [], map, map-append}
 use mathlib.Core.Option.{some}
 use mathlib.Core.Path.{◌≡◌, refl, sym, ap, ◌∙◌, subst}
-use Prim.Native.Nat.{ℕ, ◌+◌, ◌-◌, ◌*◌, ◌^◌, ◌≤◌}
+use Prim.Native.Nat.{ℕ, ◌+◌, ◌-◌, ◌*◌, ◌^◌, ◌≤◌, ◌<◌}
 use native.Mathlib.Omega.{arith}
 use lib.ListN.{length, get_or, take, length-map}
 use lib.Seq.{take_all}
@@ -17,7 +17,7 @@ use Rattle.model.proofs.Limits.{short_total}
 use Rattle.model.proofs.Statics.{plan_totals, main_last}
 use Rattle.model.proofs.Theorems.{static_stretches}
 use Rattle.reader.specs.Raw.{padded}
-use Rattle.reader.proofs.Tasks.{padded_same}
+use Rattle.reader.proofs.Tasks.{length_padded, padded_same}
 use Rattle.rows.specs.declared.Leaf.{Leaf}
 use Rattle.rows.specs.Leaves.{numbers, lent_max_load_turns}
 use Rattle.rows.specs.Plans.{lines_of}
@@ -121,6 +121,11 @@ module _ {p : Plan} (ls : List Leaf) (h : Head) (e : plan_of (table_with ls h) �
 
     turned : lent_max_load_turns us ≡ take h.leaves (lent_max_load_turns ls)
     turned = ap (λ (u : List Leaf). lent_max_load_turns u) row ∙ sym (take-map (λ (l : Leaf). l.max_load_turn) h.leaves ls)
+
+    -- Each function has a bound, and there is one more.
+    pub code_bounded : n < length s
+    code_bounded =
+        rw (bounds, functions, ap (λ (t : Table). t.head) of_plan.1) (omega (arith, length_padded 17 (bounds_of p), of_plan.0.formed.few_functions))
 
     -- What `stretches` asks of that code, and what it gives.
     pub code_summed : Summed M (numbers us) s n h.max_load_totals (lent_max_load_turns us)

@@ -1,8 +1,11 @@
--- The listing of a plan (01, 'Plans worked through'), from the plan alone: the numbers are those of the model's definitions, and no memory is named.
+-- The listing of a plan (01, 'Plans worked through'; 02, L7), from the plan alone: the numbers are those of the model's definitions, and no memory is named.
 -- Assumes nothing: these are definitions.
 use mathlib.Core.List.{List, [], ◌∷◌, ◌++◌, flat_map}
 use Rattle.std.specs.Prelude.{ℕ}
+use Rattle.text.specs.Text.{bytes}
 use Rattle.model.specs.Plan.{C, M, Lines, Plan}
+use Rattle.model.specs.declared.Edition.{Edition}
+use Rattle.model.specs.declared.Edition.TheVariants.{First, Second}
 use Rattle.model.specs.Forms.{main}
 use Rattle.model.specs.Total.{total, tallies}
 use Rattle.model.specs.Stretch.{stretch}
@@ -15,9 +18,14 @@ use Rattle.print.specs.Lines.{task_line, point_line, refused_plan_line}
 
 -- THE NUMBERS
 
--- Of the task: total, max-load total, D, T.
+-- Of what resuming may take (02, L7): U in edition 2, and nothing in edition 1.
+abbrev pub resume_numbers : Edition → List ℕ
+resume_numbers First = []
+resume_numbers (Second u) = u ∷ []
+
+-- Of the task: total, max-load total, D, T, and in edition 2 U.
 abbrev pub task_numbers : Plan → List ℕ
-task_numbers p = total C (main p) ∷ total M (main p) ∷ p.deadline ∷ p.switch ∷ []
+task_numbers p = total C (main p) ∷ total M (main p) ∷ p.deadline ∷ p.switch ∷ resume_numbers p.edition
 
 -- Of a leaf of the function l: number, level in its own function, largest isolated sum from a first visit of it to the end of its own function, stretch.
 abbrev pub point_numbers : Plan → Lines → Leveled → List ℕ
@@ -45,7 +53,12 @@ outcome_points (refused k j) = []
 
 -- THE LINES
 
--- First line: total, max-load total, D, T. Then each point in order.
+-- The pattern of the first line (text/specs/Patterns), by which its numbers are read back: each capital stands for one of them.
+abbrev pub task_pattern : Edition → List ℕ
+task_pattern First = bytes "task A B D T"
+task_pattern (Second u) = bytes "task A B D T U"
+
+-- First line: total, max-load total, D, T, and in edition 2 U. Then each point in order.
 abbrev pub plan_listing : Plan → List ℕ
 plan_listing p = task_line (task_numbers p) ++ flat_map point_line (points p)
 

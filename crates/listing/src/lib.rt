@@ -1,8 +1,8 @@
-// The listing of a plan, or its refusal, as text (document 01, 'Plans worked through'): the numbers that are listed, for this listing and for the review
-// sheet, and their lines.
+// The listing of a plan, or its refusal, as text (document 01, 'Plans worked through'; document 02, L7): the numbers that are listed, for this listing and
+// for the review sheet, and their lines.
 #![tactic(auto)]
 
-ghost use Rattle.std.specs.Prelude.{◌≡◌, ◌*◌, ◌≤◌, ◌<◌, length, take};
+ghost use Rattle.std.specs.Prelude.{◌≡◌, ◌+◌, ◌*◌, ◌≤◌, ◌<◌, length, take};
 ghost use Rattle.std.proofs.Math.Option.{some};
 ghost use mathlib.Core.List.{flat_map, map};
 ghost use Rattle.std.proofs.lemmas.List.Edits.{sets};
@@ -14,10 +14,11 @@ ghost use Rattle.print.specs.Printed.{PrintedWithin};
 ghost use Rattle.table.specs.Table.{plan_of};
 ghost use Rattle.table.specs.Lent.{table_with};
 ghost use Rattle.table.specs.Reading.{verdict};
-ghost use Rattle.listing.specs.PlanListing.{outcome_points, outcome_listing};
+ghost use Rattle.listing.specs.PlanListing.{resume_numbers, outcome_points, outcome_listing};
 ghost use Rattle.listing.specs.Summary.{summary_of};
 ghost use Rattle.listing.specs.Private.{leaves_points, Collected};
 
+use model::Edition;
 use print::{numbers_line, refused_plan_line};
 use reader::RefusedAt;
 use rows::{Cost, Leaf, MAX_LEAVES, PricedCode};
@@ -27,17 +28,18 @@ use table::{Head, read};
 // line is printed from a list of numbers.
 pub const FIELDS: usize = 4;
 
-// How many numbers are listed of the task: the total, the max-load total, D and T.
-const TASK: usize = 4;
+// How many numbers are listed of the task of an edition 2 plan: the total, the max-load total, D, T and U.
+const TASK: usize = 5;
 
 // How many bytes a listing has room for: a line for the task and one for each leaf.
 pub const LISTING: usize = 65664;
 
-// What is listed of a plan beside its points: the total, the max-load total, D and T, and how many points there are. (A number: a slice of
-// the points would keep them lent.)
+// What is listed of a plan beside its points: the numbers of the task and how many these are, those in unused places being 0, and how many points there are.
+// (Numbers: a slice of the points would keep them lent.)
 #[derive(Clone, Copy)]
 pub struct Summary {
     pub task: [u64; TASK],
+    pub task_count: usize,
     pub count: usize,
 }
 
@@ -76,6 +78,16 @@ fn collect_leaves(
     count
 }
 
+// Gives how many numbers are listed of the task of a plan of this edition: in edition 1 U is none of them.
+fn task_count(edition: Edition) -> usize
+    ensures { result ≡ 4 + length (resume_numbers edition) }
+{
+    match edition {
+        Edition::First => TASK - 1,
+        Edition::Second(_) => TASK,
+    }
+}
+
 // Reads a plan text, stores the numbers that are listed of its points, one point behind the other, and gives what else is listed. Of a refused text nothing
 // is stored.
 pub fn collect(points: &mut [[u64; FIELDS]; MAX_LEAVES], text: &[u8]) -> Result<Summary, RefusedAt>
@@ -87,7 +99,14 @@ pub fn collect(points: &mut [[u64; FIELDS]; MAX_LEAVES], text: &[u8]) -> Result<
     let stretch = stretch_column(&row, &head);
     let count = collect_leaves(points, &row[..head.leaves], &stretch);
     Ok(Summary {
-        task: [head.total, head.max_load_total, head.deadline, head.switch],
+        task: [
+            head.total,
+            head.max_load_total,
+            head.deadline,
+            head.switch,
+            head.resume,
+        ],
+        task_count: task_count(head.edition()),
         count,
     })
 }
@@ -115,7 +134,7 @@ pub fn list_text(out: &mut [u8; LISTING], text: &[u8]) -> usize
             refused_plan_line(out, 0, u64::from(refusal), line as u64)
         }
         Ok(summary) => {
-            let first = numbers_line(out, 0, b"task", &summary.task);
+            let first = numbers_line(out, 0, b"task", &summary.task[..summary.task_count]);
             put_points(out, first, &points[..summary.count])
         }
     }

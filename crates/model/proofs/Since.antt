@@ -17,7 +17,7 @@ use Rattle.model.specs.Remaining.{Reported, Complete}
 use Rattle.model.specs.Places.{pick, Traceable}
 use Rattle.model.specs.Stack.{Levels}
 use Rattle.model.specs.Calls.{Call, Release, Report, End, Closed, Others, Running, Controller, Accepts, others_after, refuse}
-use Rattle.model.specs.Decisions.{Place, at_release, at_report, outlook, late, decide, Decision, ConditionAtEach, Fit}
+use Rattle.model.specs.Decisions.{Place, at_release, at_report, late, Decision, MayRun, Fit}
 use Rattle.model.specs.Timed.{last_reading, PointOf}
 use Rattle.model.specs.Controller.{State, idle, running, is_point, next_levels, can_close, decided, reached, ending, respond}
 use Rattle.model.specs.Histories as histories
@@ -26,10 +26,9 @@ use Rattle.model.proofs.Total.{total_largest}
 use Rattle.model.proofs.Histories.{leads_reported}
 use Rattle.model.proofs.Blocks.{is_point_of, point_of_is}
 use Rattle.model.proofs.Nexts.{next_found}
-use Rattle.model.proofs.Outlooks.{Stands, stands_top, next_stands, next_exactly, outlook_is}
-use Rattle.model.proofs.Decisions.{largest_unique, holds_exactly}
-use Rattle.model.proofs.Deadline.{run_on}
-use Rattle.model.proofs.CallLists.{right_more}
+use Rattle.model.proofs.Outlooks.{Stands, stands_top, next_stands, next_exactly}
+use Rattle.model.proofs.Decisions.{largest_unique}
+use Rattle.model.proofs.Permitted.{may_run_first, decision_right}
 use Rattle.model.proofs.Refusing.{next_reported, close_complete}
 
 -- Total and T are within D.
@@ -117,52 +116,56 @@ module _ (p : Plan) where
 
     -- THE STATE OF A HISTORY
 
-    -- The state after a release and reports: its place is that of the history, and the others run exactly where the condition held at all decisions.
-    pub record StateOf (x : State) (h : List ℕ) (ds : List Decision) : Type 0 where
+    -- The state after a release and reports: its place is that of the history, the others do what the answers said, and they run exactly when they may.
+    pub record StateOf (x : State) (others : Others) (h : List ℕ) (ds : List Decision) : Type 0 where
       pub place : Place
-      pub others : Others
       pub state : x ≡ running place (last_reading ds) others
       pub stands : Stands p place h
-      pub right : (others ≡ Running) ↔ ConditionAtEach p ds
+      pub right : (others ≡ Running) ↔ MayRun p ds
 
-    after_release : Accepts (respond p idle Release).answer → StateOf (respond p idle Release).state [] (record { history = []; reading = 0 } ∷ [])
-    unfolding ConditionAtEach
+    after_release : Accepts (respond p idle Release).answer →
+        StateOf (respond p idle Release).state (others_after (respond p idle Release).answer Running) [] (record { history = []; reading = 0; others = Running } ∷ [])
     after_release q =
-        let o = outlook p at_release in
         rw (release_decided q)
         (record {
           place = at_release;
-          others = others_after (decide p o 0 Running) Running;
           state = refl;
           stands = refl;
-          right = right_more {A = Unit} (run_on p o 0 Running) ((λ e. tt), λ e. refl) (holds_exactly p [] 0 o (outlook_is p t at_release [] refl));
+          right = decision_right p t at_release [] 0 Running [] refl ((λ e. may_run_first p), λ e. refl);
         })
 
-    after_report : (x : State) (h : List ℕ) (ds : List Decision) (n u : ℕ) → StateOf x h ds → Accepts (respond p x (Report n u)).answer →
-        StateOf (respond p x (Report n u)).state (h ++ (n ∷ [])) (record { history = h ++ (n ∷ []); reading = u } ∷ ds)
-    unfolding ConditionAtEach
-    after_report x h ds n u k q =
+    after_report : (x : State) (others : Others) (h : List ℕ) (ds : List Decision) (n u : ℕ) → StateOf x others h ds → Accepts (respond p x (Report n u)).answer →
+        StateOf (respond p x (Report n u)).state (others_after (respond p x (Report n u)).answer others) (h ++ (n ∷ []))
+        (record { history = h ++ (n ∷ []); reading = u; others = others } ∷ ds)
+    after_report x others h ds n u k q =
         let e = k.state in
-        let f = report_found k.place (last_reading ds) k.others n u (rw e at q) in
+        let f = report_found k.place (last_reading ds) others n u (rw e at q) in
         let y = at_report n f.levels in
         let s = next_stands p k.place h n f.levels k.stands f.next in
         rw (e, f.reply)
         (record {
           place = y;
-          others = others_after (decide p (outlook p y) u k.others) k.others;
           state = refl;
           stands = s;
-          right = right_more (run_on p (outlook p y) u k.others) k.right (holds_exactly p (h ++ (n ∷ [])) u (outlook p y) (outlook_is p t y (h ++ (n ∷ [])) s));
+          right = decision_right p t y (h ++ (n ∷ [])) u others ds s k.right;
         })
 
     -- A controller whose states R ties to those of the controller over places, which answers as that one does.
     module _ {S : Type 0} (k : Controller S) (R : S → State → Type 0) (first : R k.fresh idle)
         (step : (s : S) (x : State) (c : Call) → R s x → ((k.respond s c).answer ≡ (respond p x c).answer) × R (k.respond s c).state (respond p x c).state) where
-      pub since_state : {s : S} {h : List ℕ} {ds : List Decision} → Since k s h ds → (x : State) × R s x × StateOf x h ds
+      pub since_state : {s : S} {others : Others} {h : List ℕ} {ds : List Decision} → Since k s others h ds → (x : State) × R s x × StateOf x others h ds
       since_state (histories.released q) =
-          let (a, b) = step k.fresh idle Release first in
-          ((respond p idle Release).state, b, after_release (subst Accepts a q))
-      since_state (histories.reported {s = s} {h = h} {ds = ds} w n r q) =
+          let (a, b) = step k.fresh idle Release first in (
+            (respond p idle Release).state,
+            b,
+            subst (λ c. StateOf (respond p idle Release).state (others_after c Running) [] (record { history = []; reading = 0; others = Running } ∷ [])) (sym a)
+                (after_release (subst Accepts a q)),
+          )
+      since_state (histories.reported {s = s} {others = others} {h = h} {ds = ds} w n r q) =
           let (x, i, j) = since_state w in
-          let (a, b) = step s x (Report n r) i in
-          ((respond p x (Report n r)).state, b, after_report x h ds n r j (subst Accepts a q))
+          let (a, b) = step s x (Report n r) i in (
+            (respond p x (Report n r)).state,
+            b,
+            subst (λ c. StateOf (respond p x (Report n r)).state (others_after c others) (h ++ (n ∷ [])) (record { history = h ++ (n ∷ []); reading = r; others = others } ∷ ds)) (sym a)
+                (after_report x others h ds n r j (subst Accepts a q)),
+          )

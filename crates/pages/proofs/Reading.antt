@@ -9,8 +9,10 @@ use lib.Seq.{take_all, take-suc, take-add, get_or-drop, get_or_at, get_or-append
 use borrow.Author.Tests.{le-leb, lt-leb}
 use Rattle.text.specs.Text.{bytes}
 use Rattle.model.specs.Plan.{Plan}
+use Rattle.model.specs.declared.Edition.{Edition}
+use Rattle.model.specs.declared.Edition.TheVariants.{First, Second}
 use Rattle.model.specs.Acceptance.{Accepted}
-use Rattle.listing.specs.PlanListing.{task_numbers, points}
+use Rattle.listing.specs.PlanListing.{resume_numbers, task_numbers, points}
 use Rattle.listing.proofs.Each.{Each, each_at}
 use Rattle.listing.proofs.Limits.{PointSmall, points_small}
 use Rattle.pages.specs.Sheet.{in_fields, sheet_line, heading_widths, point_widths, point_lines, page, pages_to, page_count, sheet_lines}
@@ -58,6 +60,19 @@ point_blanks xs f i h w =
     subst (λ (n : ℕ). drop n (sheet_line point_widths (get_or xs i [])) ≡ replicate (72 - n) 32 ++ bytes "\n") four
     (blanks_behind point_widths (get_or xs i []) w)
 
+-- U takes 14 columns where it is a number of the task,
+resume_taken : (e : Edition) → taken (14 ∷ []) (resume_numbers e) ≡ 14 * length (resume_numbers e)
+resume_taken First = refl
+resume_taken (Second u) = refl
+
+-- as each of the others does, and behind them are blanks.
+task_blanks : (p : Plan) → NoWider heading_widths (task_numbers p) → drop (14 * length (task_numbers p)) (sheet_line heading_widths (task_numbers p)) ≡
+    replicate (72 - 14 * length (task_numbers p)) 32 ++ bytes "\n"
+task_blanks p w =
+    let columns : taken heading_widths (task_numbers p) ≡ 14 * length (task_numbers p) = omega (arith, resume_taken p.edition) in
+    subst (λ (n : ℕ). drop n (sheet_line heading_widths (task_numbers p)) ≡ replicate (72 - n) 32 ++ bytes "\n") columns
+    (blanks_behind heading_widths (task_numbers p) w)
+
 -- Past the last point a line is blank.
 past : (xs : List (List ℕ)) (i : ℕ) → length xs ≤ i → sheet_line point_widths (get_or xs i []) ≡ replicate 72 32 ++ bytes "\n"
 unfolding sheet_line in_fields
@@ -85,7 +100,7 @@ page_read p a k h =
 
 -- What is behind the numbers of a page's lines: blanks to the end; past the last point the line is blank.
 pub page_blanks : (p : Plan) → Accepted p → (k : ℕ) → k < page_count (length (points p)) →
-    (drop 56 (get_or (sheet_lines p) (k * 60) []) ≡ replicate 16 32 ++ bytes "\n") ×
+    (drop (14 * length (task_numbers p)) (get_or (sheet_lines p) (k * 60) []) ≡ replicate (72 - 14 * length (task_numbers p)) 32 ++ bytes "\n") ×
     (drop 14 (get_or (sheet_lines p) (k * 60 + 1) []) ≡ replicate 58 32 ++ bytes "\n") ×
     ((j : ℕ) → j < 57 → k * 57 + j < length (points p) → drop 38 (get_or (sheet_lines p) (k * 60 + 3 + j) []) ≡ replicate 34 32 ++ bytes "\n") ×
     ((j : ℕ) → j < 57 → length (points p) ≤ k * 57 + j → get_or (sheet_lines p) (k * 60 + 3 + j) [] ≡ replicate 72 32 ++ bytes "\n")
@@ -98,7 +113,7 @@ page_blanks p a k h =
     λ j l.
     let e : k * 60 + 3 + j ≡ k * 60 + suc (suc (suc j)) = omega arith in
     rw (e, at (suc (suc (suc j))) h (omega arith), point_line_at (points p) (k * 57) 57 j l) in (
-      rw (rw z at (at 0 h (omega arith))) (blanks_behind heading_widths (task_numbers p) of_task),
+      rw (rw z at (at 0 h (omega arith))) (task_blanks p of_task),
       rw (at 1 h (omega arith)) (blanks_behind heading_widths ((k + 1) ∷ []) (of_page k h)),
       λ j l m. rw (place j l) (point_blanks (points p) (points_small p a) (k * 57 + j) m (of_point (k * 57 + j))),
       λ j l m. place j l ∙ past (points p) (k * 57 + j) m,

@@ -10,9 +10,11 @@ use Rattle.text.specs.Spelling.{decimal}
 use Rattle.text.proofs.Decimal.{tens, decimal_length}
 use Rattle.text.proofs.Length.{deadline_length}
 use Rattle.text.proofs.Spell.{ends, lines_one}
-use Rattle.model.specs.Plan.{Plan}
+use Rattle.model.specs.Plan.{Plan, resume_cost}
+use Rattle.model.specs.declared.Edition.{Edition}
+use Rattle.model.specs.declared.Edition.TheVariants.{First, Second}
 use Rattle.model.specs.Acceptance.{Accepted}
-use Rattle.listing.specs.PlanListing.{task_numbers, points}
+use Rattle.listing.specs.PlanListing.{resume_numbers, task_numbers, points}
 use Rattle.listing.proofs.Each.{Each, each_append, each_at}
 use Rattle.listing.proofs.Points.{few_all}
 use Rattle.listing.proofs.Limits.{PointSmall, TaskSmall, points_small, task_small}
@@ -73,6 +75,11 @@ module _ (P : List ℕ → Type 0) (task : List ℕ) (all : List (List ℕ)) (of
 wide_fits : (n : ℕ) → n ≤ 2 ^ 40 → length (decimal n) ≤ 14
 wide_fits n h = omega (arith, deadline_length n h)
 
+-- A small U is no wider than its field, and in edition 1 there is none.
+resume_fits : (e : Edition) → resume_cost e ≤ 2 ^ 20 → NoWider (14 ∷ []) (resume_numbers e)
+resume_fits First h = tt
+resume_fits (Second u) h = (wide_fits u (omega (arith, h)), tt)
+
 -- Small numbers of a task are no wider than their fields.
 task_fits : {x : List ℕ} → TaskSmall x → NoWider heading_widths x
 task_fits s =
@@ -80,7 +87,7 @@ task_fits s =
       wide_fits s.total s.total_low,
       (
         wide_fits s.max_total s.max_total_low,
-        (wide_fits s.deadline s.deadline_low, (wide_fits s.switch (omega (arith, s.switch_low)), tt)),
+        (wide_fits s.deadline s.deadline_low, (wide_fits s.switch (omega (arith, s.switch_low)), resume_fits s.edition s.resume_low)),
       ),
     )
 

@@ -18,7 +18,7 @@ use Rattle.pages.proofs.Sheets.{sheet_size}
 
 -- The pages of what was collected of a text that was read as a plan are the sheet of the plan, and the buffer has room for them.
 pub sheet_accepted : (text : List ℕ) {v : Summary} {g : List (List ℕ)} {r : ℕ} {l m : List ℕ} → length l ≡ 39420 → Listed text v g →
-    Printed l 0 (flatten (pages_to v.task (take v.count g) (page_count (length (take v.count g))))) m r → Whole 39420 l (outcome_sheet (verdict 512 text)) m r
+    Printed l 0 (flatten (pages_to (take v.task_count v.task) (take v.count g) (page_count (length (take v.count g))))) m r → Whole 39420 l (outcome_sheet (verdict 512 text)) m r
 sheet_accepted text {v} {g} {r} {l} {m} long k q =
     let x = k.of in
     let few : length (points x) ≤ 512 = omega (arith, k.count, k.few) in

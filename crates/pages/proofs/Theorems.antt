@@ -1,6 +1,6 @@
 -- The theorems about the review sheet, to be read. The definitions to believe are in specs/Sheet (the sheet of a plan, from the plan alone) and
 -- specs/ReadBack (what a line of a page is, and how its numbers are read back), and those of the plain listing.
-use Prim.Native.Nat.{ℕ, ◌+◌, ◌*◌, ◌/◌, ◌%◌, ◌≤◌, ◌<◌}
+use Prim.Native.Nat.{ℕ, ◌+◌, ◌-◌, ◌*◌, ◌/◌, ◌%◌, ◌≤◌, ◌<◌}
 use mathlib.Core.Bool.{false}
 use mathlib.Core.Path.{◌≡◌, sym, ap, ◌∙◌}
 use mathlib.Core.List.{List, [], ◌∷◌, ◌++◌}
@@ -15,7 +15,7 @@ use Rattle.model.specs.declared.Refusal.{Refusal}
 use Rattle.reader.specs.Outcome.{refused}
 use Rattle.print.proofs.Theorems.{begins}
 use Rattle.table.specs.Reading.{verdict}
-use Rattle.listing.specs.PlanListing.{task_numbers, points, plan_listing, outcome_listing}
+use Rattle.listing.specs.PlanListing.{task_numbers, task_pattern, points, plan_listing, outcome_listing}
 use Rattle.listing.proofs.Reading as listing
 use Rattle.pages.specs.Sheet.{heading_widths, point_widths, page_count, plan_sheet, outcome_sheet}
 use Rattle.pages.specs.ReadBack.{NoWider, PageLine, in_columns, points_on}
@@ -65,9 +65,10 @@ module _ (p : Plan) (a : Accepted p) where
       ((j : ℕ) → j < 57 → in_columns point_widths (get_or (lines (plan_sheet p)) (k * 60 + 3 + j) []) ≡ get_or (points p) (k * 57 + j) [])
   page_read = rw (sheets.lines_of_sheet p) (reading.page_read p a)
 
-  -- Behind the numbers of a line stand blanks to column 72, and the line feed; past the last point the whole line is blank.
+  -- Behind the numbers of a line, of which each of the task takes 14 columns, stand blanks to column 72, and the line feed; past the last point the whole
+  -- line is blank.
   pub blanks_to_the_end : (k : ℕ) → k < page_count (length (points p)) →
-      (drop 56 (get_or (lines (plan_sheet p)) (k * 60) []) ≡ replicate 16 32 ++ bytes "\n") ×
+      (drop (14 * length (task_numbers p)) (get_or (lines (plan_sheet p)) (k * 60) []) ≡ replicate (72 - 14 * length (task_numbers p)) 32 ++ bytes "\n") ×
       (drop 14 (get_or (lines (plan_sheet p)) (k * 60 + 1) []) ≡ replicate 58 32 ++ bytes "\n") ×
       ((j : ℕ) → j < 57 → k * 57 + j < length (points p) → drop 38 (get_or (lines (plan_sheet p)) (k * 60 + 3 + j) []) ≡ replicate 34 32 ++ bytes "\n") ×
       ((j : ℕ) → j < 57 → length (points p) ≤ k * 57 + j → get_or (lines (plan_sheet p)) (k * 60 + 3 + j) [] ≡ replicate 72 32 ++ bytes "\n")
@@ -80,7 +81,7 @@ module _ (p : Plan) (a : Accepted p) where
   -- THE TWO TEXTS
 
   -- What is read from the words of the plain listing's first line is read from the columns of each page's first line,
-  pub task_alike : (k : ℕ) → k < page_count (length (points p)) → matched (bytes "task A B D T") false (get_or (lines (plan_listing p)) 0 []) ≡
+  pub task_alike : (k : ℕ) → k < page_count (length (points p)) → matched (task_pattern p.edition) false (get_or (lines (plan_listing p)) 0 []) ≡
       match false (in_columns heading_widths (get_or (lines (plan_sheet p)) (k * 60) []))
   task_alike k h = listing.task_read p ∙ ap (match false) (sym (page_read k h).0)
 

@@ -1,4 +1,4 @@
--- The review sheet (02, L5), from the plan alone: the numbers are those of the plain listing, on pages of 72 columns and 60 lines.
+-- The review sheet (02, L5 and L7), from the plan alone: the numbers are those of the plain listing, on pages of 72 columns and 60 lines.
 -- Assumes nothing: these are definitions.
 use Rattle.std.specs.Prelude.{ℕ, zero, suc, ◌+◌, ◌-◌, ◌*◌, ◌/◌, max, length, get_or, replicate}
 use mathlib.Core.List.{List, [], ◌∷◌, ◌++◌, flatten}
@@ -26,9 +26,9 @@ in_fields left (w ∷ widths) (n ∷ numbers) = right_aligned w n ++ in_fields (
 unfoldable pub sheet_line : List ℕ → List ℕ → List ℕ
 sheet_line widths numbers = in_fields 72 widths numbers ++ bytes "\n"
 
--- The widths of heading lines: total, max-load total, D and T in 14 columns each, the page number in 14.
+-- The widths of heading lines: total, max-load total, D, T and in edition 2 U in 14 columns each, the page number in 14.
 abbrev pub heading_widths : List ℕ
-heading_widths = 14 ∷ 14 ∷ 14 ∷ 14 ∷ []
+heading_widths = 14 ∷ 14 ∷ 14 ∷ 14 ∷ 14 ∷ []
 
 -- The widths of a point's line: number, level, tail and stretch.
 abbrev pub point_widths : List ℕ

@@ -1,4 +1,4 @@
-// The review sheet of a plan, or its refusal, as text (document 02, L5): the numbers of the plain listing on pages of 72 columns and 60 lines.
+// The review sheet of a plan, or its refusal, as text (document 02, L5 and L7): the numbers of the plain listing on pages of 72 columns and 60 lines.
 #![tactic(auto)]
 
 ghost use Rattle.std.specs.Prelude.{◌≡◌, ◌+◌, ◌*◌, ◌≤◌, ◌<◌, length, get_or, replicate};
@@ -20,8 +20,8 @@ const COLUMNS: u64 = 72;
 // How many points a page has lines for: three of its 60 lines are headings.
 const PAGE_POINTS: usize = 57;
 
-// The widths of the fields of a heading line: the total, the max-load total, D and T; of the page number the first.
-const HEADING_WIDTHS: [u64; 4] = [14, 14, 14, 14];
+// The widths of the fields of a heading line: the total, the max-load total, D, T and in edition 2 U; of the page number the first.
+const HEADING_WIDTHS: [u64; 5] = [14, 14, 14, 14, 14];
 
 // The widths of the fields of a point's line: its number, its level, its tail and its stretch.
 const POINT_WIDTHS: [u64; 4] = [6, 4, 14, 14];
@@ -134,6 +134,10 @@ pub fn sheet_text(out: &mut [u8; SHEET], text: &[u8]) -> usize
         Err(RefusedAt { refusal, line }) => {
             refused_plan_line(out, 0, u64::from(refusal), line as u64)
         }
-        Ok(summary) => put_pages(out, &summary.task, &points[..summary.count]),
+        Ok(summary) => put_pages(
+            out,
+            &summary.task[..summary.task_count],
+            &points[..summary.count],
+        ),
     }
 }

@@ -8,16 +8,24 @@ use lib.IntN.{pos, negsuc}
 use Rattle.text.specs.Text.{bytes}
 use Rattle.text.specs.Spelling.{decimal, numerals}
 use Rattle.model.specs.declared.Refusal.TheVariants.{Astray}
-use Rattle.model.specs.declared.Word.TheVariants.{Go, Suspend, Stay}
-use Rattle.model.specs.declared.Ending.TheVariants.{Resume, Ended}
+use Rattle.model.specs.declared.Word.TheVariants.{Go, Suspend, Stay, Resume}
+use Rattle.model.specs.declared.Ending.TheVariants.{Resumed, Ended}
 use Rattle.model.specs.declared.Answer.TheVariants.{Refused, Decided, Closed}
 use Rattle.print.specs.Lines.{number_field, number_fields, signed_field, late_mark, word_text, ending_text, numbers_line, task_line, point_line}
 use Rattle.print.specs.Lines.{refused_plan_line, answer_line}
 
--- The listing of plan A.
+-- The listing of plan A, and its first line in edition 2, where U is 3, and where it is 0.
 task_a : task_line (49 ∷ 93 ∷ 100 ∷ 4 ∷ []) ≡ bytes "task 49 93 100 4\n"
 unfolding numbers_line number_fields flat_map number_field decimal numerals
 task_a = refl
+
+task_a_second : task_line (49 ∷ 93 ∷ 100 ∷ 4 ∷ 3 ∷ []) ≡ bytes "task 49 93 100 4 3\n"
+unfolding numbers_line number_fields flat_map number_field decimal numerals
+task_a_second = refl
+
+task_a_free : task_line (49 ∷ 93 ∷ 100 ∷ 4 ∷ 0 ∷ []) ≡ bytes "task 49 93 100 4 0\n"
+unfolding numbers_line number_fields flat_map number_field decimal numerals
+task_a_free = refl
 
 point_a : point_line (0 ∷ 1 ∷ 49 ∷ 9 ∷ []) ≡ bytes "point 0 1 49 9\n"
 unfolding numbers_line number_fields flat_map number_field decimal numerals
@@ -48,13 +56,18 @@ visit_a : answer_line (Decided Suspend 20 (negsuc 4) false) ≡ bytes "suspend 2
 unfolding answer_line word_text number_field signed_field late_mark decimal numerals
 visit_a = refl
 
+-- A report at which the others resume.
+resume_at_report : answer_line (Decided Resume 8 (pos 12) false) ≡ bytes "resume 8 12 0\n"
+unfolding answer_line word_text number_field signed_field late_mark decimal numerals
+resume_at_report = refl
+
 -- The least margin, with the late mark.
 late_stay : answer_line (Decided Stay 0 (negsuc (2 ^ 62 - 1)) true) ≡ bytes "stay 0 -4611686018427387904 1\n"
 unfolding answer_line word_text number_field signed_field late_mark decimal numerals
 late_stay = refl
 
--- The two ends.
-resumed : answer_line (Closed Resume false) ≡ bytes "resume 0\n"
+-- The two ends: the word of the first is that of a resume at a report.
+resumed : answer_line (Closed Resumed false) ≡ bytes "resume 0\n"
 unfolding answer_line ending_text late_mark
 resumed = refl
 

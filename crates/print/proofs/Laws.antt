@@ -17,9 +17,9 @@ use Rattle.std.proofs.lemmas.List.Edits.{paste_none, paste_all, sets-eq}
 use Rattle.text.specs.Spelling.{decimal}
 use Rattle.text.proofs.Decimal.{decimal_digit, decimal_step, decimal_length, tens}
 use Rattle.model.specs.declared.Word.{Word}
-use Rattle.model.specs.declared.Word.TheVariants.{Go, Suspend, Stay}
+use Rattle.model.specs.declared.Word.TheVariants.{Go, Suspend, Stay, Resume}
 use Rattle.model.specs.declared.Ending.{Ending}
-use Rattle.model.specs.declared.Ending.TheVariants.{Resume, Ended}
+use Rattle.model.specs.declared.Ending.TheVariants.{Resumed, Ended}
 use Rattle.text.specs.Text.{bytes}
 use Rattle.print.specs.Lines.{number_field, number_fields, numbers_line, word_text, ending_text, late_mark}
 use Rattle.print.specs.Printed.{Printed, PrintedWithin}
@@ -181,10 +181,11 @@ unfolding word_text
 word_short Go = omega arith
 word_short Suspend = omega arith
 word_short Stay = omega arith
+word_short Resume = omega arith
 
 pub ending_short : (e : Ending) → length (ending_text e) ≤ 6
 unfolding ending_text
-ending_short Resume = omega arith
+ending_short Resumed = omega arith
 ending_short Ended = omega arith
 
 pub mark_short : (late : Bool) → length (late_mark late) ≤ 3

@@ -7,9 +7,9 @@ use lib.IntN.{ℤ, pos, negsuc}
 use Rattle.text.specs.Text.{lines}
 use Rattle.text.proofs.Spell.{nothing, ends, lines_one, ends_decimal}
 use Rattle.model.specs.declared.Word.{Word}
-use Rattle.model.specs.declared.Word.TheVariants.{Go, Suspend, Stay}
+use Rattle.model.specs.declared.Word.TheVariants.{Go, Suspend, Stay, Resume}
 use Rattle.model.specs.declared.Ending.{Ending}
-use Rattle.model.specs.declared.Ending.TheVariants.{Resume, Ended}
+use Rattle.model.specs.declared.Ending.TheVariants.{Resumed, Ended}
 use Rattle.model.specs.declared.Answer.{Answer}
 use Rattle.model.specs.declared.Answer.TheVariants.{Refused, Decided, Closed}
 use Rattle.model.specs.Refusals.{number_of}
@@ -21,6 +21,7 @@ unfolding word_text ends
 ends_word Go r = refl
 ends_word Suspend r = refl
 ends_word Stay r = refl
+ends_word Resume r = refl
 
 ends_field : (n : ℕ) (r : List ℕ) → ends (number_field n ++ r) ≡ ends r
 unfolding number_field ends
@@ -39,7 +40,7 @@ ends_mark false = refl
 
 ends_end : (e : Ending) (late : Bool) → ends (ending_text e ++ late_mark late) ≡ true
 unfolding ending_text ends
-ends_end Resume late = ends_mark late
+ends_end Resumed late = ends_mark late
 ends_end Ended late = ends_mark late
 
 ends_answer : (a : Answer) → ends (answer_line a) ≡ true

@@ -1,13 +1,13 @@
--- The lines that the programs print (01, 'Calls' and 'Plans worked through'; 02, L1).
+-- The lines that the programs print (01, 'Calls' and 'Plans worked through'; 02, L1 and L7).
 -- Assumes nothing: these are definitions.
 use Rattle.std.specs.Prelude.{ℕ, suc, Bool, true, false, ℤ, pos, negsuc}
 use mathlib.Core.List.{List, ◌++◌, flat_map}
 use Rattle.text.specs.Text.{bytes}
 use Rattle.text.specs.Spelling.{decimal}
 use Rattle.model.specs.declared.Word.{Word}
-use Rattle.model.specs.declared.Word.TheVariants.{Go, Suspend, Stay}
+use Rattle.model.specs.declared.Word.TheVariants.{Go, Suspend, Stay, Resume}
 use Rattle.model.specs.declared.Ending.{Ending}
-use Rattle.model.specs.declared.Ending.TheVariants.{Resume, Ended}
+use Rattle.model.specs.declared.Ending.TheVariants.{Resumed, Ended}
 use Rattle.model.specs.declared.Answer.{Answer}
 use Rattle.model.specs.declared.Answer.TheVariants.{Refused, Decided, Closed}
 use Rattle.model.specs.Refusals.{number_of}
@@ -31,10 +31,11 @@ unfoldable pub word_text : Word → List ℕ
 word_text Go = bytes "go"
 word_text Suspend = bytes "suspend"
 word_text Stay = bytes "stay"
+word_text Resume = bytes "resume"
 
 -- The word of an end.
 unfoldable pub ending_text : Ending → List ℕ
-ending_text Resume = bytes "resume"
+ending_text Resumed = bytes "resume"
 ending_text Ended = bytes "ended"
 
 -- Numbers, each as a further field.
@@ -45,7 +46,7 @@ number_fields = flat_map number_field
 unfoldable pub numbers_line : List ℕ → List ℕ → List ℕ
 numbers_line word numbers = word ++ (number_fields numbers ++ bytes "\n")
 
--- The first line of a plan's listing: total, max-load total, deadline, switch cost.
+-- The first line of a plan's listing: total, max-load total, D, T, and in edition 2 U.
 abbrev pub task_line : List ℕ → List ℕ
 task_line = numbers_line (bytes "task")
 

@@ -86,6 +86,7 @@ fn word_text(word: Word) -> &'static [u8]
         Word::Go => b"go",
         Word::Suspend => b"suspend",
         Word::Stay => b"stay",
+        Word::Resume => b"resume",
     }
 }
 
@@ -95,7 +96,7 @@ fn ending_text(ending: Ending) -> &'static [u8]
     ensures { result.now ≡ ending_text ending }
 {
     match ending {
-        Ending::Resume => b"resume",
+        Ending::Resumed => b"resume",
         Ending::Ended => b"ended",
     }
 }

@@ -9,7 +9,7 @@ use lib.Dec.{leb, ltb}
 use borrow.Author.Tests.{le-leb, lt-ltb, leb-true, ltb-true}
 use Rattle.text.specs.declared.Form.{Form}
 use Rattle.text.specs.declared.Form.TheVariants.{Task, Fun, Then, Else, Close, Leaf, Call, Loop, If}
-use Rattle.model.specs.Plan.{Block, Lines, close, leaf_line, call_line, loop_line, if_line}
+use Rattle.model.specs.Plan.{Block, Lines, close, leaf_line, call_line, loop_line, if_line, resume_cost}
 use Rattle.model.specs.Levels.{height}
 use Rattle.model.specs.Places.{bit}
 use Rattle.model.proofs.Bits.{bit_below}
@@ -21,7 +21,7 @@ use Rattle.reader.specs.Print.{leaf_form, call_form, loop_form, if_form}
 
 -- ONE FORM: what it must keep so that none of the refusals 3 to 7 and 19 meets it.
 abbrev pub Allowed : ℕ → ℕ → ℕ → ℕ → List ℕ → Form → Type 0
-Allowed room d L n hs (Task D t) = (1 ≤ D) × (D ≤ 2 ^ 40) × (t ≤ 2 ^ 20) × (d < 64)
+Allowed room d L n hs (Task D t u) = (1 ≤ D) × (D ≤ 2 ^ 40) × (t ≤ 2 ^ 20) × (resume_cost u ≤ 2 ^ 20) × (d < 64)
 Allowed room d L n hs Fun = (length hs < 16) × (d < 64)
 Allowed room d L n hs Then = d < 64
 Allowed room d L n hs Else = d < 64
@@ -49,7 +49,7 @@ module _ (room d L n : ℕ) (hs : List ℕ) where
   -- A form that keeps this meets no refusal.
   pub no_fault : (f : Form) → Allowed room d L n hs f → fault room d L n hs f ≡ None
   unfolding fault
-  no_fault (Task D t) (a, b, c, e) = rw (le-leb 1 D a, le-leb D (2 ^ 40) b, le-leb t (2 ^ 20) c, lt-ltb d 64 e)
+  no_fault (Task D t u) (a, b, c, r, e) = rw (le-leb 1 D a, le-leb D (2 ^ 40) b, le-leb t (2 ^ 20) c, le-leb (resume_cost u) (2 ^ 20) r, lt-ltb d 64 e)
   no_fault Fun (a, b) = rw (lt-ltb (length hs) 16 a, lt-ltb d 64 b)
   no_fault Then a = rw (lt-ltb d 64 a)
   no_fault Else a = rw (lt-ltb d 64 a)
@@ -64,11 +64,12 @@ module _ (room d L n : ℕ) (hs : List ℕ) where
   -- A form that meets no refusal keeps it.
   pub allowed : (f : Form) → fault room d L n hs f ≡ None → Allowed room d L n hs f
   unfolding fault
-  allowed (Task D t) e =
+  allowed (Task D t u) e =
       let (a, e) = le_ok 1 D _ _ e in
       let (b, e) = le_ok D (2 ^ 40) _ _ e in
       let (c, e) = le_ok t (2 ^ 20) _ _ e in
-      (a, b, c, (lt_ok d 64 _ _ e).0)
+      let (r, e) = le_ok (resume_cost u) (2 ^ 20) _ _ e in
+      (a, b, c, r, (lt_ok d 64 _ _ e).0)
   allowed Fun e = let (a, e) = lt_ok (length hs) 16 _ _ e in (a, (lt_ok d 64 _ _ e).0)
   allowed Then e = (lt_ok d 64 _ _ e).0
   allowed Else e = (lt_ok d 64 _ _ e).0

@@ -85,7 +85,7 @@ module _ (room : ℕ) (w : Nesting) (hs : List ℕ) (s : List ℕ) (p : Spot) wh
 
   judged : (r : Option (Form × ℕ)) → Means s p.at r → LineAt room w hs s p (body_line p.line room w.brackets w.level p.leaves hs r)
   judged None v = no_line_at s p.at v (λ z. refuses_end z) (λ l ks z a. refuses_unread z a)
-  judged (Some (Task x y, e)) v = stray (Task x y) e v (λ q K fs. refl)
+  judged (Some (Task x y u, e)) v = stray (Task x y u) e v (λ q K fs. refl)
   judged (Some (Fun, e)) v = stray Fun e v (λ q K fs. refl)
   judged (Some (Then, e)) v = stray Then e v (λ q K fs. refl)
   judged (Some (Else, e)) v = stray Else e v (λ q K fs. refl)
@@ -367,7 +367,7 @@ module _ (s : List ℕ) (room : ℕ) (hs : List ℕ) (w : Nesting) (p : Spot) wh
 
 -- A leaf's line that meets no refusal: the row has room for it, and its level is 32 at most.
 pub leaf_fits : (room d L n : ℕ) (hs : List ℕ) (f : Form) → f ≢ Close → body_fault room d L n hs f ≡ None → (n < room) × (L ≤ 32)
-leaf_fits room d L n hs (Task x y) h e = cc
+leaf_fits room d L n hs (Task x y u) h e = cc
 leaf_fits room d L n hs Fun h e = cc
 leaf_fits room d L n hs Then h e = cc
 leaf_fits room d L n hs Else h e = cc

@@ -10,7 +10,10 @@ use Rattle.model.specs.declared.Refusal.{Refusal}
 use borrow.Author.Tests.{leb-true}
 use Rattle.text.specs.declared.Form.{Form}
 use Rattle.text.specs.declared.Form.TheVariants.{Task, Fun, Then, Else, Close, Leaf, Call, Loop, If}
-use Rattle.text.specs.Grammar.{line_form, form, cap_form, Found}
+use Rattle.text.specs.Grammar.{line_form, form, cap_edition, cap_form, Found}
+use Rattle.model.specs.declared.Edition.{Edition}
+use Rattle.model.specs.declared.Edition.TheVariants.{First, Second}
+use Rattle.model.specs.Plan.{resume_cost}
 use Rattle.model.specs.Levels.{heights}
 use Rattle.model.specs.Places.{bit}
 use Rattle.text.specs.Text.{line_at}
@@ -22,6 +25,15 @@ use Rattle.reader.proofs.Allowed.{Allowed, allowed}
 -- a number of a plan, held
 abbrev cap : ℕ → ℕ
 cap = capped (2 ^ 41)
+
+-- the edition of a plan, with its U held
+resume_held : (u : Edition) → resume_cost (cap_edition u) ≡ cap (resume_cost u)
+resume_held First = refl
+resume_held (Second v) = refl
+
+edition_same : (u : Edition) → resume_cost u ≤ 2 ^ 20 → cap_edition u ≡ u
+edition_same First h = refl
+edition_same (Second v) h = ap Second (cap_same (2 ^ 41) v (omega arith))
 
 -- two tests alike: what follows need only be the same where they hold
 both : (t u : Bool) (k : Refusal) (x y : Option Refusal) → t ≡ u → (u ≡ true → x ≡ y) → refuse_unless t k x ≡ refuse_unless u k y
@@ -42,8 +54,9 @@ module _ (room d L n : ℕ) (hs : List ℕ) where
 
   cap_fault : (f : Form) → fault room d L n hs (cap_form f) ≡ fault room d L n hs f
   unfolding fault
-  cap_fault (Task x y) =
-      both _ _ Refusal.Range _ _ (cap_low (2 ^ 41) x (omega arith)) (λ _. high x (2 ^ 40) Refusal.Range _ _ (omega arith) (λ l e. high y (2 ^ 20) Refusal.Range _ _ (omega arith) (λ l' e'. refl)))
+  cap_fault (Task x y u) =
+      both _ _ Refusal.Range _ _ (cap_low (2 ^ 41) x (omega arith)) (λ _. high x (2 ^ 40) Refusal.Range _ _ (omega arith) (λ l e. high y (2 ^ 20) Refusal.Range _ _ (omega arith)
+      (λ l' e'. rw (resume_held u) (high (resume_cost u) (2 ^ 20) Refusal.Range _ _ (omega arith) (λ l'' e''. refl)))))
   cap_fault Fun = refl
   cap_fault Then = refl
   cap_fault Else = refl
@@ -55,7 +68,7 @@ module _ (room d L n : ℕ) (hs : List ℕ) where
 
 -- where nothing is at fault nothing was held
 uncapped : (room d L n : ℕ) (hs : List ℕ) (f : Form) → Allowed room d L n hs f → cap_form f ≡ f
-uncapped room d L n hs (Task x y) (a, b, c, e) = rw (cap_same (2 ^ 41) x (omega arith), cap_same (2 ^ 41) y (omega arith))
+uncapped room d L n hs (Task x y u) (a, b, c, r, e) = rw (cap_same (2 ^ 41) x (omega arith), cap_same (2 ^ 41) y (omega arith), edition_same u r)
 uncapped room d L n hs Fun a = refl
 uncapped room d L n hs Then a = refl
 uncapped room d L n hs Else a = refl
@@ -79,7 +92,7 @@ form_first_verdict (to S) k n = refl
 
 cap_verdict : (S : ParserState) (n : ℕ) (k : Refusal) (f : Form) → verdict (next S n (cap_form f)) k ≡ verdict (next S n f) k
 unfolding verdict
-cap_verdict start n j (Task x y) = refl
+cap_verdict start n j (Task x y u) = refl
 cap_verdict start n j Fun = refl
 cap_verdict start n j Then = refl
 cap_verdict start n j Else = refl
@@ -88,7 +101,7 @@ cap_verdict start n j (Leaf k c m) = refl
 cap_verdict start n j (Call k f c m) = refl
 cap_verdict start n j (Loop k b c m) = refl
 cap_verdict start n j (If k c m) = refl
-cap_verdict (task p) n j (Task x y) = refl
+cap_verdict (task p) n j (Task x y u) = refl
 cap_verdict (task p) n j Fun = refl
 cap_verdict (task p) n j Then = refl
 cap_verdict (task p) n j Else = refl
@@ -97,7 +110,7 @@ cap_verdict (task p) n j (Leaf k c m) = refl
 cap_verdict (task p) n j (Call k f c m) = refl
 cap_verdict (task p) n j (Loop k b c m) = refl
 cap_verdict (task p) n j (If k c m) = refl
-cap_verdict (body p K fs) n j (Task x y) = refl
+cap_verdict (body p K fs) n j (Task x y u) = refl
 cap_verdict (body p K fs) n j Fun = refl
 cap_verdict (body p K fs) n j Then = refl
 cap_verdict (body p K fs) n j Else = refl
@@ -106,7 +119,7 @@ cap_verdict (body p K fs) n j (Leaf k c m) = refl
 cap_verdict (body p K fs) n j (Call k f c m) = refl
 cap_verdict (body p K fs) n j (Loop k b c m) = refl
 cap_verdict (body p K fs) n j (If k c m) = refl
-cap_verdict (await_then p K b' fs) n j (Task x y) = refl
+cap_verdict (await_then p K b' fs) n j (Task x y u) = refl
 cap_verdict (await_then p K b' fs) n j Fun = refl
 cap_verdict (await_then p K b' fs) n j Then = refl
 cap_verdict (await_then p K b' fs) n j Else = refl
@@ -115,7 +128,7 @@ cap_verdict (await_then p K b' fs) n j (Leaf k c m) = refl
 cap_verdict (await_then p K b' fs) n j (Call k f c m) = refl
 cap_verdict (await_then p K b' fs) n j (Loop k b c m) = refl
 cap_verdict (await_then p K b' fs) n j (If k c m) = refl
-cap_verdict (await_else p K b' ts fs) n j (Task x y) = refl
+cap_verdict (await_else p K b' ts fs) n j (Task x y u) = refl
 cap_verdict (await_else p K b' ts fs) n j Fun = refl
 cap_verdict (await_else p K b' ts fs) n j Then = refl
 cap_verdict (await_else p K b' ts fs) n j Else = refl
@@ -124,7 +137,7 @@ cap_verdict (await_else p K b' ts fs) n j (Leaf k c m) = refl
 cap_verdict (await_else p K b' ts fs) n j (Call k f c m) = refl
 cap_verdict (await_else p K b' ts fs) n j (Loop k b c m) = refl
 cap_verdict (await_else p K b' ts fs) n j (If k c m) = refl
-cap_verdict (await_close p K b' ts es fs) n j (Task x y) = refl
+cap_verdict (await_close p K b' ts es fs) n j (Task x y u) = refl
 cap_verdict (await_close p K b' ts es fs) n j Fun = refl
 cap_verdict (await_close p K b' ts es fs) n j Then = refl
 cap_verdict (await_close p K b' ts es fs) n j Else = refl
@@ -133,7 +146,7 @@ cap_verdict (await_close p K b' ts es fs) n j (Leaf k c m) = refl
 cap_verdict (await_close p K b' ts es fs) n j (Call k f c m) = refl
 cap_verdict (await_close p K b' ts es fs) n j (Loop k b c m) = refl
 cap_verdict (await_close p K b' ts es fs) n j (If k c m) = refl
-cap_verdict (done p) n j (Task x y) = refl
+cap_verdict (done p) n j (Task x y u) = refl
 cap_verdict (done p) n j Fun = refl
 cap_verdict (done p) n j Then = refl
 cap_verdict (done p) n j Else = refl

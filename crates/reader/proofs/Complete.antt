@@ -105,10 +105,10 @@ followed room (if_line b then else rest) p K fs n gs (q, a, o, g, h, i) =
 
 -- FUNCTIONS
 abbrev extended : Plan → List Lines → Plan
-extended p ls = record { deadline = p.deadline; switch = p.switch; functions = p.functions ++ ls }
+extended p ls = record { deadline = p.deadline; switch = p.switch; edition = p.edition; functions = p.functions ++ ls }
 
 abbrev having : Plan → List Lines → Plan
-having p ls = record { deadline = p.deadline; switch = p.switch; functions = ls }
+having p ls = record { deadline = p.deadline; switch = p.switch; edition = p.edition; functions = ls }
 
 same_functions : (p : Plan) (ls ks : List Lines) → ls ≡ ks → having p ls ≡ having p ks
 same_functions p ls ks e = ap (having p) e
@@ -143,7 +143,7 @@ closes_task p n h = here p.functions h
 leads_through : (row : ℕ) (p : Plan) → Formed p → Fits row p → Leads (min 512 row) start 0 (forms_of p) (done p) (sizes p.functions) []
 unfolding forms_of brackets level functions_of heights
 leads_through row p w fit =
-    along (one start (task (having p [])) 0 (Task p.deadline p.switch) (forms_all p.functions ++ (Close ∷ [])) refl (omega (arith, w.deadline_low, w.deadline_high, w.switch_range)))
+    along (one start (task (having p [])) 0 (Task p.deadline p.switch p.edition) (forms_all p.functions ++ (Close ∷ [])) refl (omega (arith, w.deadline_low, w.deadline_high, w.switch_range, w.resume_range)))
     (along (followed_all (min 512 row) p.functions (having p []) 0 (Close ∷ []) (functions_good (min 512 row) p.functions [] 0 w.each (omega (arith, w.few_leaves, fit))) (omega (arith, w.few_functions)))
     (along (one (task p) (done p) (0 + sizes p.functions) Close [] (closes_task p (0 + sizes p.functions) w.some_function) tt)
     (stay refl (omega arith))))

@@ -12,6 +12,7 @@ use Rattle.model.specs.declared.Refusal.{Refusal}
 use Rattle.text.specs.declared.Form.{Form}
 use Rattle.text.specs.declared.Form.TheVariants.{Task, Fun, Then, Else, Close, Leaf, Call, Loop, If}
 use Rattle.text.specs.Grammar.{no_form, form, line_form}
+use Rattle.model.specs.declared.Edition.{Edition}
 use Rattle.model.specs.Plan.{Block, Lines, close, leaf_line, call_line, loop_line, if_line, Plan}
 use Rattle.model.specs.Levels.{height, heights}
 use Rattle.model.specs.Acceptance.{size, sizes}
@@ -237,10 +238,10 @@ pub record Reading (room : ℕ) (ls : List (List ℕ)) (p : Plan) (n i : ℕ) (h
   pub same : run room start 0 1 ls ≡ run room (task p) n i us
 
 -- The task line.
-pub reading_start : (room : ℕ) {ls : List (List ℕ)} {l : List ℕ} {ks : List (List ℕ)} (D T : ℕ) → ls ≡ l ∷ ks → Held l (Task D T) → fault room 0 0 0 [] (Task D T) ≡ None →
-    Reading room ls (record { deadline = D; switch = T; functions = [] }) 0 2 [] [] (0 ∷ []) ks
+pub reading_start : (room : ℕ) {ls : List (List ℕ)} {l : List ℕ} {ks : List (List ℕ)} (D T : ℕ) (u : Edition) → ls ≡ l ∷ ks → Held l (Task D T u) → fault room 0 0 0 [] (Task D T u) ≡ None →
+    Reading room ls (record { deadline = D; switch = T; edition = u; functions = [] }) 0 2 [] [] (0 ∷ []) ks
 unfolding sizes heights brackets level functions_of records_all bounds
-reading_start room D T z a b = record { sized = refl; known = refl; rows = refl; bounded = refl; same = taken room start _ 0 1 (Task D T) z a refl b }
+reading_start room D T u z a b = record { sized = refl; known = refl; rows = refl; bounded = refl; same = taken room start _ 0 1 (Task D T u) z a refl b }
 
 -- A function's body has two brackets and level 1.
 pub in_fun_stands : {room : ℕ} {ls : List (List ℕ)} {p : Plan} {n i : ℕ} {hs rs bs : List ℕ} {us : List (List ℕ)} → Reading room ls p n i hs rs bs us → Stands p in_fun hs 2 1

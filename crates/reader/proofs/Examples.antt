@@ -1,4 +1,5 @@
--- Texts worked through: plans A and B (01, 'Plans worked through'), and a text or several for each of the refusals 1 to 7 and 19 and for their order.
+-- Texts worked through: plans A and B (01, 'Plans worked through'), plan A with U 3 (02, L7), and a text or several for each of the refusals 1 to 7 and 19
+-- and for their order.
 use Prim.Native.Nat.{ℕ}
 use mathlib.Core.Path.{◌≡◌, refl}
 use mathlib.Core.List.{List, [], ◌∷◌, ◌++◌}
@@ -9,7 +10,9 @@ use Rattle.text.specs.Text.{bytes, lines}
 use Rattle.text.specs.Patterns.{matched, item, number, digits}
 use Rattle.text.specs.Spelling.{decimal, numerals, spell}
 use Rattle.text.specs.Grammar.{line_form}
-use Rattle.model.specs.Worked.{plan_A, plan_B, smallest}
+use Rattle.model.specs.declared.Edition.TheVariants.{Second}
+use Rattle.model.specs.Plan.{close}
+use Rattle.model.specs.Worked.{plan_A, returning_A, plan_B, smallest}
 use Rattle.model.specs.Levels.{height, heights}
 use Rattle.reader.specs.Machine.{◌⧺◌, outcome, run, fault, brackets_in, brackets, level_in, level, functions_of}
 use Rattle.reader.specs.Outcome.{Outcome, plan, refused}
@@ -28,6 +31,11 @@ reads_B : outcome 512 (bytes "(task 200 5\n(fun\n(leaf p 3 4)\n)\n(fun\n(if p 2 
 unfolding plan_B outcome run fault brackets_in brackets level_in level functions_of heights height ◌⧺◌ line_form lines matched item number digits
 reads_B = refl
 
+-- Plan A with U 3 (02, L7).
+reads_returning_A : outcome 512 (bytes "(task 100 4 3\n(fun\n(leaf p 5 9)\n(loop p 3 2 4\n(leaf s 10 20)\n)\n(leaf s 6 8)\n)\n)\n") ≡ plan returning_A
+unfolding returning_A plan_A outcome run fault brackets_in brackets level_in level functions_of heights height ◌⧺◌ line_form lines matched item number digits
+reads_returning_A = refl
+
 prints_A : print plan_A ≡ bytes "(task 100 4\n(fun\n(leaf p 5 9)\n(loop p 3 2 4\n(leaf s 10 20)\n)\n(leaf s 6 8)\n)\n)\n"
 unfolding plan_A print forms_of forms_all forms_in join_all spell decimal numerals
 prints_A = refl
@@ -35,6 +43,10 @@ prints_A = refl
 prints_B : print plan_B ≡ bytes "(task 200 5\n(fun\n(leaf p 3 4)\n)\n(fun\n(if p 2 3\n(then\n(call p 0 1 2)\n)\n(else\n(leaf s 9 10)\n)\n)\n(call p 0 1 2)\n)\n)\n"
 unfolding plan_B print forms_of forms_all forms_in join_all spell decimal numerals
 prints_B = refl
+
+prints_returning_A : print returning_A ≡ bytes "(task 100 4 3\n(fun\n(leaf p 5 9)\n(loop p 3 2 4\n(leaf s 10 20)\n)\n(leaf s 6 8)\n)\n)\n"
+unfolding returning_A plan_A print forms_of forms_all forms_in join_all spell decimal numerals
+prints_returning_A = refl
 
 -- 1, oversize: the limit is 65,536 bytes.
 oversize : outcome 512 (times 65537 (bytes "\n")) ≡ refused Refusal.Oversize 0
@@ -95,6 +107,10 @@ switch_large : outcome 512 (bytes "(task 1 1048577\n") ≡ refused Refusal.Range
 unfolding outcome run fault brackets_in brackets level_in level functions_of heights height ◌⧺◌ line_form lines matched item number digits
 switch_large = refl
 
+resume_large : outcome 512 (bytes "(task 1 0 1048577\n") ≡ refused Refusal.Range 1
+unfolding outcome run fault brackets_in brackets level_in level functions_of heights height ◌⧺◌ line_form lines matched item number digits
+resume_large = refl
+
 number_long : outcome 512 (bytes "(task 1 0\n(fun\n(leaf p 1 99999999999999999999999999999999999999999)\n") ≡ refused Refusal.Range 3
 unfolding outcome run fault brackets_in brackets level_in level functions_of heights height ◌⧺◌ line_form lines matched item number digits
 number_long = refl
@@ -119,6 +135,10 @@ range_before_load = refl
 limits_pass : outcome 512 (bytes "(task 1099511627776 1048576\n(fun\n(loop p 65535 1048576 1048576\n") ≡ refused Refusal.Form 4
 unfolding outcome run fault brackets_in brackets level_in level functions_of heights height ◌⧺◌ line_form lines matched item number digits
 limits_pass = refl
+
+resume_limit_passes : outcome 512 (bytes "(task 1 0 1048576\n") ≡ refused Refusal.Form 2
+unfolding outcome run fault brackets_in brackets level_in level functions_of heights height ◌⧺◌ line_form lines matched item number digits
+resume_limit_passes = refl
 
 -- 4, count: a 513th leaf (before load), a leaf more than the lent row holds, a 17th function.
 leaf_513th : outcome 512 (bytes "(task 1 0\n(fun\n" ++ (times 513 (bytes "(leaf p 1 1)\n"))) ≡ refused Refusal.Count 515
@@ -241,9 +261,22 @@ zero_twice : outcome 512 (bytes "(task 1 00\n") ≡ refused Refusal.Form 1
 unfolding outcome run fault brackets_in brackets level_in level functions_of heights height ◌⧺◌ line_form lines matched item number digits
 zero_twice = refl
 
+resume_leading_zero : outcome 512 (bytes "(task 1 0 03\n") ≡ refused Refusal.Form 1
+unfolding outcome run fault brackets_in brackets level_in level functions_of heights height ◌⧺◌ line_form lines matched item number digits
+resume_leading_zero = refl
+
 feed_before_range : outcome 512 (bytes "(task 0 0") ≡ refused Refusal.Form 1
 unfolding outcome run fault brackets_in brackets level_in level functions_of heights height ◌⧺◌ line_form lines matched item number digits
 feed_before_range = refl
+
+-- A third number of 0 is one too, and there is no fourth.
+resume_0 : outcome 512 (bytes "(task 1 0 0\n(fun\n)\n)\n") ≡ plan (record { deadline = 1; switch = 0; edition = Second 0; functions = close ∷ [] })
+unfolding outcome run fault brackets_in brackets level_in level functions_of heights height ◌⧺◌ line_form lines matched item number digits
+resume_0 = refl
+
+fourth_number : outcome 512 (bytes "(task 1 0 3 4\n") ≡ refused Refusal.Form 1
+unfolding outcome run fault brackets_in brackets level_in level functions_of heights height ◌⧺◌ line_form lines matched item number digits
+fourth_number = refl
 
 -- A blank line after the task goes on.
 blank_after : outcome 512 (bytes "(task 1 0\n(fun\n)\n)\n\n") ≡ refused Refusal.Form 5

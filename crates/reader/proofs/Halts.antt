@@ -29,7 +29,7 @@ pub data Amiss (x : Form) (us : List (List ℕ)) : Type 0 where
 
 -- Another form may not stand there.
 not_then : (f : Form) (S : ParserState) → f ≢ Then → only Then f S ≡ stuck
-not_then (Task d t) S h = refl
+not_then (Task d t u) S h = refl
 not_then Fun S h = refl
 not_then Then S h = absurd (h refl)
 not_then Else S h = refl
@@ -40,7 +40,7 @@ not_then (Loop k b c m) S h = refl
 not_then (If k c m) S h = refl
 
 not_else : (f : Form) (S : ParserState) → f ≢ Else → only Else f S ≡ stuck
-not_else (Task d t) S h = refl
+not_else (Task d t u) S h = refl
 not_else Fun S h = refl
 not_else Then S h = refl
 not_else Else S h = absurd (h refl)
@@ -51,7 +51,7 @@ not_else (Loop k b c m) S h = refl
 not_else (If k c m) S h = refl
 
 not_close : (f : Form) (S : ParserState) → f ≢ Close → only Close f S ≡ stuck
-not_close (Task d t) S h = refl
+not_close (Task d t u) S h = refl
 not_close Fun S h = refl
 not_close Then S h = refl
 not_close Else S h = refl

@@ -49,9 +49,9 @@ all_width hs n (l ∷ ls) (f, g) =
     rw (width_append (forms_in l) (Close ∷ forms_all ls)) (omega (arith, forms_width (length hs) l f.ranged, all_width (hs ++ (height hs l ∷ [])) (n + size l) ls g))
 
 -- A plan with 512 leaves and 16 functions is the longest.
-pub print_bound : (p : Plan) → Formed p → length (print p) ≤ 20622
+pub print_bound : (p : Plan) → Formed p → length (print p) ≤ 20630
 unfolding print forms_of width
 print_bound p w =
     rw (width_is (forms_of p))
     (rw (width_append (forms_all p.functions) (Close ∷ []))
-    (unfold spell in omega (arith, task_width p.deadline p.switch w.deadline_high w.switch_range, all_width [] 0 p.functions w.each, w.few_functions, w.few_leaves)))
+    (unfold spell in omega (arith, task_width p.deadline p.switch p.edition w.deadline_high w.switch_range w.resume_range, all_width [] 0 p.functions w.each, w.few_functions, w.few_leaves)))

@@ -133,8 +133,8 @@ functions_one hs n (l ∷ ls) (k ∷ ks) (f, f') (g, g') b r =
     (functions_one (hs ++ (height hs l ∷ [])) (n + size l) ls ks f' (subst (λ x. Functions (hs ++ (height hs x ∷ [])) (n + size x) ks) (sym e) g')
     (c ∙ ap (λ x. bounds (n + size x) ks) (sym e)) (t ∙ ap (λ x. records_all (n + size x) ks) (sym e)))
 
--- Two plans with the same deadline, switch cost, row and bounds are one.
-pub row_one : (p q : Plan) → Formed p → Formed q → p.deadline ≡ q.deadline → p.switch ≡ q.switch → row_of p ≡ row_of q → bounds_of p ≡ bounds_of q → p ≡ q
-row_one p q v w d s r b =
+-- Two plans with the same deadline, switch cost, edition, row and bounds are one.
+pub row_one : (p q : Plan) → Formed p → Formed q → p.deadline ≡ q.deadline → p.switch ≡ q.switch → p.edition ≡ q.edition → row_of p ≡ row_of q → bounds_of p ≡ bounds_of q → p ≡ q
+row_one p q v w d s u r b =
     let e : p.functions ≡ q.functions = functions_one [] 0 p.functions q.functions v.each w.each b r in
-    λ j. record { deadline = d j; switch = s j; functions = e j }
+    λ j. record { deadline = d j; switch = s j; edition = u j; functions = e j }

@@ -13,7 +13,7 @@ use Rattle.text.specs.Text.{lines}
 use Rattle.model.specs.Places.{pick}
 use Rattle.text.specs.declared.Form.{Form}
 use Rattle.text.specs.Grammar.{Line, no_form, form, line_form}
-use Rattle.model.specs.Plan.{Block, Lines, close, leaf_line, call_line, loop_line, if_line, Plan}
+use Rattle.model.specs.Plan.{Block, Lines, close, leaf_line, call_line, loop_line, if_line, resume_cost, Plan}
 use Rattle.model.specs.Levels.{height, heights}
 use Rattle.model.specs.Acceptance.{size, sizes, Functions, Formed, Fits}
 use Rattle.reader.specs.Machine.{◌⧺◌, Around, in_fun, in_loop, in_then, in_else, ParserState, start, task, body, await_then, await_else, await_close, done, brackets_in, brackets, level_in, level, functions_of, Next, stuck, to, block, next, fault, counted, form_first, line_turn, onwards, run, outcome}
@@ -47,6 +47,7 @@ module _ (room : ℕ) where
     pub low : 1 ≤ p.deadline
     pub high : p.deadline ≤ 2 ^ 40
     pub cost : p.switch ≤ 2 ^ 20
+    pub resume : resume_cost p.edition ≤ 2 ^ 20
     pub few : length p.functions ≤ 16
     pub all : GoodAll room [] 0 p.functions
 
@@ -90,7 +91,7 @@ module _ (room : ℕ) where
   -- A step keeps it.
   kept : {S : ParserState} {n : ℕ} {f : Form} {S' : ParserState} → Step S n f S' → Inv S n → Asked S n f → Inv S' (counted n f)
   unfolding Inv Open base brackets level functions_of Good GoodAll size sizes brackets_in level_in
-  kept opens_task e (a, b, c, d) = (record { low = a; high = b; cost = c; few = omega arith; all = tt }, e)
+  kept opens_task e (a, b, c, r, d) = (record { low = a; high = b; cost = c; resume = r; few = omega arith; all = tt }, e)
   kept (opens_fun {p = p}) (h, e) (a, b) = ((h, omega (arith, heights_length [] p.functions)), tt, omega arith)
   kept (closes_task q) (h, e) a = (h, q)
   kept (leaf {p = p} {K = K} {fs = fs} {n = n} {k = k} {c = c} {m = m}) (o, g, e) a =
@@ -106,6 +107,7 @@ module _ (room : ℕ) where
       low = h.low;
       high = h.high;
       cost = h.cost;
+      resume = h.resume;
       few = omega (arith, length-append p.functions (fs ∷ []));
       all = good_snoc [] p.functions fs 0 (sizes p.functions) (omega arith) h.all g;
     },
@@ -210,6 +212,7 @@ well_formed row p m (h, s) =
         deadline_low = h.low;
         deadline_high = h.high;
         switch_range = h.cost;
+        resume_range = h.resume;
         some_function = s;
         few_functions = h.few;
         few_leaves = omega arith;

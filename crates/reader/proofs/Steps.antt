@@ -7,6 +7,7 @@ use native.Mathlib.Omega.{arith}
 use lib.ListN.{length}
 use Rattle.text.specs.declared.Form.{Form}
 use Rattle.text.specs.declared.Form.TheVariants.{Task, Fun, Then, Else, Close, Leaf, Call, Loop, If}
+use Rattle.model.specs.declared.Edition.{Edition}
 use Rattle.model.specs.Plan.{Block, Lines, close, leaf_line, call_line, loop_line, if_line, Plan}
 use Rattle.reader.specs.Machine.{◌⧺◌, Around, in_fun, in_loop, in_then, in_else, ParserState, start, task, body, await_then, await_else, await_close, done, Next, stuck, to, closed, closed_task, with_function, block, next}
 use Rattle.reader.specs.Print.{loop_form, if_form, forms_in, forms_all, forms_of}
@@ -14,14 +15,14 @@ use Rattle.reader.proofs.Appended.{forms-⧺, forms_snoc}
 
 -- THE FORMS THAT WERE READ on the way to a state
 unfoldable pub opening : Plan → Around → List Form
-opening p in_fun = Task p.deadline p.switch ∷ (forms_all p.functions ++ (Fun ∷ []))
+opening p in_fun = Task p.deadline p.switch p.edition ∷ (forms_all p.functions ++ (Fun ∷ []))
 opening p (in_loop b n fs K) = opening p K ++ (forms_in fs ++ (loop_form b n ∷ []))
 opening p (in_then b fs K) = opening p K ++ (forms_in fs ++ (if_form b ∷ Then ∷ []))
 opening p (in_else b ts fs K) = opening p K ++ (forms_in fs ++ (if_form b ∷ Then ∷ (forms_in ts ++ (Close ∷ Else ∷ []))))
 
 unfoldable pub before : ParserState → List Form
 before start = []
-before (task p) = Task p.deadline p.switch ∷ forms_all p.functions
+before (task p) = Task p.deadline p.switch p.edition ∷ forms_all p.functions
 before (body p K fs) = opening p K ++ forms_in fs
 before (await_then p K b fs) = opening p K ++ (forms_in fs ++ (if_form b ∷ []))
 before (await_else p K b ts fs) = opening p K ++ (forms_in fs ++ (if_form b ∷ Then ∷ (forms_in ts ++ (Close ∷ []))))
@@ -30,7 +31,7 @@ before (done p) = forms_of p
 
 -- ONE STEP: the lines that may stand in a state, one by one.
 pub data Step : ParserState → ℕ → Form → ParserState → Type 0 where
-  opens_task : {n d t : ℕ} → Step start n (Task d t) (task (record { deadline = d; switch = t; functions = [] }))
+  opens_task : {n d t : ℕ} {u : Edition} → Step start n (Task d t u) (task (record { deadline = d; switch = t; edition = u; functions = [] }))
   opens_fun : {p : Plan} {n : ℕ} → Step (task p) n Fun (body p in_fun close)
   closes_task : {p : Plan} {n : ℕ} → 1 ≤ length p.functions → Step (task p) n Close (done p)
   leaf : {p : Plan} {K : Around} {fs : Lines} {n : ℕ} {k : Bool} {c m : ℕ} →
@@ -69,7 +70,7 @@ moved_close (in_then b hs K) = closes_then
 moved_close (in_else b ts hs K) = closes_else
 
 moved : (S : ParserState) (n : ℕ) (f : Form) → Moved S n f (next S n f)
-moved start n (Task d t) = opens_task
+moved start n (Task d t u) = opens_task
 moved start n Fun = tt
 moved start n Then = tt
 moved start n Else = tt
@@ -78,7 +79,7 @@ moved start n (Leaf k c m) = tt
 moved start n (Call k g c m) = tt
 moved start n (Loop k b c m) = tt
 moved start n (If k c m) = tt
-moved (task p) n (Task d t) = tt
+moved (task p) n (Task d t u) = tt
 moved (task p) n Fun = opens_fun
 moved (task p) n Then = tt
 moved (task p) n Else = tt
@@ -87,7 +88,7 @@ moved (task p) n (Leaf k c m) = tt
 moved (task p) n (Call k g c m) = tt
 moved (task p) n (Loop k b c m) = tt
 moved (task p) n (If k c m) = tt
-moved (body p K fs) n (Task d t) = tt
+moved (body p K fs) n (Task d t u) = tt
 moved (body p K fs) n Fun = tt
 moved (body p K fs) n Then = tt
 moved (body p K fs) n Else = tt
@@ -96,7 +97,7 @@ moved (body p K fs) n (Leaf k c m) = leaf
 moved (body p K fs) n (Call k g c m) = call
 moved (body p K fs) n (Loop k b c m) = loop
 moved (body p K fs) n (If k c m) = cond
-moved (await_then p K x fs) n (Task d t) = tt
+moved (await_then p K x fs) n (Task d t u) = tt
 moved (await_then p K x fs) n Fun = tt
 moved (await_then p K x fs) n Then = opens_then
 moved (await_then p K x fs) n Else = tt
@@ -105,7 +106,7 @@ moved (await_then p K x fs) n (Leaf k c m) = tt
 moved (await_then p K x fs) n (Call k g c m) = tt
 moved (await_then p K x fs) n (Loop k b c m) = tt
 moved (await_then p K x fs) n (If k c m) = tt
-moved (await_else p K x ts fs) n (Task d t) = tt
+moved (await_else p K x ts fs) n (Task d t u) = tt
 moved (await_else p K x ts fs) n Fun = tt
 moved (await_else p K x ts fs) n Then = tt
 moved (await_else p K x ts fs) n Else = opens_else
@@ -114,7 +115,7 @@ moved (await_else p K x ts fs) n (Leaf k c m) = tt
 moved (await_else p K x ts fs) n (Call k g c m) = tt
 moved (await_else p K x ts fs) n (Loop k b c m) = tt
 moved (await_else p K x ts fs) n (If k c m) = tt
-moved (await_close p K x ts es fs) n (Task d t) = tt
+moved (await_close p K x ts es fs) n (Task d t u) = tt
 moved (await_close p K x ts es fs) n Fun = tt
 moved (await_close p K x ts es fs) n Then = tt
 moved (await_close p K x ts es fs) n Else = tt
@@ -123,7 +124,7 @@ moved (await_close p K x ts es fs) n (Leaf k c m) = tt
 moved (await_close p K x ts es fs) n (Call k g c m) = tt
 moved (await_close p K x ts es fs) n (Loop k b c m) = tt
 moved (await_close p K x ts es fs) n (If k c m) = tt
-moved (done p) n (Task d t) = tt
+moved (done p) n (Task d t u) = tt
 moved (done p) n Fun = tt
 moved (done p) n Then = tt
 moved (done p) n Else = tt
@@ -140,7 +141,7 @@ stepped {S} {S'} {n} {f} e = subst (λ x. Moved S n f x) e (moved S n f)
 pub before_step : {S : ParserState} {n : ℕ} {f : Form} {S' : ParserState} → Step S n f S' → before S' ≡ before S ++ (f ∷ [])
 unfolding before opening forms_in forms_all forms_of
 before_step opens_task = refl
-before_step (opens_fun {p = p}) = append-nil (Task p.deadline p.switch ∷ (forms_all p.functions ++ (Fun ∷ [])))
+before_step (opens_fun {p = p}) = append-nil (Task p.deadline p.switch p.edition ∷ (forms_all p.functions ++ (Fun ∷ [])))
 before_step (closes_task h) = refl
 before_step (leaf {fs = fs} {n = n} {k = k} {c = c} {m = m}) = rw (forms-⧺ fs (leaf_line (block n k c m) close)) (simp append_assoc)
 before_step (call {fs = fs} {n = n} {k = k} {g = g} {c = c} {m = m}) = rw (forms-⧺ fs (call_line (block n k c m) g close)) (simp append_assoc)

@@ -8,6 +8,7 @@ use lib.ListN.{length, get_or, set, take, drop, length-append}
 use lib.Seq.{sets}
 use lib.Dec.{eqb, ltb}
 use borrow.Author.Tests.{le-ltb, eqb-true, eqb-false, ltb-true, ltb-false}
+use Rattle.model.specs.declared.Edition.{Edition}
 use Rattle.model.specs.Plan.{Lines, Plan}
 use Rattle.model.specs.Levels.{heights}
 use Rattle.text.specs.declared.Form.{Form}
@@ -34,7 +35,7 @@ use Rattle.reader.proofs.Bodies.{enclosed, refuses, no_line_at}
 
 -- LISTS FILLED UP WITH 0
 
-take_padded : (N : ℕ) (xs : List ℕ) → length xs ≤ N → take (length xs) (padded N xs) ≡ xs
+pub take_padded : (N : ℕ) (xs : List ℕ) → length xs ≤ N → take (length xs) (padded N xs) ≡ xs
 take_padded zero [] h = refl
 take_padded zero (x ∷ xs) h = absurd (omega arith)
 take_padded (suc N) [] h = refl
@@ -72,19 +73,19 @@ text_plan {R₀ = R₀} {R} p e q f = record { answers = q ∙ ap raw_of (sym e)
 
 -- THE FIRST LINE
 
-abbrev pub HeadAt : List ℕ → ℕ → Result (ℕ × ℕ × ℕ) Refusal → Type 0
+abbrev pub HeadAt : List ℕ → ℕ → Result (ℕ × ℕ × Edition × ℕ) Refusal → Type 0
 HeadAt s room (Err k) = run room start 0 1 (lines s) ≡ refused k 1
-HeadAt s room (Ok q) = Found s 0 (Task q.0 q.1) q.2 × (of_task q.0 q.1 ≡ None)
+HeadAt s room (Ok q) = Found s 0 (Task q.0 q.1 q.2) q.3 × (of_task q.0 q.1 q.2 ≡ None)
 
 module _ (s : List ℕ) (room : ℕ) where
-  judged_at : (D t e : ℕ) → Found s 0 (Task D t) e → (x : Option Refusal) → of_task D t ≡ x → HeadAt s room (judged_head x D t e)
+  judged_at : (D t : ℕ) (u : Edition) (e : ℕ) → Found s 0 (Task D t u) e → (x : Option Refusal) → of_task D t u ≡ x → HeadAt s room (judged_head x D t u e)
   unfolding brackets level functions_of fault heights
-  judged_at D t e w None q = (w, q)
-  judged_at D t e w (Some x) q = broken room start (task (record { deadline = D; switch = t; functions = [] })) 0 1 x (Task D t) (lines_found w) (found_held w) refl q
+  judged_at D t u e w None q = (w, q)
+  judged_at D t u e w (Some x) q = broken room start (task (record { deadline = D; switch = t; edition = u; functions = [] })) 0 1 x (Task D t u) (lines_found w) (found_held w) refl q
 
   head_at : (r : Option (Form × ℕ)) → Means s 0 r → HeadAt s room (first_line r)
   head_at None w = no_line_at s 0 w (λ q. start_end room q) (λ l ks z a. no_line room start 0 1 z a)
-  head_at (Some (Task D t, e)) w = judged_at D t e w (of_task D t) refl
+  head_at (Some (Task D t u, e)) w = judged_at D t u e w (of_task D t u) refl
   head_at (Some (Fun, e)) w = misplaced room start 0 1 Fun (lines_found w) (found_held w) refl
   head_at (Some (Then, e)) w = misplaced room start 0 1 Then (lines_found w) (found_held w) refl
   head_at (Some (Else, e)) w = misplaced room start 0 1 Else (lines_found w) (found_held w) refl
@@ -95,7 +96,7 @@ module _ (s : List ℕ) (room : ℕ) where
   head_at (Some (If k c m, e)) w = misplaced room start 0 1 (If k c m) (lines_found w) (found_held w) refl
 
   -- What `task_line` answers is so.
-  pub head_means : {r : Result (ℕ × ℕ × ℕ) Refusal} → r ≡ first_line (read_at s 0) → HeadAt s room r
+  pub head_means : {r : Result (ℕ × ℕ × Edition × ℕ) Refusal} → r ≡ first_line (read_at s 0) → HeadAt s room r
   head_means q = subst (HeadAt s room) (sym q) (head_at (read_at s 0) (read_means s 0 (read_at s 0) refl))
 
 -- A LINE IN THE TASK
@@ -109,7 +110,7 @@ pub data Strays (us : List (List ℕ)) : Type 0 where
 -- A line in the task is a function's or the closing bracket; or it is neither.
 abbrev pub is_member : Option (Form × ℕ) → Bool
 is_member None = false
-is_member (Some (Task d t, e)) = false
+is_member (Some (Task d t u, e)) = false
 is_member (Some (Fun, e)) = true
 is_member (Some (Then, e)) = false
 is_member (Some (Else, e)) = false
@@ -125,7 +126,7 @@ module _ (s : List ℕ) (at : ℕ) where
 
   strays_at : (r : Option (Form × ℕ)) → Means s at r → is_member r ≡ false → Strays (lines (drop at s))
   strays_at None w h = no_line_at s at w (λ q. no_more q) (λ l ks z a. unread l ks z a)
-  strays_at (Some (Task x y, e)) w h = another (Task x y) e w (λ p. refl)
+  strays_at (Some (Task x y u, e)) w h = another (Task x y u) e w (λ p. refl)
   strays_at (Some (Fun, e)) w h = cc
   strays_at (Some (Then, e)) w h = another Then e w (λ p. refl)
   strays_at (Some (Else, e)) w h = another Else e w (λ p. refl)
@@ -146,7 +147,7 @@ module _ (s : List ℕ) (at : ℕ) where
 -- THE FUNCTIONS, one after the other
 
 -- So far: the plan read, its records, bounds and heights, and the place.
-pub record Holding (s : List ℕ) (room D t : ℕ) (R₀ : List ℕ) (at i n own : ℕ) (bs hs R : List ℕ) : Type 0 where
+pub record Holding (s : List ℕ) (room D t : ℕ) (u : Edition) (R₀ : List ℕ) (at i n own : ℕ) (bs hs R : List ℕ) : Type 0 where
   pub read : Plan
   pub tall : List ℕ
   pub rows : List ℕ
@@ -154,6 +155,7 @@ pub record Holding (s : List ℕ) (room D t : ℕ) (R₀ : List ℕ) (at i n own
   pub reading : Reading room (lines s) read n i tall rows firsts (lines (drop at s))
   pub same_deadline : D ≡ read.deadline
   pub same_switch : t ≡ read.switch
+  pub same_edition : u ≡ read.edition
   pub counted : own ≡ length read.functions
   pub few : own ≤ 16
   pub measured : own ≡ length tall
@@ -165,17 +167,18 @@ pub record Holding (s : List ℕ) (room D t : ℕ) (R₀ : List ℕ) (at i n own
   pub fits : n ≤ room
 
 -- Behind the task line.
-pub holding_start : {s : List ℕ} {room D t e : ℕ} (R : List ℕ) → Found s 0 (Task D t) e → of_task D t ≡ None → Holding s room D t R e 2 0 0 (padded 17 []) (padded 16 []) R
+pub holding_start : {s : List ℕ} {room D t e : ℕ} {u : Edition} (R : List ℕ) → Found s 0 (Task D t u) e → of_task D t u ≡ None → Holding s room D t u R e 2 0 0 (padded 17 []) (padded 16 []) R
 unfolding fault
-holding_start {s} {room} {D} {t} R w q =
+holding_start {s} {room} {D} {t} {u = u} R w q =
     record {
-      read = record { deadline = D; switch = t; functions = [] };
+      read = record { deadline = D; switch = t; edition = u; functions = [] };
       tall = [];
       rows = [];
       firsts = 0 ∷ [];
-      reading = reading_start room D t (lines_found w) (found_held w) q;
+      reading = reading_start room D t u (lines_found w) (found_held w) q;
       same_deadline = refl;
       same_switch = refl;
+      same_edition = refl;
       counted = refl;
       few = omega arith;
       measured = refl;
@@ -192,7 +195,7 @@ closed_empty : (p : Plan) (fs : List Lines) → length fs ≡ 0 → closed_task 
 closed_empty p [] h = refl
 closed_empty p (f ∷ fs) h = absurd (omega arith)
 
-module _ {s : List ℕ} {room D t : ℕ} {R₀ : List ℕ} {at i n own : ℕ} {bs hs R : List ℕ} (g : Holding s room D t R₀ at i n own bs hs R) where
+module _ {s : List ℕ} {room D t : ℕ} {u : Edition} {R₀ : List ℕ} {at i n own : ℕ} {bs hs R : List ℕ} (g : Holding s room D t u R₀ at i n own bs hs R) where
   -- The heights of the functions before.
   pub held_heights : take own hs ≡ g.tall
   held_heights = ap₂ take g.measured g.heights_held ∙ take_padded 16 g.tall (omega (arith, g.few, g.measured))
@@ -217,17 +220,17 @@ module _ {s : List ℕ} {room D t : ℕ} {R₀ : List ℕ} {at i n own : ℕ} {b
       holding_on h = text_refused (closes ∙ done_on room n (i + 1) g.read (lines_at s e h))
 
       -- The text ends behind the task.
-      holding_end : length s ≤ e → TextAt s room R₀ R (Ok (raw_with D t n own bs hs))
+      holding_end : length s ≤ e → TextAt s room R₀ R (Ok (raw_with D t u n own bs hs))
       holding_end h =
           text_plan g.read (closes ∙ done_end room n (i + 1) g.read (lines_end s e h))
-          (rw (g.same_deadline, g.same_switch, g.reading.sized, g.counted, g.bounds_held, g.heights_held, g.reading.bounded, ← g.reading.known) refl)
+          (rw (g.same_deadline, g.same_switch, g.same_edition, g.reading.sized, g.counted, g.bounds_held, g.heights_held, g.reading.bounded, ← g.reading.known) refl)
           (g.filled ∙ ap (sets R₀ 0) g.reading.rows)
 
     -- What is answered where the task closes.
-    pub holding_ended : {r : Result Raw RefusedAt} → r ≡ ended_raw (length s) e i (raw_with D t n own bs hs) → TextAt s room R₀ R r
+    pub holding_ended : {r : Result Raw RefusedAt} → r ≡ ended_raw (length s) e i (raw_with D t u n own bs hs) → TextAt s room R₀ R r
     holding_ended {r} q = subst (λ x. TextAt s room R₀ R x) (sym q) (here (eqb own 0) refl (ltb e (length s)) refl)
       where
-        here : (x : Bool) → eqb own 0 ≡ x → (y : Bool) → ltb e (length s) ≡ y → TextAt s room R₀ R (ended_raw (length s) e i (raw_with D t n own bs hs))
+        here : (x : Bool) → eqb own 0 ≡ x → (y : Bool) → ltb e (length s) ≡ y → TextAt s room R₀ R (ended_raw (length s) e i (raw_with D t u n own bs hs))
         here true h y k = rw h (holding_empty (eqb-true own 0 h))
         here false h true k = rw (h, k) (holding_on (eqb-false own 0 h) (ltb-true e (length s) k))
         here false h false k = rw (h, k) (holding_end (eqb-false own 0 h) (ltb-false e (length s) k))
@@ -250,7 +253,7 @@ module _ {s : List ℕ} {room D t : ℕ} {R₀ : List ℕ} {at i n own : ℕ} {b
 
       -- One more function.
       pub holding_fun : {a j m h : ℕ} {R' : List ℕ} → FormsDone s room (take own hs) 2 1 e (i + 1) n R R' a j m h →
-          Holding s room D t R₀ a j m (own + 1) (set bs (own + 1) m) (set hs own h) R'
+          Holding s room D t u R₀ a j m (own + 1) (set bs (own + 1) m) (set hs own h) R'
       holding_fun {a} {j} {m} {h} {R'} x =
           let y : FormsDone s room g.tall 2 1 e (i + 1) n R R' a j m h = subst (λ z. FormsDone s room z 2 1 e (i + 1) n R R' a j m h) held_heights x in
           let wide : length g.rows ≡ 8 * n = ap length g.reading.rows ∙ (records_all_length 0 g.read.functions ∙ ap (λ z. 8 * z) (sym g.reading.sized)) in
@@ -263,6 +266,7 @@ module _ {s : List ℕ} {room D t : ℕ} {R₀ : List ℕ} {at i n own : ℕ} {b
             reading = reading_fun g.reading (lines_found w) (found_held w) no_fun_fault (enclosed y);
             same_deadline = g.same_deadline;
             same_switch = g.same_switch;
+            same_edition = g.same_edition;
             counted = omega (arith, g.counted, length-append g.read.functions ((enclosed y).forms ∷ []));
             few = omega (arith, g.few, o);
             measured = omega (arith, g.measured, length-append g.tall (h ∷ []));

@@ -33,8 +33,8 @@ complete = completeness.complete
 pub accepted : (row : ℕ) (text : List ℕ) (p : Plan) → (outcome row text ≡ plan p) ↔ ((text ≡ print p) × Formed p × Fits row p)
 accepted row text p = (sound row text p, λ (e, w, h). ap (outcome row) e ∙ complete row p w h)
 
--- The text of a plan has 20,622 bytes at most.
-pub print_bound : (p : Plan) → Formed p → length (print p) ≤ 20622
+-- The text of a plan has 20,630 bytes at most.
+pub print_bound : (p : Plan) → Formed p → length (print p) ≤ 20630
 print_bound = lengths.print_bound
 
 -- So no plan's text is oversize (1).
@@ -62,6 +62,6 @@ pub row_leaf : (p : Plan) → Formed p → (i : ℕ) → i < sizes p.functions �
     ((get_or (leveled_leaves p.functions) i no_leaf).block.number ≡ i) × Shows (row_of p) i (get_or (leveled_leaves p.functions) i no_leaf)
 row_leaf = rows.row_leaf
 
--- A row is that of one plan: two plans with the same deadline, switch cost, row and function bounds are one.
-pub row_one : (p q : Plan) → Formed p → Formed q → p.deadline ≡ q.deadline → p.switch ≡ q.switch → row_of p ≡ row_of q → bounds_of p ≡ bounds_of q → p ≡ q
+-- A row is that of one plan: two plans with the same deadline, switch cost, edition, row and function bounds are one.
+pub row_one : (p q : Plan) → Formed p → Formed q → p.deadline ≡ q.deadline → p.switch ≡ q.switch → p.edition ≡ q.edition → row_of p ≡ row_of q → bounds_of p ≡ bounds_of q → p ≡ q
 row_one = one_row.row_one

@@ -3,7 +3,7 @@
 -- Assumes nothing: these are definitions.
 use Rattle.std.specs.Prelude.{ℕ, ◌+◌, ◌^◌, min, List, [], ◌∷◌, ◌++◌, Bool, length, get_or, leb, ltb, eqb, Option, None, Some}
 use Rattle.model.specs.declared.Refusal.{Refusal}
-use Rattle.model.specs.Plan.{Block, Lines, close, leaf_line, call_line, loop_line, if_line, Plan}
+use Rattle.model.specs.Plan.{Block, Lines, close, leaf_line, call_line, loop_line, if_line, resume_cost, Plan}
 use Rattle.model.specs.Levels.{heights}
 use Rattle.text.specs.declared.Form.{Form}
 use Rattle.text.specs.declared.Form.TheVariants.{Task, Fun, Then, Else, Close, Leaf, Call, Loop, If}
@@ -33,7 +33,7 @@ pub data Around : Type 0 where
 
 -- Nothing was read yet (start); inside the task but in no function (task); in a body, with its forms so far (body); behind an `(if` line, where
 -- its `(then` must come, with the forms before the if (await_then); behind its then part, where its `(else` must come (await_else); behind its else
--- part, where its `)` must come (await_close); behind the closed task (done). The plan is the one so far: D, T and the functions that are closed.
+-- part, where its `)` must come (await_close); behind the closed task (done). The plan is the one so far: D, T, its edition and the functions that are closed.
 pub data ParserState : Type 0 where
   start : ParserState
   task : Plan → ParserState
@@ -97,7 +97,7 @@ pub data Next : Type 0 where
 
 -- A plan with one function more.
 abbrev pub with_function : Plan → Lines → Plan
-with_function p fs = record { deadline = p.deadline; switch = p.switch; functions = p.functions ++ (fs ∷ []) }
+with_function p fs = record { deadline = p.deadline; switch = p.switch; edition = p.edition; functions = p.functions ++ (fs ∷ []) }
 
 -- `)` closes the last open form (01): a body closes with the forms fs.
 abbrev pub closed : Plan → Around → Lines → ParserState
@@ -111,9 +111,9 @@ abbrev pub closed_task : Plan → List Lines → Next
 closed_task p [] = stuck
 closed_task p (l ∷ ls) = to (done p)
 
--- At the beginning only `(task D T` may stand.
+-- At the beginning only a task line may stand, without U or with it (02, L7).
 abbrev pub in_start : Form → Next
-in_start (Task d t) = to (task (record { deadline = d; switch = t; functions = [] }))
+in_start (Task d t u) = to (task (record { deadline = d; switch = t; edition = u; functions = [] }))
 in_start Fun = stuck
 in_start Then = stuck
 in_start Else = stuck
@@ -125,7 +125,7 @@ in_start (If k c m) = stuck
 
 -- In the task `(fun` may stand, and `)`.
 abbrev pub in_task : Plan → Form → Next
-in_task p (Task d t) = stuck
+in_task p (Task d t u) = stuck
 in_task p Fun = to (body p in_fun close)
 in_task p Then = stuck
 in_task p Else = stuck
@@ -141,7 +141,7 @@ block n k c m = record { number = n; point = k; isolated = c; max_load = m }
 
 -- In a body leaf, call, loop and if lines may stand, and `)`; the next leaf is number n.
 abbrev pub in_body : ℕ → Plan → Around → Lines → Form → Next
-in_body n p K fs (Task d t) = stuck
+in_body n p K fs (Task d t u) = stuck
 in_body n p K fs Fun = stuck
 in_body n p K fs Then = stuck
 in_body n p K fs Else = stuck
@@ -153,7 +153,7 @@ in_body n p K fs (If k c m) = to (await_then p K (block n k c m) fs)
 
 -- A number for each kind of line.
 abbrev pub tag_of : Form → ℕ
-tag_of (Task d t) = 0
+tag_of (Task d t u) = 0
 tag_of Fun = 1
 tag_of Then = 2
 tag_of Else = 3
@@ -197,11 +197,12 @@ of_leaf room n k c m later =
 -- has room for so many leaves and n are read; d brackets are open; L is the level; hs are the heights of the closed functions, so that `length hs` is
 -- the number of the function that is being read.
 unfoldable pub fault : ℕ → ℕ → ℕ → ℕ → List ℕ → Form → Option Refusal
-fault room d L n hs (Task D t) =
+fault room d L n hs (Task D t u) =
     refuse_unless (leb 1 D) Refusal.Range
     (refuse_unless (leb D (2 ^ 40)) Refusal.Range
     (refuse_unless (leb t (2 ^ 20)) Refusal.Range
-    (refuse_unless (ltb d 64) Refusal.Depth None)))
+    (refuse_unless (leb (resume_cost u) (2 ^ 20)) Refusal.Range
+    (refuse_unless (ltb d 64) Refusal.Depth None))))
 fault room d L n hs Fun =
     refuse_unless (ltb (length hs) 16) Refusal.Count
     (refuse_unless (ltb d 64) Refusal.Depth None)
@@ -227,7 +228,7 @@ fault room d L n hs (If k c m) =
 
 -- The number of leaves after a form: leaf, call, loop and if lines are leaves (01).
 abbrev pub counted : ℕ → Form → ℕ
-counted n (Task d t) = n
+counted n (Task d t u) = n
 counted n Fun = n
 counted n Then = n
 counted n Else = n

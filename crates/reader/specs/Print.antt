@@ -35,7 +35,7 @@ forms_all (l ∷ ls) = Fun ∷ (forms_in l ++ (Close ∷ forms_all ls))
 
 -- The lines of a plan.
 unfoldable pub forms_of : Plan → List Form
-forms_of p = Task p.deadline p.switch ∷ (forms_all p.functions ++ (Close ∷ []))
+forms_of p = Task p.deadline p.switch p.edition ∷ (forms_all p.functions ++ (Close ∷ []))
 
 -- Texts one after the other.
 unfoldable pub join_all : List (List ℕ) → List ℕ

@@ -3,7 +3,8 @@
 use Rattle.std.specs.Prelude.{ℕ, ◌+◌, ◌-◌, ◌*◌, ◌≤◌, ◌^◌, ◌≡◌, ◌≢◌, Bool, List, [], ◌∷◌, length, get_or, set, take, drop, leb, ltb, eqb, Option, None, Some, Result, Ok, Err}
 use Rattle.std.proofs.lemmas.List.Edits.{sets}
 use Rattle.model.specs.declared.Refusal.{Refusal}
-use Rattle.model.specs.Plan.{Lines, Plan}
+use Rattle.model.specs.declared.Edition.{Edition}
+use Rattle.model.specs.Plan.{Lines, resume_cost, Plan}
 use Rattle.model.specs.Levels.{height, heights}
 use Rattle.model.specs.Acceptance.{size}
 use Rattle.text.specs.declared.Form.{Form}
@@ -36,12 +37,16 @@ abbrev pub of_target : ℕ → List ℕ → ℕ → Option Refusal
 of_target L hs f = refuse_unless (ltb f (length hs)) Refusal.Target (refuse_unless (leb (L + get_or hs f 0) 32) Refusal.Depth None)
 
 -- The refusals that a task line meets.
-abbrev pub of_task : ℕ → ℕ → Option Refusal
-of_task D t = refuse_unless (leb 1 D) Refusal.Range (refuse_unless (leb D (2 ^ 40)) Refusal.Range (refuse_unless (leb t (2 ^ 20)) Refusal.Range None))
+abbrev pub of_task : ℕ → ℕ → Edition → Option Refusal
+of_task D t u =
+    refuse_unless (leb 1 D) Refusal.Range
+    (refuse_unless (leb D (2 ^ 40)) Refusal.Range
+    (refuse_unless (leb t (2 ^ 20)) Refusal.Range
+    (refuse_unless (leb (resume_cost u) (2 ^ 20)) Refusal.Range None)))
 
 -- The refusals that a line in a body meets; its closing bracket meets none.
 abbrev pub body_fault : ℕ → ℕ → ℕ → ℕ → List ℕ → Form → Option Refusal
-body_fault room d L n hs (Task D t) = Some Refusal.Form
+body_fault room d L n hs (Task D t u) = Some Refusal.Form
 body_fault room d L n hs Fun = Some Refusal.Form
 body_fault room d L n hs Then = Some Refusal.Form
 body_fault room d L n hs Else = Some Refusal.Form
@@ -68,13 +73,13 @@ AwaitedAt f p (Some (g, e)) (Err x) = (g ≢ f) × (x ≡ record { refusal = Ref
 AwaitedAt f p (Some (g, e)) (Ok q) = (g ≡ f) × (q ≡ record { at = e; line = p.line + 1; leaves = p.leaves })
 
 -- A task line that meets no refusal opens the task.
-abbrev pub judged_head : Option Refusal → ℕ → ℕ → ℕ → Result (ℕ × ℕ × ℕ) Refusal
-judged_head None D t e = Ok (D, t, e)
-judged_head (Some k) D t e = Err k
+abbrev pub judged_head : Option Refusal → ℕ → ℕ → Edition → ℕ → Result (ℕ × ℕ × Edition × ℕ) Refusal
+judged_head None D t u e = Ok (D, t, u, e)
+judged_head (Some k) D t u e = Err k
 
 -- What a form is as the first line.
-abbrev pub head_form : ℕ → Form → Result (ℕ × ℕ × ℕ) Refusal
-head_form e (Task D t) = judged_head (of_task D t) D t e
+abbrev pub head_form : ℕ → Form → Result (ℕ × ℕ × Edition × ℕ) Refusal
+head_form e (Task D t u) = judged_head (of_task D t u) D t u e
 head_form e Fun = Err Refusal.Form
 head_form e Then = Err Refusal.Form
 head_form e Else = Err Refusal.Form
@@ -84,8 +89,8 @@ head_form e (Call k f c m) = Err Refusal.Form
 head_form e (Loop k b c m) = Err Refusal.Form
 head_form e (If k c m) = Err Refusal.Form
 
--- What the first line is: D and T of the task, and the place after it.
-abbrev pub first_line : Option (Form × ℕ) → Result (ℕ × ℕ × ℕ) Refusal
+-- What the first line is: D, T and the edition of the task, and the place after it.
+abbrev pub first_line : Option (Form × ℕ) → Result (ℕ × ℕ × Edition × ℕ) Refusal
 first_line None = Err Refusal.Form
 first_line (Some (f, e)) = head_form e f
 
@@ -93,7 +98,7 @@ first_line (Some (f, e)) = head_form e f
 
 -- The record of leaf number n, from its line; no other line has one.
 abbrev pub record_of : ℕ → Form → ℕ → ℕ → ℕ → List ℕ
-record_of n (Task D t) other after L = []
+record_of n (Task D t u) other after L = []
 record_of n Fun other after L = []
 record_of n Then other after L = []
 record_of n Else other after L = []

@@ -2,6 +2,7 @@
 -- Assumes nothing: these are definitions.
 use Rattle.std.specs.Prelude.{ℕ, zero, suc, List, [], ◌∷◌, ◌≡◌, length, Result, Ok, Err}
 use Rattle.std.proofs.lemmas.List.Edits.{sets}
+use Rattle.model.specs.declared.Edition.{Edition}
 use Rattle.model.specs.Acceptance.{sizes}
 use Rattle.reader.specs.declared.RefusedAt.{RefusedAt}
 use Rattle.reader.specs.declared.Raw.{Raw}
@@ -18,13 +19,14 @@ padded (suc n) [] = 0 ∷ padded n []
 padded (suc n) (x ∷ xs) = x ∷ padded n xs
 
 -- What is read of a text in which a plan is found, with its numbers.
-abbrev pub raw_with : ℕ → ℕ → ℕ → ℕ → List ℕ → List ℕ → Raw
-raw_with D t n count bs hs = record { deadline = D; switch = t; leaves = n; functions = count; bounds = bs; heights = hs }
+abbrev pub raw_with : ℕ → ℕ → Edition → ℕ → ℕ → List ℕ → List ℕ → Raw
+raw_with D t u n count bs hs = record { deadline = D; switch = t; edition = u; leaves = n; functions = count; bounds = bs; heights = hs }
 
--- A plan is accepted, with D, T, the number of its leaves and functions, the functions' bounds and their heights; a refusal is refused, at its line.
+-- A plan is accepted, with D, T, its edition, the number of its leaves and functions, the functions' bounds and their heights; a refusal is refused, at its
+-- line.
 abbrev pub raw_of : Outcome → Result Raw RefusedAt
 raw_of (refused k j) = Err (record { refusal = k; line = j })
-raw_of (plan p) = Ok (raw_with p.deadline p.switch (sizes p.functions) (length p.functions) (padded 17 (bounds_of p)) (padded 16 (heights_of p)))
+raw_of (plan p) = Ok (raw_with p.deadline p.switch p.edition (sizes p.functions) (length p.functions) (padded 17 (bounds_of p)) (padded 16 (heights_of p)))
 
 -- The lent row afterwards: a plan's records stand at its beginning, and what is behind them is kept; a refusal keeps all of it.
 abbrev pub row_left : Outcome → List ℕ → List ℕ

@@ -1,5 +1,5 @@
 // The plan reader: makes of a text a plan's records in a lent row, or refuses it by one of 1 to 7 or by 19 (document 01, 'A plan, one form a line';
-// document 02, L2).
+// document 02, L2 and L7).
 #![tactic(auto)]
 
 ghost use Rattle.std.specs.Prelude.{◌≡◌, ◌≢◌, ◌+◌, ◌*◌, ◌<◌, ◌≤◌, length, leb};
@@ -13,10 +13,10 @@ ghost use Rattle.reader.specs.Raw.{raw_of, row_left, Written, derived};
 ghost use Rattle.reader.specs.Private.{of_bound, of_open, of_target, body_fault, body_line, AwaitedAt, of_task, first_line};
 ghost use Rattle.reader.specs.Private.{heights_before, with_body, record_of, ended_raw, FormsAt, FormAt, PartsAt, TextAt};
 
-use model::Refusal;
+use model::{Edition, Refusal};
 use rows::{
     BOUNDS, Kind, LIMIT, Leaf, MAX_BRACKETS, MAX_COST, MAX_FUNCTIONS, MAX_LEAVES, MAX_LEVEL,
-    MAX_LOOP_BOUND, MAX_SWITCH,
+    MAX_LOOP_BOUND, MAX_RESUME, MAX_SWITCH,
 };
 use text::{Form, line};
 
@@ -27,13 +27,14 @@ pub struct RefusedAt {
     pub line: usize,
 }
 
-// What the reader makes of a text beside the row: the plan's deadline, its switch cost, how many leaves and functions it has, the functions' bounds and
-// their heights, filled up with 0: arrays as long as any plan asks, for there is no heap. That the functions are 16 at most stands in the contracts, not
-// here: `raw_of` (specs/Raw) makes a `Raw` of each plan's numbers.
+// What the reader makes of a text beside the row: the plan's deadline, its switch cost, its edition, how many leaves and functions it has, the functions'
+// bounds and their heights, filled up with 0: arrays as long as any plan asks, for there is no heap. That the functions are 16 at most stands in the
+// contracts, not here: `raw_of` (specs/Raw) makes a `Raw` of each plan's numbers.
 #[derive(Clone, Copy)]
 pub struct Raw {
     pub deadline: u64,
     pub switch: u64,
+    pub edition: Edition,
     pub leaves: usize,
     pub functions: usize,
     pub bounds: [u64; BOUNDS],
@@ -402,25 +403,28 @@ fn ended(text: &[u8], spot: Spot, end: usize, raw: Raw) -> Result<Raw, RefusedAt
     Ok(raw)
 }
 
-// Tests the deadline and the switch cost.
-fn task_fault(deadline: u64, switch: u64) -> Result<(), Refusal>
-    ensures { result_err result ≡ of_task deadline switch }
+// Tests the deadline, the switch cost and, in edition 2, the cost of resuming.
+fn task_fault(deadline: u64, switch: u64, edition: Edition) -> Result<(), Refusal>
+    ensures { result_err result ≡ of_task deadline switch edition }
 {
     if deadline < 1 || LIMIT < deadline || MAX_SWITCH < switch {
         return Err(Refusal::Range);
     }
-    Ok(())
+    match edition {
+        Edition::Second(resume) if MAX_RESUME < resume => Err(Refusal::Range),
+        _ => Ok(()),
+    }
 }
 
-// Reads the first line, the task's: gives D and T, and the place after it.
-fn task_line(text: &[u8]) -> Result<(u64, u64, usize), Refusal>
+// Reads the first line, the task's: gives D, T and the edition, and the place after it.
+fn task_line(text: &[u8]) -> Result<(u64, u64, Edition, usize), Refusal>
     ensures { result ≡ first_line (read_at text.now 0) }
 {
-    let Some((Form::Task(deadline, switch), end)) = line(text, 0) else {
+    let Some((Form::Task(deadline, switch, edition), end)) = line(text, 0) else {
         return Err(Refusal::Form);
     };
-    task_fault(deadline, switch)?;
-    Ok((deadline, switch, end))
+    task_fault(deadline, switch, edition)?;
+    Ok((deadline, switch, edition, end))
 }
 
 // Reads the functions of the task, which begin at the place `from`, up to the task's closing bracket, behind which the text must end.
@@ -428,10 +432,11 @@ fn functions(
     text: &[u8],
     deadline: u64,
     switch: u64,
+    edition: Edition,
     from: usize,
     row: &mut [Leaf],
 ) -> Result<Raw, RefusedAt>
-    requires { Found text.now 0 (Task deadline switch) from × (of_task deadline switch ≡ None) }
+    requires { Found text.now 0 (Task deadline switch edition) from × (of_task deadline switch edition ≡ None) }
     ensures reads { TextAt text.now (length row.old) (numbers row.old) (numbers row.new) result }
     ensures keeps { derived row.new ≡ derived row.old }
 {
@@ -443,6 +448,7 @@ fn functions(
     let mut raw = Raw {
         deadline,
         switch,
+        edition,
         leaves: 0,
         functions: 0,
         bounds: [0; BOUNDS],
@@ -469,11 +475,11 @@ fn whole_task(text: &[u8], row: &mut [Leaf]) -> Result<Raw, RefusedAt>
     ensures reads { TextAt text.now (length row.old) (numbers row.old) (numbers row.new) result }
     ensures keeps { derived row.new ≡ derived row.old }
 {
-    let (deadline, switch, end) = task_line(text).map_err(|refusal| RefusedAt {
+    let (deadline, switch, edition, end) = task_line(text).map_err(|refusal| RefusedAt {
         refusal,
         line: 1,
     })?;
-    functions(text, deadline, switch, end, row)
+    functions(text, deadline, switch, edition, end, row)
 }
 
 // Reads a plan into a row, of which 512 records are used at most; what is derived of the leaves stays. A refused text leaves in the row what was read of

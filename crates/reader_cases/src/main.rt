@@ -1,5 +1,6 @@
-// Reads the plans of document 01 and a text for each refusal, and prints for each text `accepted` with the number of leaves and functions, or `refused`
-// with the refusal's number and line. What must be printed is worked out by hand beside each text, and stands in the file stdout.
+// Reads the plans of document 01, task lines of edition 2 (document 02, L7) and a text for each refusal, and prints for each text `accepted` with the number
+// of leaves and functions, or `refused` with the refusal's number and line. What must be printed is worked out by hand beside each text, and stands in the
+// file stdout.
 #![tactic(auto)]
 
 ghost use Rattle.std.specs.Prelude.{◌≤◌};
@@ -50,6 +51,31 @@ fn accepted_texts(rt: &impl Print) -> io::Result<()> {
     show(rt, b"(task 19 3\n(fun\n(leaf s 7 9)\n)\n)\n", 1)?;
     // A function may be empty.
     show(rt, b"(task 1 0\n(fun\n)\n)\n", 0)
+}
+
+// Task lines with a third number, U: plans of edition 2.
+fn edition_texts(rt: &impl Print) -> io::Result<()> {
+    // Plan A with U 3: its leaves and functions are the same.
+    show(
+        rt,
+        b"(task 100 4 3\n(fun\n(leaf p 5 9)\n(loop p 3 2 4\n(leaf s 10 20)\n)\n(leaf s 6 8)\n)\n)\n",
+        512,
+    )?;
+    // U may be 0, and 2^20.
+    show(rt, b"(task 100 4 0\n(fun\n)\n)\n", 512)?;
+    show(rt, b"(task 100 4 1048576\n(fun\n)\n)\n", 512)?;
+    // U is 2^20 + 1 in line 1.
+    show(rt, b"(task 100 4 1048577\n(fun\n)\n)\n", 512)?;
+    // U has 30 digits in line 1.
+    show(
+        rt,
+        b"(task 100 4 999999999999999999999999999999\n(fun\n)\n)\n",
+        512,
+    )?;
+    // U has a leading zero in line 1.
+    show(rt, b"(task 100 4 03\n(fun\n)\n)\n", 512)?;
+    // A fourth number in line 1.
+    show(rt, b"(task 100 4 3 4\n(fun\n)\n)\n", 512)
 }
 
 // Refusal 2, form.
@@ -216,6 +242,7 @@ fn deep_texts(rt: &impl Print) -> io::Result<()> {
 
 fn main(rt: HostRuntime) -> io::Result<()> {
     accepted_texts(&rt)?;
+    edition_texts(&rt)?;
     form_texts(&rt)?;
     range_texts(&rt)?;
     later_texts(&rt)?;

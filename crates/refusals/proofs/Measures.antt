@@ -132,7 +132,7 @@ functions_step closes_if es e = e
 
 pub leaves_step : (f : Form) (es : List Form) → leaves_among (f ∷ es) ≡ counted (leaves_among es) f
 unfolding leaves_among
-leaves_step (Task d t) es = refl
+leaves_step (Task d t u) es = refl
 leaves_step Fun es = refl
 leaves_step Then es = refl
 leaves_step Else es = refl
@@ -151,7 +151,7 @@ leaves_snoc (g ∷ fs) n f = leaves_snoc fs (counted n g) f
 
 -- The highest level on a line of level L, and the height of a function behind some lines: the greatest level of its forms, called forms included.
 abbrev pub highest : ℕ → (ℕ → ℕ) → Form → ℕ
-highest L tall (Task d t) = 0
+highest L tall (Task d t u) = 0
 highest L tall Fun = 0
 highest L tall Then = 0
 highest L tall Else = 0
@@ -183,7 +183,7 @@ height_bounds (earlier_line x) = omega (arith, height_bounds x)
 highest_met : (es : List Form) → ((F : ℕ) → 1 ≤ height_of F es → LevelAt es F (height_of F es)) → (f : Form) →
     1 ≤ highest (innermost (open_brackets es)) (λ G. height_of G es) f →
     LevelAt (f ∷ es) (own_function es) (highest (innermost (open_brackets es)) (λ G. height_of G es) f)
-highest_met es ih (Task d t) h = absurd (omega arith)
+highest_met es ih (Task d t u) h = absurd (omega arith)
 highest_met es ih Fun h = absurd (omega arith)
 highest_met es ih Then h = absurd (omega arith)
 highest_met es ih Else h = absurd (omega arith)
@@ -292,7 +292,7 @@ raise hs x y z own F o e = by (eqb F own) refl
 
 -- A call names a function that is closed.
 abbrev pub NamesClosed : ParserState → Form → Type 0
-NamesClosed S (Task d t) = Unit
+NamesClosed S (Task d t u) = Unit
 NamesClosed S Fun = Unit
 NamesClosed S Then = Unit
 NamesClosed S Else = Unit
@@ -337,7 +337,7 @@ talls_step (closes_if {p = p} {K = K} {x = x} {ts = ts} {es = es} {fs = fs}) h F
     (peak-⧺ (heights [] p.functions) K fs (if_line x ts es close) ∙ omega arith)
 
 highest_same : (L : ℕ) (g h : ℕ → ℕ) → ((F : ℕ) → g F ≡ h F) → (f : Form) → highest L g f ≡ highest L h f
-highest_same L g h e (Task d t) = refl
+highest_same L g h e (Task d t u) = refl
 highest_same L g h e Fun = refl
 highest_same L g h e Then = refl
 highest_same L g h e Else = refl

@@ -4,6 +4,7 @@ use mathlib.Core.Path.{◌≡◌, refl, sym, ap, ◌∙◌}
 use mathlib.Core.List.{List, [], ◌∷◌, ◌++◌, append_assoc, append-nil}
 use native.Mathlib.Omega.{arith}
 use lib.ListN.{length, length-append}
+use Rattle.model.specs.declared.Edition.TheVariants.{First}
 use Rattle.text.specs.declared.Form.{Form}
 use Rattle.text.specs.declared.Form.TheVariants.{Task, Fun, Then, Else, Close}
 use Rattle.model.specs.Plan.{Lines, close, leaf_line, call_line, loop_line, if_line, Plan}
@@ -110,8 +111,8 @@ closes_body (in_else b ts hs K) p fs n =
 closes : (S : ParserState) (n : ℕ) → Held S → Closes S n
 unfolding nests
 closes start n h =
-    let c = closes_body in_fun (record { deadline = 1; switch = 0; functions = [] }) close n in
-    record { by = Task 1 0 ∷ Fun ∷ c.by; found = c.found; some_function = c.some_function; closed_by = c.closed_by }
+    let c = closes_body in_fun (record { deadline = 1; switch = 0; edition = First; functions = [] }) close n in
+    record { by = Task 1 0 First ∷ Fun ∷ c.by; found = c.found; some_function = c.some_function; closed_by = c.closed_by }
 closes (task p) n h =
     let c = closes_body in_fun p close n in
     record { by = Fun ∷ c.by; found = c.found; some_function = c.some_function; closed_by = c.closed_by }
@@ -199,7 +200,7 @@ passes_all (l ∷ ls) p n gs =
 pub passes_whole : (p : Plan) → 1 ≤ length p.functions → (q : Plan) × (nests start 0 (forms_of p) ≡ to (done q))
 unfolding forms_of nests
 passes_whole p h =
-    let r = passes_all p.functions (record { deadline = p.deadline; switch = p.switch; functions = [] }) 0 (Close ∷ []) in
+    let r = passes_all p.functions (record { deadline = p.deadline; switch = p.switch; edition = p.edition; functions = [] }) 0 (Close ∷ []) in
     let q = r.plan_read in
     (q, r.passed ∙ rw (completeness.closes_task q r.leaves_read (omega (arith, r.functions_read))))
 

@@ -1,5 +1,5 @@
 -- The rules of lines on cases worked by hand: what is open, levels, which rules a line breaks; and whole texts that are refused by 2 for their nesting or
--- their end. One for each reading of document 01, or of 02, L2, that could have been another.
+-- their end. One for each reading of document 01, or of 02, L2 or L7, that could have been another.
 use Prim.Native.Nat.{ℕ, ◌≤◌, ◌<◌, zero, suc}
 use mathlib.Core.Path.{◌≡◌, refl}
 use mathlib.Core.List.{List, [], ◌∷◌, ◌++◌}
@@ -10,6 +10,7 @@ use lib.ListN.{length, replicate}
 use lib.Dec.{leb}
 use borrow.Author.Tests.{leb-true}
 use Rattle.model.specs.declared.Refusal.{Refusal}
+use Rattle.model.specs.declared.Edition.TheVariants.{First}
 use Rattle.text.specs.declared.Form.{Form}
 use Rattle.text.specs.declared.Form.TheVariants.{Task, Fun, Then, Else, Close, Leaf, Call, Loop, If}
 use Rattle.text.specs.Text.{bytes, lines}
@@ -33,11 +34,11 @@ an_if = If false 1 1
 
 -- The lines before, the latest first: in a function's body, behind these.
 abbrev in_main : List Form → List Form
-in_main fs = fs ++ (Fun ∷ Task 1 0 ∷ [])
+in_main fs = fs ++ (Fun ∷ Task 1 0 First ∷ [])
 
 -- So many functions without forms, and so many ifs around each other, each open in its then part.
 empty_functions : ℕ → List Form
-empty_functions zero = Task 1 0 ∷ []
+empty_functions zero = Task 1 0 First ∷ []
 empty_functions (suc n) = Close ∷ Fun ∷ empty_functions n
 
 nested_ifs : ℕ → List Form
@@ -69,7 +70,7 @@ inside_33 =
     level_depth {f = a_leaf} (own_level of_leaf) (omega arith)
 
 -- A call at level 32 of a function without forms adds nothing.
-calls_empty : {L : ℕ} → LevelAt (Call true 0 1 1 ∷ (replicate 31 a_loop ++ (Fun ∷ Close ∷ Fun ∷ Task 1 0 ∷ []))) 1 L → L ≤ 32
+calls_empty : {L : ℕ} → LevelAt (Call true 0 1 1 ∷ (replicate 31 a_loop ++ (Fun ∷ Close ∷ Fun ∷ Task 1 0 First ∷ []))) 1 L → L ≤ 32
 unfolding height_of open_brackets functions_among
 calls_empty x = height_bounds x
 
@@ -228,6 +229,15 @@ zero_in_front = by_rules 512 (bytes "(task 1 0\n(fun\n(leaf p 09999999 1)\n") Re
 nesting_before_range : RefusedAt 512 (bytes "(task 1 0\n(leaf p 9999999 1)\n") Refusal.Form 2
 unfolding outcome run fault brackets_in brackets level_in level functions_of heights height ◌⧺◌ line_form lines matched item number digits
 nesting_before_range = by_rules 512 (bytes "(task 1 0\n(leaf p 9999999 1)\n") Refusal.Form 2 refl refl
+
+-- A U over 2^20 is out of its range; 2^20 is in it, and then the text ends early.
+resume_over : RefusedAt 512 (bytes "(task 1 0 1048577\n") Refusal.Range 1
+unfolding outcome run fault brackets_in brackets level_in level functions_of heights height ◌⧺◌ line_form lines matched item number digits
+resume_over = by_rules 512 (bytes "(task 1 0 1048577\n") Refusal.Range 1 refl refl
+
+resume_greatest : RefusedAt 512 (bytes "(task 1 0 1048576\n") Refusal.Form 2
+unfolding outcome run fault brackets_in brackets level_in level functions_of heights height ◌⧺◌ line_form lines matched item number digits
+resume_greatest = by_rules 512 (bytes "(task 1 0 1048576\n") Refusal.Form 2 refl refl
 
 -- A point with C = 0 that the lent row has no record for: 4, not 19.
 count_not_costless : RefusedAt 0 (bytes "(task 1 0\n(fun\n(leaf p 0 0)\n") Refusal.Count 3

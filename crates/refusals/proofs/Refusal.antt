@@ -58,7 +58,7 @@ values {S} {n = n} {S' = S'} a s = record {
 }
 
 names : (room d L n : ℕ) (S : ParserState) (f : Form) → Allowed room d L n (heights [] (functions_of S)) f → NamesClosed S f
-names room d L n S (Task x t) a = tt
+names room d L n S (Task x t u) a = tt
 names room d L n S Fun a = tt
 names room d L n S Then a = tt
 names room d L n S Else a = tt

@@ -14,13 +14,16 @@ use borrow.Author.Tests.{lt-leb, le-ltb, leb-false, ltb-false, ltb-true}
 use Rattle.model.specs.declared.Refusal.{Refusal}
 use Rattle.model.specs.Refusals.{number_of}
 use Rattle.std.specs.Prelude.{Option, None, Some}
+use Rattle.model.specs.declared.Edition.{Edition}
+use Rattle.model.specs.declared.Edition.TheVariants.{First, Second}
+use Rattle.model.specs.Plan.{resume_cost}
 use Rattle.model.specs.Places.{pick, bit}
 use Rattle.model.proofs.Bits.{bit_low}
 use Rattle.text.specs.declared.Form.{Form}
 use Rattle.text.specs.declared.Form.TheVariants.{Task, Fun, Then, Else, Close, Leaf, Call, Loop, If}
 use Rattle.text.specs.Grammar.{Line, form}
 use Rattle.reader.specs.Machine.{refuse_unless, fault}
-use Rattle.refusals.specs.Refusal.{PlanLines, LeafLine, of_leaf, of_call, of_loop, of_if, leaves_among, functions_among, own_function, innermost, open_brackets, LevelAt, own_level, called_level, Breaks, no_line, nesting, deadline_range, switch_range, cost_range, target_range, bound_range, leaf_count, row_count, function_count, load, costless, target, bracket_depth, level_depth, line_order, FirstBroken, this, not_this, NoneBroken}
+use Rattle.refusals.specs.Refusal.{PlanLines, LeafLine, of_leaf, of_call, of_loop, of_if, leaves_among, functions_among, own_function, innermost, open_brackets, LevelAt, own_level, called_level, Breaks, no_line, nesting, deadline_range, switch_range, resume_range, cost_range, target_range, bound_range, leaf_count, row_count, function_count, load, costless, target, bracket_depth, level_depth, line_order, FirstBroken, this, not_this, NoneBroken}
 use Rattle.refusals.proofs.Measures.{highest, height_of, height_bounds, height_met}
 
 -- No test both holds and fails.
@@ -31,8 +34,11 @@ clash e q = cc
 abbrev costs : ℕ → ℕ → Bool
 costs c m = leb c (2 ^ 20) && leb m (2 ^ 20)
 
+abbrev switches : ℕ → Edition → Bool
+switches t u = leb t (2 ^ 20) && leb (resume_cost u) (2 ^ 20)
+
 abbrev test_3 : Form → Bool
-test_3 (Task d t) = leb 1 d && (leb d (2 ^ 40) && leb t (2 ^ 20))
+test_3 (Task d t u) = leb 1 d && (leb d (2 ^ 40) && switches t u)
 test_3 Fun = true
 test_3 Then = true
 test_3 Else = true
@@ -43,7 +49,7 @@ test_3 (Loop k b c m) = leb 1 b && (leb b 65535 && costs c m)
 test_3 (If k c m) = costs c m
 
 abbrev test_4 : ℕ → ℕ → List ℕ → Form → Bool
-test_4 room n hs (Task d t) = true
+test_4 room n hs (Task d t u) = true
 test_4 room n hs Fun = ltb (length hs) 16
 test_4 room n hs Then = true
 test_4 room n hs Else = true
@@ -54,7 +60,7 @@ test_4 room n hs (Loop k b c m) = ltb n room
 test_4 room n hs (If k c m) = ltb n room
 
 abbrev test_5 : Form → Bool
-test_5 (Task d t) = true
+test_5 (Task d t u) = true
 test_5 Fun = true
 test_5 Then = true
 test_5 Else = true
@@ -65,7 +71,7 @@ test_5 (Loop k b c m) = leb c m
 test_5 (If k c m) = leb c m
 
 abbrev test_19 : Form → Bool
-test_19 (Task d t) = true
+test_19 (Task d t u) = true
 test_19 Fun = true
 test_19 Then = true
 test_19 Else = true
@@ -76,7 +82,7 @@ test_19 (Loop k b c m) = leb (bit k) c
 test_19 (If k c m) = leb (bit k) c
 
 abbrev test_6 : List ℕ → Form → Bool
-test_6 hs (Task d t) = true
+test_6 hs (Task d t u) = true
 test_6 hs Fun = true
 test_6 hs Then = true
 test_6 hs Else = true
@@ -87,7 +93,7 @@ test_6 hs (Loop k b c m) = true
 test_6 hs (If k c m) = true
 
 abbrev test_7 : ℕ → ℕ → List ℕ → Form → Bool
-test_7 d L hs (Task D t) = ltb d 64
+test_7 d L hs (Task D t u) = ltb d 64
 test_7 d L hs Fun = ltb d 64
 test_7 d L hs Then = ltb d 64
 test_7 d L hs Else = ltb d 64
@@ -101,11 +107,12 @@ test_7 d L hs (If k c m) = leb L 32 && ltb d 64
 abbrev chain : Bool → Bool → Bool → Bool → Bool → Bool → Option Refusal
 chain a b c p d e = refuse_unless a Refusal.Range (refuse_unless b Refusal.Count (refuse_unless c Refusal.Load (refuse_unless p Refusal.Costless (refuse_unless d Refusal.Target (refuse_unless e Refusal.Depth None)))))
 
-three : (a b c y : Bool) → refuse_unless a Refusal.Range (refuse_unless b Refusal.Range (refuse_unless c Refusal.Range (refuse_unless y Refusal.Depth None))) ≡ chain (a && (b && c)) true true true true y
-three false b c y = refl
-three true false c y = refl
-three true true false y = refl
-three true true true y = refl
+four : (a b c e y : Bool) → refuse_unless a Refusal.Range (refuse_unless b Refusal.Range (refuse_unless c Refusal.Range (refuse_unless e Refusal.Range (refuse_unless y Refusal.Depth None)))) ≡ chain (a && (b && (c && e))) true true true true y
+four false b c e y = refl
+four true false c e y = refl
+four true true false e y = refl
+four true true true false y = refl
+four true true true true y = refl
 
 two : (a b e g p h x : Bool) →
     refuse_unless a Refusal.Range (refuse_unless b Refusal.Range (refuse_unless e Refusal.Count (refuse_unless g Refusal.Load (refuse_unless p Refusal.Costless (refuse_unless h Refusal.Target (refuse_unless x Refusal.Depth None)))))) ≡
@@ -132,7 +139,7 @@ in_front false b e g p h x = refl
 fault_chain : (room d L n : ℕ) (hs : List ℕ) (f : Form) →
     fault room d L n hs f ≡ chain (test_3 f) (test_4 room n hs f) (test_5 f) (test_19 f) (test_6 hs f) (test_7 d L hs f)
 unfolding fault
-fault_chain room d L n hs (Task D t) = three (leb 1 D) (leb D (2 ^ 40)) (leb t (2 ^ 20)) (ltb d 64)
+fault_chain room d L n hs (Task D t u) = four (leb 1 D) (leb D (2 ^ 40)) (leb t (2 ^ 20)) (leb (resume_cost u) (2 ^ 20)) (ltb d 64)
 fault_chain room d L n hs Fun = refl
 fault_chain room d L n hs Then = refl
 fault_chain room d L n hs Else = refl
@@ -150,16 +157,16 @@ fault_chain room d L n hs (Loop k b c m) =
 fault_chain room d L n hs (If k c m) = twice (leb c (2 ^ 20)) (leb m (2 ^ 20)) (ltb n room) (leb c m) (leb (bit k) c) (leb L 32) (ltb d 64)
 
 -- The first test that fails.
-data First (a b c p d e : Bool) : Option Refusal → Type 0 where
-  none : a ≡ true → b ≡ true → c ≡ true → p ≡ true → d ≡ true → e ≡ true → First a b c p d e None
-  at_3 : a ≡ false → First a b c p d e (Some Refusal.Range)
-  at_4 : a ≡ true → b ≡ false → First a b c p d e (Some Refusal.Count)
-  at_5 : a ≡ true → b ≡ true → c ≡ false → First a b c p d e (Some Refusal.Load)
-  at_19 : a ≡ true → b ≡ true → c ≡ true → p ≡ false → First a b c p d e (Some Refusal.Costless)
-  at_6 : a ≡ true → b ≡ true → c ≡ true → p ≡ true → d ≡ false → First a b c p d e (Some Refusal.Target)
-  at_7 : a ≡ true → b ≡ true → c ≡ true → p ≡ true → d ≡ true → e ≡ false → First a b c p d e (Some Refusal.Depth)
+data FirstFailed (a b c p d e : Bool) : Option Refusal → Type 0 where
+  none : a ≡ true → b ≡ true → c ≡ true → p ≡ true → d ≡ true → e ≡ true → FirstFailed a b c p d e None
+  at_3 : a ≡ false → FirstFailed a b c p d e (Some Refusal.Range)
+  at_4 : a ≡ true → b ≡ false → FirstFailed a b c p d e (Some Refusal.Count)
+  at_5 : a ≡ true → b ≡ true → c ≡ false → FirstFailed a b c p d e (Some Refusal.Load)
+  at_19 : a ≡ true → b ≡ true → c ≡ true → p ≡ false → FirstFailed a b c p d e (Some Refusal.Costless)
+  at_6 : a ≡ true → b ≡ true → c ≡ true → p ≡ true → d ≡ false → FirstFailed a b c p d e (Some Refusal.Target)
+  at_7 : a ≡ true → b ≡ true → c ≡ true → p ≡ true → d ≡ true → e ≡ false → FirstFailed a b c p d e (Some Refusal.Depth)
 
-first : (a b c p d e : Bool) → First a b c p d e (chain a b c p d e)
+first : (a b c p d e : Bool) → FirstFailed a b c p d e (chain a b c p d e)
 first false b c p d e = at_3 refl
 first true false c p d e = at_4 refl refl
 first true true false p d e = at_5 refl refl refl
@@ -213,13 +220,18 @@ module _ (capacity : ℕ) (es : List Form) where
       by (inl q) = cost_range x (inl (leb-false c (2 ^ 20) q))
       by (inr q) = cost_range x (inr (leb-false m (2 ^ 20) q))
 
-  task_broken : (d t : ℕ) → (leb 1 d ≡ false) ⊎ ((leb d (2 ^ 40) && leb t (2 ^ 20)) ≡ false) → Breaks capacity es (form (Task d t)) Refusal.Range
-  task_broken d t (inl q) = deadline_range (inl (leb-false 1 d q))
-  task_broken d t (inr q) = by (and_cases (leb d (2 ^ 40)) (leb t (2 ^ 20)) q)
+  switches_broken : (d t : ℕ) (u : Edition) → (leb t (2 ^ 20) ≡ false) ⊎ (leb (resume_cost u) (2 ^ 20) ≡ false) → Breaks capacity es (form (Task d t u)) Refusal.Range
+  switches_broken d t u (inl q) = switch_range (leb-false t (2 ^ 20) q)
+  switches_broken d t First (inr q) = absurd (omega (arith, leb-false 0 (2 ^ 20) q))
+  switches_broken d t (Second u) (inr q) = resume_range (leb-false u (2 ^ 20) q)
+
+  task_broken : (d t : ℕ) (u : Edition) → (leb 1 d ≡ false) ⊎ ((leb d (2 ^ 40) && switches t u) ≡ false) → Breaks capacity es (form (Task d t u)) Refusal.Range
+  task_broken d t u (inl q) = deadline_range (inl (leb-false 1 d q))
+  task_broken d t u (inr q) = by (and_cases (leb d (2 ^ 40)) (switches t u) q)
     where
-      by : (leb d (2 ^ 40) ≡ false) ⊎ (leb t (2 ^ 20) ≡ false) → Breaks capacity es (form (Task d t)) Refusal.Range
+      by : (leb d (2 ^ 40) ≡ false) ⊎ (switches t u ≡ false) → Breaks capacity es (form (Task d t u)) Refusal.Range
       by (inl q) = deadline_range {d = d} (inr (omega (arith, leb-false d (2 ^ 40) q)))
-      by (inr q) = switch_range (leb-false t (2 ^ 20) q)
+      by (inr q) = switches_broken d t u (and_cases (leb t (2 ^ 20)) (leb (resume_cost u) (2 ^ 20)) q)
 
   call_broken : (k : Bool) (f c m : ℕ) → (leb f 15 ≡ false) ⊎ (costs c m ≡ false) → Breaks capacity es (form (Call k f c m)) Refusal.Range
   call_broken k f c m (inl q) = target_range (leb-false f 15 q)
@@ -234,7 +246,7 @@ module _ (capacity : ℕ) (es : List Form) where
       by (inr q) = costs_broken of_loop q
 
   broken_3 : (f : Form) → test_3 f ≡ false → Breaks capacity es (form f) Refusal.Range
-  broken_3 (Task d t) e = task_broken d t (and_cases (leb 1 d) (leb d (2 ^ 40) && leb t (2 ^ 20)) e)
+  broken_3 (Task d t u) e = task_broken d t u (and_cases (leb 1 d) (leb d (2 ^ 40) && switches t u) e)
   broken_3 Fun e = cc
   broken_3 Then e = cc
   broken_3 Else e = cc
@@ -245,7 +257,7 @@ module _ (capacity : ℕ) (es : List Form) where
   broken_3 (If k c m) e = costs_broken of_if e
 
   broken_5 : (f : Form) → test_5 f ≡ false → Breaks capacity es (form f) Refusal.Load
-  broken_5 (Task d t) e = cc
+  broken_5 (Task d t u) e = cc
   broken_5 Fun e = cc
   broken_5 Then e = cc
   broken_5 Else e = cc
@@ -261,7 +273,7 @@ module _ (capacity : ℕ) (es : List Form) where
   point_broken false zero m x e = absurd (omega (arith, leb-false 0 0 e))
 
   broken_19 : (f : Form) → test_19 f ≡ false → Breaks capacity es (form f) Refusal.Costless
-  broken_19 (Task d t) e = cc
+  broken_19 (Task d t u) e = cc
   broken_19 Fun e = cc
   broken_19 Then e = cc
   broken_19 Else e = cc
@@ -280,7 +292,7 @@ module _ (capacity : ℕ) (es : List Form) where
 
     broken_4 : (f : Form) → Values es f d L n hs → test_4 (min 512 capacity) n hs f ≡ false → Breaks capacity es (form f) Refusal.Count
     unfolding leaves_among functions_among
-    broken_4 (Task D t) v e = cc
+    broken_4 (Task D t u) v e = cc
     broken_4 Fun v e = function_count {f = Fun} (omega (arith, ltb-false (length hs) 16 e, v.functions_are refl))
     broken_4 Then v e = cc
     broken_4 Else v e = cc
@@ -291,7 +303,7 @@ module _ (capacity : ℕ) (es : List Form) where
     broken_4 (If k c m) v e = leaves_broken (If k c m) refl v.leaves_are e
 
     broken_6 : (f : Form) → Values es f d L n hs → test_6 hs f ≡ false → Breaks capacity es (form f) Refusal.Target
-    broken_6 (Task D t) v e = cc
+    broken_6 (Task D t u) v e = cc
     broken_6 Fun v e = cc
     broken_6 Then v e = cc
     broken_6 Else v e = cc
@@ -326,7 +338,7 @@ module _ (capacity : ℕ) (es : List Form) where
 
     broken_7 : (f : Form) → Values es f d L n hs → test_6 hs f ≡ true → test_7 d L hs f ≡ false → Breaks capacity es (form f) Refusal.Depth
     unfolding open_brackets
-    broken_7 (Task D t) v g e = brackets_broken (Task D t) (omega arith) v.brackets_are e
+    broken_7 (Task D t u) v g e = brackets_broken (Task D t u) (omega arith) v.brackets_are e
     broken_7 Fun v g e = brackets_broken Fun (omega arith) v.brackets_are e
     broken_7 Then v g e = brackets_broken Then (omega arith) v.brackets_are e
     broken_7 Else v g e = brackets_broken Else (omega arith) v.brackets_are e
@@ -348,12 +360,18 @@ module _ (capacity : ℕ) (es : List Form) where
     cost_fails (of_loop {b = b} {c = c} {m = m}) h = and_right (leb 1 b) (leb b 65535 && costs c m) (and_right (leb b 65535) (costs c m) (costs_fail h))
     cost_fails of_if h = costs_fail h
 
-    deadline_fails : (D t : ℕ) → (D < 1) ⊎ (2 ^ 40 < D) → test_3 (Task D t) ≡ false
-    deadline_fails D t (inl h) = and_left (leb 1 D) (leb D (2 ^ 40) && leb t (2 ^ 20)) (lt-leb 1 D h)
-    deadline_fails D t (inr h) = and_right (leb 1 D) (leb D (2 ^ 40) && leb t (2 ^ 20)) (and_left (leb D (2 ^ 40)) (leb t (2 ^ 20)) (lt-leb D (2 ^ 40) h))
+    deadline_fails : (D t : ℕ) (u : Edition) → (D < 1) ⊎ (2 ^ 40 < D) → test_3 (Task D t u) ≡ false
+    deadline_fails D t u (inl h) = and_left (leb 1 D) (leb D (2 ^ 40) && switches t u) (lt-leb 1 D h)
+    deadline_fails D t u (inr h) = and_right (leb 1 D) (leb D (2 ^ 40) && switches t u) (and_left (leb D (2 ^ 40)) (switches t u) (lt-leb D (2 ^ 40) h))
 
-    switch_fails : (D t : ℕ) → 2 ^ 20 < t → test_3 (Task D t) ≡ false
-    switch_fails D t h = and_right (leb 1 D) (leb D (2 ^ 40) && leb t (2 ^ 20)) (and_right (leb D (2 ^ 40)) (leb t (2 ^ 20)) (lt-leb t (2 ^ 20) h))
+    switches_fail : (D t : ℕ) (u : Edition) → switches t u ≡ false → test_3 (Task D t u) ≡ false
+    switches_fail D t u h = and_right (leb 1 D) (leb D (2 ^ 40) && switches t u) (and_right (leb D (2 ^ 40)) (switches t u) h)
+
+    switch_fails : (D t : ℕ) (u : Edition) → 2 ^ 20 < t → test_3 (Task D t u) ≡ false
+    switch_fails D t u h = switches_fail D t u (and_left (leb t (2 ^ 20)) (leb (resume_cost u) (2 ^ 20)) (lt-leb t (2 ^ 20) h))
+
+    resume_fails : (D t u : ℕ) → 2 ^ 20 < u → test_3 (Task D t (Second u)) ≡ false
+    resume_fails D t u h = switches_fail D t (Second u) (and_right (leb t (2 ^ 20)) (leb u (2 ^ 20)) (lt-leb u (2 ^ 20) h))
 
     bound_fails : (k : Bool) (b c m : ℕ) → (b < 1) ⊎ (65535 < b) → test_3 (Loop k b c m) ≡ false
     bound_fails k b c m (inl h) = and_left (leb 1 b) (leb b 65535 && costs c m) (lt-leb 1 b h)
@@ -361,7 +379,7 @@ module _ (capacity : ℕ) (es : List Form) where
 
     leaves_fail : (f : Form) → Values es f d L n hs → Within capacity es → min 512 capacity < leaves_among (f ∷ es) → test_4 (min 512 capacity) n hs f ≡ false
     unfolding leaves_among
-    leaves_fail (Task D t) v w h = absurd (omega (arith, w.few_leaves, w.fit_leaves))
+    leaves_fail (Task D t u) v w h = absurd (omega (arith, w.few_leaves, w.fit_leaves))
     leaves_fail Fun v w h = absurd (omega (arith, w.few_leaves, w.fit_leaves))
     leaves_fail Then v w h = absurd (omega (arith, w.few_leaves, w.fit_leaves))
     leaves_fail Else v w h = absurd (omega (arith, w.few_leaves, w.fit_leaves))
@@ -373,7 +391,7 @@ module _ (capacity : ℕ) (es : List Form) where
 
     functions_fail : (f : Form) → Values es f d L n hs → Within capacity es → 16 < functions_among (f ∷ es) → test_4 (min 512 capacity) n hs f ≡ false
     unfolding functions_among
-    functions_fail (Task D t) v w h = absurd (omega (arith, w.few_functions))
+    functions_fail (Task D t u) v w h = absurd (omega (arith, w.few_functions))
     functions_fail Fun v w h = le-ltb (length hs) 16 (omega (arith, v.functions_are refl))
     functions_fail Then v w h = absurd (omega (arith, w.few_functions))
     functions_fail Else v w h = absurd (omega (arith, w.few_functions))
@@ -397,7 +415,7 @@ module _ (capacity : ℕ) (es : List Form) where
 
     brackets_fail : (f : Form) → Values es f d L n hs → Within capacity es → 64 < length (open_brackets (f ∷ es)) → test_7 d L hs f ≡ false
     unfolding open_brackets
-    brackets_fail (Task D t) v w h = le-ltb d 64 (omega (arith, v.brackets_are))
+    brackets_fail (Task D t u) v w h = le-ltb d 64 (omega (arith, v.brackets_are))
     brackets_fail Fun v w h = le-ltb d 64 (omega (arith, v.brackets_are))
     brackets_fail Then v w h = le-ltb d 64 (omega (arith, v.brackets_are))
     brackets_fail Else v w h = le-ltb d 64 (omega (arith, v.brackets_are))
@@ -409,7 +427,7 @@ module _ (capacity : ℕ) (es : List Form) where
 
     highest_fails : (f : Form) → Values es f d L n hs → test_6 hs f ≡ true → 32 < highest (innermost (open_brackets es)) (λ G. height_of G es) f →
         test_7 d L hs f ≡ false
-    highest_fails (Task D t) v g h = absurd (omega arith)
+    highest_fails (Task D t u) v g h = absurd (omega arith)
     highest_fails Fun v g h = absurd (omega arith)
     highest_fails Then v g h = absurd (omega arith)
     highest_fails Else v g h = absurd (omega arith)
@@ -444,8 +462,9 @@ module _ (capacity : ℕ) (es : List Form) where
     spared : {f : Form} → (more : List Form) × PlanLines (reverse es ++ (f ∷ more)) → Values es f d L n hs → Within capacity es → (i : Refusal) → test f i ≡ true →
         Breaks capacity es (form f) i → ⊥
     spared (more, q) v w i t (nesting x) = x more q
-    spared q v w i t (deadline_range {d = D} {t = T} x) = clash t (deadline_fails D T x)
-    spared q v w i t (switch_range {d = D} {t = T} x) = clash t (switch_fails D T x)
+    spared q v w i t (deadline_range {d = D} {t = T} {e = E} x) = clash t (deadline_fails D T E x)
+    spared q v w i t (switch_range {d = D} {t = T} {e = E} x) = clash t (switch_fails D T E x)
+    spared q v w i t (resume_range {d = D} {t = T} {u = U} x) = clash t (resume_fails D T U x)
     spared q v w i t (cost_range a x) = clash t (cost_fails a x)
     spared q v w i t (target_range {F = F} {c = C} {m = M} x) = clash t (and_left (leb F 15) (costs C M) (lt-leb F 15 x))
     spared q v w i t (bound_range {k = K} {b = B} {c = C} {m = M} x) = clash t (bound_fails K B C M x)
@@ -468,6 +487,7 @@ breaks_rule no_line = inl (omega arith)
 breaks_rule (nesting h) = inl (omega arith)
 breaks_rule (deadline_range h) = inl (omega arith)
 breaks_rule (switch_range h) = inl (omega arith)
+breaks_rule (resume_range h) = inl (omega arith)
 breaks_rule (cost_range c h) = inl (omega arith)
 breaks_rule (target_range h) = inl (omega arith)
 breaks_rule (bound_range h) = inl (omega arith)
@@ -494,7 +514,7 @@ ruling capacity es f d L n hs p h v =
     spare : (i : Refusal) → test capacity es d L n hs f i ≡ true → Breaks capacity es (form f) i → ⊥
     spare = spared capacity es d L n hs p v (within capacity es h)
 
-    by : {k : Option Refusal} → First (test_3 f) (test_4 (min 512 capacity) n hs f) (test_5 f) (test_19 f) (test_6 hs f) (test_7 d L hs f) k → Ruling capacity es f k
+    by : {k : Option Refusal} → FirstFailed (test_3 f) (test_4 (min 512 capacity) n hs f) (test_5 f) (test_19 f) (test_6 hs f) (test_7 d L hs f) k → Ruling capacity es f k
     by (none x3 x4 x5 x19 x6 x7) = λ i. spare i (here i)
       where
         here : (i : Refusal) → test capacity es d L n hs f i ≡ true

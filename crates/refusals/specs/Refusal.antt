@@ -1,9 +1,11 @@
 -- Refusals 2 to 7 and 19, said of the lines of a text with no reader in it (01, 'A plan, one form a line', 'Runs, levels' and the table of refusals
--- with the order below it; 02, L2): which rules a line breaks behind the lines before it, and which line of a text is refused by which rule.
+-- with the order below it; 02, L2 and L7): which rules a line breaks behind the lines before it, and which line of a text is refused by which rule.
 -- The lines before a line are given by their forms, the latest first; `reverse` puts them in text order.
 -- Assumes nothing: these are definitions.
 use Rattle.std.specs.Prelude.{ℕ, ◌+◌, ◌-◌, ◌^◌, ◌≤◌, ◌<◌, ◌≡◌, List, [], ◌∷◌, ◌++◌, map, reverse, ◌⊎◌, Bool, true, length, get_or, drop}
 use Rattle.model.specs.declared.Refusal.{Refusal}
+use Rattle.model.specs.declared.Edition.{Edition}
+use Rattle.model.specs.declared.Edition.TheVariants.{Second}
 use Rattle.model.specs.Plan.{Plan}
 use Rattle.text.specs.declared.Form.{Form}
 use Rattle.text.specs.declared.Form.TheVariants.{Task, Fun, Then, Else, Close, Leaf, Call, Loop, If}
@@ -32,7 +34,7 @@ pub data LeafLine : Form → Bool → ℕ → ℕ → Type 0 where
 -- How many of some lines are leaves.
 unfoldable pub leaves_among : List Form → ℕ
 leaves_among [] = 0
-leaves_among (Task d t ∷ fs) = leaves_among fs
+leaves_among (Task d t e ∷ fs) = leaves_among fs
 leaves_among (Fun ∷ fs) = leaves_among fs
 leaves_among (Then ∷ fs) = leaves_among fs
 leaves_among (Else ∷ fs) = leaves_among fs
@@ -45,7 +47,7 @@ leaves_among (If k c m ∷ fs) = leaves_among fs + 1
 -- How many functions begin on some lines.
 unfoldable pub functions_among : List Form → ℕ
 functions_among [] = 0
-functions_among (Task d t ∷ fs) = functions_among fs
+functions_among (Task d t e ∷ fs) = functions_among fs
 functions_among (Fun ∷ fs) = functions_among fs + 1
 functions_among (Then ∷ fs) = functions_among fs
 functions_among (Else ∷ fs) = functions_among fs
@@ -68,7 +70,7 @@ innermost levels = get_or levels 0 0
 -- The open brackets behind a line, from those before it: a function's own forms count from 1, a loop body is one above its condition, then and else
 -- keep the level; `)` closes the last open form; leaf and call lines close themselves (01).
 abbrev pub brackets_behind : Form → List ℕ → List ℕ
-brackets_behind (Task d t) levels = 0 ∷ levels
+brackets_behind (Task d t e) levels = 0 ∷ levels
 brackets_behind Fun levels = 1 ∷ levels
 brackets_behind Then levels = innermost levels ∷ levels
 brackets_behind Else levels = innermost levels ∷ levels
@@ -99,9 +101,10 @@ pub data Breaks (capacity : ℕ) (earlier : List Form) : Line → Refusal → Ty
   -- 2, form: it is no line of the grammar; or no lines of a plan begin with these and it.
   no_line : Breaks capacity earlier no_form Refusal.Form
   nesting : {f : Form} → ((more : List Form) → ¬ PlanLines (reverse earlier ++ (f ∷ more))) → Breaks capacity earlier (form f) Refusal.Form
-  -- 3, range: D is not from 1 to 2^40; T is over 2^20; C or M is over 2^20; F is over 15; B is not from 1 to 65,535.
-  deadline_range : {d t : ℕ} → (d < 1) ⊎ (2 ^ 40 < d) → Breaks capacity earlier (form (Task d t)) Refusal.Range
-  switch_range : {d t : ℕ} → 2 ^ 20 < t → Breaks capacity earlier (form (Task d t)) Refusal.Range
+  -- 3, range: D is not from 1 to 2^40; T, or U (02, L7), is over 2^20; C or M is over 2^20; F is over 15; B is not from 1 to 65,535.
+  deadline_range : {d t : ℕ} {e : Edition} → (d < 1) ⊎ (2 ^ 40 < d) → Breaks capacity earlier (form (Task d t e)) Refusal.Range
+  switch_range : {d t : ℕ} {e : Edition} → 2 ^ 20 < t → Breaks capacity earlier (form (Task d t e)) Refusal.Range
+  resume_range : {d t u : ℕ} → 2 ^ 20 < u → Breaks capacity earlier (form (Task d t (Second u))) Refusal.Range
   cost_range : {f : Form} {k : Bool} {c m : ℕ} → LeafLine f k c m → (2 ^ 20 < c) ⊎ (2 ^ 20 < m) → Breaks capacity earlier (form f) Refusal.Range
   target_range : {k : Bool} {F c m : ℕ} → 15 < F → Breaks capacity earlier (form (Call k F c m)) Refusal.Range
   bound_range : {k : Bool} {b c m : ℕ} → (b < 1) ⊎ (65535 < b) → Breaks capacity earlier (form (Loop k b c m)) Refusal.Range

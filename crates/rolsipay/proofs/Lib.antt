@@ -1,2 +1,3 @@
 pub mod Lending
+pub mod Answers
 pub mod Theorems

@@ -5,7 +5,7 @@ use mathlib.Core.List.{List, [], ◌∷◌, ◌++◌, map}
 use mathlib.Core.Path.{◌≡◌, refl, ap, sym, ◌∙◌}
 use Prim.Native.Nat.{ℕ, ◌+◌, ◌-◌, ◌*◌, ◌≤◌}
 use native.Mathlib.Omega.{arith}
-use lib.Dec.{eqb, leb}
+use lib.Dec.{eqb}
 use Rattle.std.proofs.lemmas.List.{take-map}
 use lib.ListN.{length, get_or, take, drop, length-take, take-append-drop}
 use lib.Seq.{take_all, take-take, take-append-add, length-take-le}
@@ -14,8 +14,8 @@ use Rattle.model.specs.Acceptance.{sizes, Accepted}
 use Rattle.model.specs.Places.{pick, bit}
 use Rattle.model.specs.declared.Call.{Call}
 use Rattle.model.specs.declared.Word.{Word}
-use Rattle.model.specs.declared.Word.TheVariants.{Go, Suspend, Stay}
-use Rattle.model.specs.declared.Ending.TheVariants.{Resume, Ended}
+use Rattle.model.specs.declared.Word.TheVariants.{Go, Suspend, Stay, Resume}
+use Rattle.model.specs.declared.Ending.TheVariants.{Resumed, Ended}
 use Rattle.model.specs.declared.Answer.{Answer}
 use Rattle.model.specs.declared.Answer.TheVariants.{Refused, Decided, Closed}
 use Rattle.model.specs.declared.Refusal.{Refusal}
@@ -43,7 +43,8 @@ use Rattle.rolsipay.specs.declared.State.{State}
 use Rattle.rolsipay.specs.declared.Reply.{Reply}
 use Rattle.rolsipay.specs.Lent.{table_in}
 use Rattle.rolsipay.specs.Calling.{others_of, others_number, state_of, lent, refusing, called}
-use Rattle.rolsipay.specs.Face.{reply_from}
+use Rattle.rolsipay.specs.Face.{reply_from, is_end}
+use Rattle.rolsipay.proofs.Answers.{Gives, called_gives}
 use Rattle.rolsipay.proofs.Lending.{table_of_first}
 
 -- THE TABLE READ BACK
@@ -193,30 +194,39 @@ refusal_back Astray = refl
 refusal_back Garbled = refl
 refusal_back Costless = refl
 
--- The answer that flat numbers stand for.
+-- The answer that flat numbers stand for, by whether the call is an end.
 word_in : ℕ → Word
-word_in n = pick (eqb n 1) Go (pick (eqb n 2) Suspend Stay)
+word_in n = pick (eqb n 1) Go (pick (eqb n 2) Suspend (pick (eqb n 3) Stay Resume))
 
-answer_in : Reply → Answer
-answer_in r =
+answer_in : Bool → Reply → Answer
+answer_in end r =
     let late : Bool = not (eqb r.late 0) in
     pick (eqb r.word 0) (Refused (refusal_in r.number))
-    (pick (leb r.word 3) (Decided (word_in r.word) r.remaining r.margin late) (Closed (pick (eqb r.word 4) Resume Ended) late))
+    (pick end (Closed (pick (eqb r.word 4) Resumed Ended) late) (Decided (word_in r.word) r.remaining r.margin late))
 
--- It is the one that they were made of.
+-- It is the one that they were made of, where a call of that kind can give it.
 bit_back : (b : Bool) → not (eqb (bit b) 0) ≡ b
 bit_back true = refl
 bit_back false = refl
 
-answer_back : (a : Answer) → answer_in (reply_from a) ≡ a
+answer_back : (end : Bool) (a : Answer) → Gives end a → answer_in end (reply_from a) ≡ a
 unfolding answer_in word_in
-answer_back (Refused k) = ap (λ x. Refused x) (refusal_back k)
-answer_back (Decided Go r m late) = ap (λ b. Decided Go r m b) (bit_back late)
-answer_back (Decided Suspend r m late) = ap (λ b. Decided Suspend r m b) (bit_back late)
-answer_back (Decided Stay r m late) = ap (λ b. Decided Stay r m b) (bit_back late)
-answer_back (Closed Resume late) = ap (λ b. Closed Resume b) (bit_back late)
-answer_back (Closed Ended late) = ap (λ b. Closed Ended b) (bit_back late)
+answer_back end (Refused k) g = ap (λ x. Refused x) (refusal_back k)
+answer_back true (Decided w r m late) g = absurd g
+answer_back false (Decided Go r m late) g = ap (λ b. Decided Go r m b) (bit_back late)
+answer_back false (Decided Suspend r m late) g = ap (λ b. Decided Suspend r m b) (bit_back late)
+answer_back false (Decided Stay r m late) g = ap (λ b. Decided Stay r m b) (bit_back late)
+answer_back false (Decided Resume r m late) g = ap (λ b. Decided Resume r m b) (bit_back late)
+answer_back true (Closed Resumed late) g = ap (λ b. Closed Resumed b) (bit_back late)
+answer_back true (Closed Ended late) g = ap (λ b. Closed Ended b) (bit_back late)
+answer_back false (Closed w late) g = absurd g
 
--- So what the calls return under C names tells the answer: no two answers have the same numbers.
-pub reply_tells : (a b : Answer) → reply_from a ≡ reply_from b → a ≡ b
-reply_tells a b e = sym (answer_back a) ∙ (ap answer_in e ∙ answer_back b)
+-- So what the calls return under C names tells the answer to the caller, who knows which call was made: consider two calls, both ends or neither, each on any
+-- lent row, head and state. If they return the same numbers, they have the same answer. (Word 4 is resume at a report as at an end. That a report's remaining
+-- is never 0, since a point costs a tick at least, tells the two apart as well; it is not used here.)
+pub reply_tells : (c d : Call) → is_end c ≡ is_end d → (ls ms : List Leaf) (h k : Head) (s r : State) →
+    reply_from (called ls h s c).answer ≡ reply_from (called ms k r d).answer → (called ls h s c).answer ≡ (called ms k r d).answer
+reply_tells c d same ls ms h k s r e =
+    let f : answer_in (is_end d) (reply_from (called ms k r d).answer) ≡ (called ms k r d).answer =
+    answer_back (is_end d) (called ms k r d).answer (called_gives ms k r d) in
+    sym (answer_back (is_end c) (called ls h s c).answer (called_gives ls h s c)) ∙ (ap (λ end. answer_in end (reply_from (called ls h s c).answer)) same ∙ (ap (answer_in (is_end d)) e ∙ f))

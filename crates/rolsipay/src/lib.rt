@@ -57,8 +57,8 @@ pub struct Ruling {
     pub line: u64,
 }
 
-// What a call answers, as numbers, for the C interface: the word (0 refused, 1 go, 2 suspend, 3 stay, 4 resume, 5 ended), a refusal's number, remaining,
-// margin and late mark.
+// What a call answers, as numbers, for the C interface: the word (0 refused, 1 go, 2 suspend, 3 stay, 4 resume, of a report as of an end, 5 ended), a refusal's
+// number, remaining, margin and late mark.
 #[repr(C)]
 #[derive(Clone, Copy)]
 pub struct Reply {

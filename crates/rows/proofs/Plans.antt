@@ -7,7 +7,7 @@ use native.Mathlib.Nat.{not-suc-le-zero, le_of_suc-le-suc}
 use native.Mathlib.Numerals.{add-one}
 use lib.ListN.{length, get_or, take, length-append}
 use lib.Seq.{length-take-le}
-use Rattle.model.specs.Plan.{Lines, close, Plan}
+use Rattle.model.specs.Plan.{Lines, close, resume_cost, Plan}
 use Rattle.model.specs.Levels.{height, heights}
 use Rattle.model.specs.Acceptance.{size, sizes, Function, Functions, Formed}
 use Rattle.rows.specs.Rows.{Rep, Rules}
@@ -146,11 +146,11 @@ plan_leaves {w} {s} {n} p =
     let x : 0 + length p.functions ≡ n = omega (arith, p.count) in
     omega (arith, ap (λ (z : ℕ). get_or s z 0) x, lies_sizes w s p.functions 0 p.lie, p.bounds.first)
 
--- With a deadline and a switch cost in range it is a plan that keeps rules 3 to 7 and 19.
+-- With a deadline, a switch cost and a cost of resuming in range it is a plan that keeps rules 3 to 7 and 19.
 pub plan_formed :
     {w s : List ℕ} {n : ℕ} (p : PlanOf w s n) (plan : Plan) → plan.functions ≡ p.functions → 1 ≤ plan.deadline → plan.deadline ≤ 2 ^ 40
-    → plan.switch ≤ 2 ^ 20 → Formed plan
-plan_formed p plan e low high switch =
+    → plan.switch ≤ 2 ^ 20 → resume_cost plan.edition ≤ 2 ^ 20 → Formed plan
+plan_formed p plan e low high switch resume =
     let c = p.count in
     let x = ap length e in
     let y = ap sizes e in
@@ -158,6 +158,7 @@ plan_formed p plan e low high switch =
       deadline_low = low;
       deadline_high = high;
       switch_range = switch;
+      resume_range = resume;
       some_function = omega (arith, p.bounds.some);
       few_functions = omega (arith, p.bounds.few);
       few_leaves = omega (arith, p.small);

@@ -121,6 +121,9 @@ pub const MAX_LOOP_BOUND: u64 = 65535;
 // The highest T.
 pub const MAX_SWITCH: u64 = 1 << 20;
 
+// The highest U.
+pub const MAX_RESUME: u64 = 1 << 20;
+
 // The highest D, and the highest total of an accepted plan.
 pub const LIMIT: u64 = 1 << 40;
 

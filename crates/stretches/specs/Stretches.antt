@@ -7,7 +7,7 @@ use Rattle.model.specs.Places.{pick}
 use Rattle.model.specs.Static.{line_silence}
 use Rattle.rows.specs.declared.PricedCode.{PricedCode}
 use Rattle.rows.specs.Costs.{cost_in, lent_turns_in}
-use Rattle.columns.specs.Columns.{Rule, column_of}
+use Rattle.columns.specs.Columns.{ColumnRule, column_of}
 use Rattle.columns.specs.Whole.{CodeSummed}
 
 -- The stretch of the leaf b, which s follows, if it is a point; else 0.
@@ -23,7 +23,7 @@ first_stretch k ms q (loop_line b n body r) x = leaf_stretch k b (max x (line_si
 first_stretch k ms q (if_line b t e r) x = leaf_stretch k b (max (line_silence k ms t x) (line_silence k ms e x))
 
 -- The column of stretches. Nothing follows the body of a loop: its condition is a point, or nothing inside is one.
-abbrev pub stretch_rule : (Block → ℕ) → List ℕ → (ℕ → ℕ → ℕ) → Rule
+abbrev pub stretch_rule : (Block → ℕ) → List ℕ → (ℕ → ℕ → ℕ) → ColumnRule
 stretch_rule k ms q = record { next = line_silence k ms; value = first_stretch k ms q; inner = λ l x. 0 }
 
 -- What follows each function, where s follows one call more of f: the larger of the two counts.

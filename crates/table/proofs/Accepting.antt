@@ -8,7 +8,7 @@ use native.Mathlib.Omega.{arith}
 use native.Mathlib.Decide.{dec_le}
 use lib.Dec.{leb}
 use lib.ListN.{length, get_or}
-use Rattle.model.specs.Plan.{Block, C, M, Lines, close, leaf_line, call_line, loop_line, if_line, Plan}
+use Rattle.model.specs.Plan.{Block, C, M, Lines, close, leaf_line, call_line, loop_line, if_line, resume_cost, Plan}
 use Rattle.model.specs.Forms.{Forms, done, leaf, call, loop, cond, forms, main, Is, Has, NoPoint}
 use Rattle.model.specs.Total.{total}
 use Rattle.model.specs.Levels.{height}
@@ -66,20 +66,21 @@ formed_exactly p =
     let fs = p.functions in
     let inner = four (leb 1 (length fs)) (leb (length fs) 16) (leb (sizes fs) 512) (functions? [] 0 fs) (leb_exactly 1 (length fs)) (leb_exactly (length fs) 16)
     (leb_exactly (sizes fs) 512) (functions_exactly [] 0 fs) in
-    let k = four (leb 1 p.deadline) (leb p.deadline (2 ^ 40)) (leb p.switch (2 ^ 20)) _ (leb_exactly 1 p.deadline)
-    (leb_exactly p.deadline (2 ^ 40)) (leb_exactly p.switch (2 ^ 20)) inner in (
+    let k = five (leb 1 p.deadline) (leb p.deadline (2 ^ 40)) (leb p.switch (2 ^ 20)) (leb (resume_cost p.edition) (2 ^ 20)) _ (leb_exactly 1 p.deadline)
+    (leb_exactly p.deadline (2 ^ 40)) (leb_exactly p.switch (2 ^ 20)) (leb_exactly (resume_cost p.edition) (2 ^ 20)) inner in (
       (λ e.
-          let (x, y, z, w) = k.0 e in
+          let (x, y, z, u, w) = k.0 e in
           record {
             deadline_low = x;
             deadline_high = y;
             switch_range = z;
+            resume_range = u;
             some_function = w.0;
             few_functions = w.1;
             few_leaves = w.2;
             each = w.3;
           }),
-      λ f. k.1 (f.deadline_low, f.deadline_high, f.switch_range, (f.some_function, f.few_functions, f.few_leaves, f.each)),
+      λ f. k.1 (f.deadline_low, f.deadline_high, f.switch_range, f.resume_range, (f.some_function, f.few_functions, f.few_leaves, f.each)),
     )
 
 same : {A : Type 0} → A ↔ A

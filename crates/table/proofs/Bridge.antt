@@ -6,7 +6,7 @@ use Prim.Native.Nat.{ℕ, ◌+◌, ◌^◌, ◌≤◌}
 use native.Mathlib.Omega.{arith}
 use lib.ListN.{length, get_or, get_or-eq_default}
 use lib.Seq.{ext_get_or}
-use Rattle.model.specs.Plan.{C, M, Plan}
+use Rattle.model.specs.Plan.{C, M, resume_cost, Plan}
 use Rattle.model.specs.Forms.{main}
 use Rattle.model.specs.Total.{total}
 use Rattle.model.specs.Acceptance.{sizes, Formed, Accepted}
@@ -66,13 +66,13 @@ abbrev pub accepted_structured :
     (p : Plan) → Accepted p → (q : Structured (row_of p) (padded 17 (bounds_of p)) (length p.functions)) × (q.plan.functions ≡ p.functions)
 accepted_structured p a = (record { plan = (formed_plan p a.formed).0; seen = a.seen; called = a.called }, refl)
 
--- A plan whose functions are those of a row that keeps rules 3 to 9 and 19 is accepted, where its deadline, switch cost and totals are in range.
+-- A plan whose functions are those of a row that keeps rules 3 to 9 and 19 is accepted, where its deadline, switch cost, U and totals are in range.
 pub structured_accepted :
     {w s : List ℕ} {n : ℕ} (q : Structured w s n) (p : Plan) → p.functions ≡ q.plan.functions → 1 ≤ p.deadline → p.deadline ≤ 2 ^ 40
-    → p.switch ≤ 2 ^ 20 → total C (main p) ≤ 2 ^ 40 → total M (main p) ≤ 2 ^ 40 → Accepted p
-structured_accepted q p e low high switch c m =
+    → p.switch ≤ 2 ^ 20 → resume_cost p.edition ≤ 2 ^ 20 → total C (main p) ≤ 2 ^ 40 → total M (main p) ≤ 2 ^ 40 → Accepted p
+structured_accepted q p e low high switch resume c m =
     record {
-      formed = plan_formed q.plan p e low high switch;
+      formed = plan_formed q.plan p e low high switch resume;
       seen = rw e q.seen;
       called = rw e q.called;
       short = (short_total C (main p) (2 ^ 40)).1 c;

@@ -7,10 +7,11 @@ use Prim.Native.Nat.{◌*◌, ◌^◌}
 use native.Mathlib.Omega.{arith}
 use lib.ListN.{length, get_or, take, length-take}
 use lib.Seq.{take_all}
-use Rattle.model.specs.Plan.{C, M, Lines, Plan}
+use Rattle.model.specs.Plan.{C, M, Lines, resume_cost, Plan}
 use Rattle.model.specs.Forms.{main}
 use Rattle.model.specs.Total.{total}
 use Rattle.model.specs.Acceptance.{sizes, Accepted}
+use Rattle.model.specs.Words.{edition_number}
 use Rattle.model.proofs.Limits.{short_total}
 use Rattle.reader.proofs.Theorems.{row_length}
 use Rattle.rows.specs.Answers.{Says}
@@ -21,11 +22,11 @@ use Rattle.rows.specs.declared.Leaf.{Leaf}
 use Rattle.rows.specs.Leaves.{numbers}
 use Rattle.rows.proofs.Leaves.{numbers_length, numbers_take}
 use Rattle.table.specs.declared.Head.{Head}
-use Rattle.table.specs.Table.{Table, table_of, head_of, plan_of, found, good}
+use Rattle.table.specs.Table.{Table, table_of, head_of, edition_of, plan_of, found, good}
 use Rattle.table.specs.Lent.{table_with}
 use Rattle.table.specs.Private.{HeadRanged, Agrees}
 use Rattle.table.proofs.Tests.{leb_exactly, both}
-use Rattle.table.proofs.Plans.{head_whole, same_whole, plan_of_exactly}
+use Rattle.table.proofs.Plans.{edition_said, head_whole, same_whole, plan_of_exactly}
 use Rattle.rows.proofs.Storing.{plan_row}
 use Rattle.table.proofs.Lent.{table_of_own}
 use Rattle.table.proofs.Bridge.{plan_bounds, accepted_structured, structured_accepted}
@@ -58,6 +59,9 @@ module _ (ls : List Leaf) (h : Head) where
         deadline_low = omega (arith, ap (λ (x : Head). x.deadline) k, f.deadline_low);
         deadline_high = omega (arith, ap (λ (x : Head). x.deadline) k, f.deadline_high);
         switch = omega (arith, ap (λ (x : Head). x.switch) k, f.switch_range);
+        resume_range = omega (arith, ap (λ (x : Head). x.resume) k, f.resume_range);
+        edition = ap (λ (x : Head). x.edition) k ∙ sym (ap edition_number (edition_said h p k));
+        resume = ap (λ (x : Head). x.resume) k ∙ sym (ap resume_cost (edition_said h p k));
         few = omega (arith, n, f.few_leaves);
         held = omega (arith, n, numbers_length ls, length-take (h.leaves * 8) (numbers ls), ap (λ t. length t.row) e, row_length p);
       }
@@ -77,7 +81,7 @@ module _ (ls : List Leaf) (h : Head) where
   -- Consider used leaves that keep rules 3 to 9 and 19, with the plan that they stand for.
   module _ (q : Structured (numbers used) h.bounds h.functions) where
     abbrev pub stands_for : Plan
-    stands_for = record { deadline = h.deadline; switch = h.switch; functions = q.plan.functions }
+    stands_for = record { deadline = h.deadline; switch = h.switch; edition = edition_of h.edition h.resume; functions = q.plan.functions }
 
     -- A plan that has this table is that one.
     only_plan : (t : OfPlan (table_with ls h)) → t.0 ≡ stands_for
@@ -87,7 +91,8 @@ module _ (ls : List Leaf) (h : Head) where
         let d : t.0.deadline ≡ h.deadline = sym (ap (λ (x : Head). x.deadline) k) in
         let w : t.0.switch ≡ h.switch = sym (ap (λ (x : Head). x.switch) k) in
         let f : t.0.functions ≡ q.plan.functions = sym z ∙ plan_unique q'.plan q.plan in
-        λ i. record { deadline = d i; switch = w i; functions = f i }
+        let r : t.0.edition ≡ edition_of h.edition h.resume = sym (edition_said h t.0 k) in
+        λ i. record { deadline = d i; switch = w i; edition = r i; functions = f i }
 
     -- The derived numbers of the table of an accepted plan agree,
     pub plan_agrees : OfPlan (table_with ls h) → Agrees stands_for used h
@@ -112,15 +117,16 @@ module _ (ls : List Leaf) (h : Head) where
         let (c, m) = (both _ _ (leb_exactly (total C (main stands_for)) _) (leb_exactly (total M (main stands_for)) _)).0 g.fits in
         let held : length (numbers used) ≡ h.leaves * 8 = omega (arith, numbers_length used, length-take h.leaves ls, r.held) in (
           stands_for,
-          structured_accepted q stands_for refl r.deadline_low r.deadline_high r.switch c m,
+          structured_accepted q stands_for refl r.deadline_low r.deadline_high r.switch (omega (arith, r.resume, r.resume_range)) c m,
           sym (table_of_own ls h) ∙ same_whole (table_with used h) (table_of stands_for) (
             take_all (h.leaves * 8) (numbers used) (omega (arith, held)) ∙ plan_row q.plan (omega (arith, held, end)),
             g.turns_are,
             g.tails_are,
             g.max_load_turns_are,
             head_whole h (head_of stands_for) (
-              (refl, refl, g.total, g.max_load_total),
-              (sym end ∙ plan_leaves q.plan, sym q.plan.count, plan_bounds q.plan wide, g.totals, g.max_load_totals),
+              (refl, refl, r.edition, r.resume),
+              (g.total, g.max_load_total, sym end ∙ plan_leaves q.plan, sym q.plan.count),
+              (plan_bounds q.plan wide, g.totals, g.max_load_totals),
             ),
           ),
         )

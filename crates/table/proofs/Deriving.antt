@@ -11,6 +11,7 @@ use lib.Dec.{leb}
 use lib.ListN.{length, get_or, take, length-append, length-map, get_or-eq_default}
 use lib.Seq.{ext_get_or}
 use borrow.Author.Tests.{le-leb, lt-leb}
+use Rattle.model.specs.declared.Edition.TheVariants.{First}
 use Rattle.model.specs.Plan.{Block, C, M, Lines, close, leaf_line, call_line, loop_line, if_line, Plan, leaves}
 use Rattle.model.specs.Forms.{main}
 use Rattle.model.specs.Total.{total, tally, tallies}
@@ -103,7 +104,7 @@ module _ {w s : List ℕ} {n : ℕ} (q : Structured w s n) where
 
   -- A plan of the row's functions; its numbers depend on these alone.
   abbrev pub plain : Plan
-  plain = record { deadline = 1; switch = 0; functions = ls }
+  plain = record { deadline = 1; switch = 0; edition = First; functions = ls }
 
   -- The lines of one of them.
   abbrev pub line : ℕ → Lines
@@ -121,6 +122,7 @@ module _ {w s : List ℕ} {n : ℕ} (q : Structured w s n) where
         deadline_low = omega arith;
         deadline_high = omega arith;
         switch_range = omega arith;
+        resume_range = omega arith;
         some_function = omega (arith, q.plan.bounds.some);
         few_functions = omega (arith, q.plan.bounds.few);
         few_leaves = q.plan.small;

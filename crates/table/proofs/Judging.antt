@@ -9,8 +9,9 @@ use lib.ListN.{length, take, length-take}
 use Rattle.std.specs.Prelude.{Ok, Err}
 use Rattle.model.specs.declared.Refusal.{Refusal}
 use Rattle.model.specs.declared.Refusal.TheVariants.{Unseen, Uncalled, Long}
-use Rattle.model.specs.Plan.{Lines, Plan}
+use Rattle.model.specs.Plan.{Lines, resume_cost, Plan}
 use Rattle.model.specs.Acceptance.{sizes, SeenAll, Called}
+use Rattle.model.specs.Words.{edition_number}
 use Rattle.reader.specs.declared.Raw.{Raw}
 use Rattle.reader.specs.declared.RefusedAt.{RefusedAt}
 use Rattle.reader.specs.Outcome.{Outcome, plan, refused}
@@ -63,7 +64,7 @@ pub record Given (p : Plan) (raw : Raw) (row : List Leaf) : Type 0 where
 
 -- The numbers of the plan.
 pub raw_numbers : (p : Plan) {raw : Raw} → Ok raw ≡ raw_of (plan p) →
-    raw ≡ raw_with p.deadline p.switch (sizes p.functions) (length p.functions) (padded 17 (bounds_of p)) (padded 16 (heights_of p))
+    raw ≡ raw_with p.deadline p.switch p.edition (sizes p.functions) (length p.functions) (padded 17 (bounds_of p)) (padded 16 (heights_of p))
 raw_numbers p e = cc
 
 pub given : {p : Plan} {raw : Raw} {row : List Leaf} → RawOf p raw row → Given p raw row
@@ -112,8 +113,9 @@ head_given : (p : Plan) (raw : Raw) (d : Derived) {t u v : List ℕ} → Ok raw 
 head_given p raw d c n =
     let e = raw_numbers p c in
     head_whole (headed raw d) (head_of p) (
-      (ap (λ (r : Raw). r.deadline) e, ap (λ (r : Raw). r.switch) e, n.total, n.max_load_total),
-      (ap (λ (r : Raw). r.leaves) e, ap (λ (r : Raw). r.functions) e, ap (λ (r : Raw). r.bounds) e, n.totals, n.max_load_totals),
+      (ap (λ (r : Raw). r.deadline) e, ap (λ (r : Raw). r.switch) e, ap (λ (r : Raw). edition_number r.edition) e, ap (λ (r : Raw). resume_cost r.edition) e),
+      (n.total, n.max_load_total, ap (λ (r : Raw). r.leaves) e, ap (λ (r : Raw). r.functions) e),
+      (ap (λ (r : Raw). r.bounds) e, n.totals, n.max_load_totals),
     )
 
 pub accepts : {p : Plan} {raw : Raw} {row : List Leaf} (c : RawOf p raw row) (k : Head) {d : Derived} {t u v : List ℕ} → judged p ≡ plan p

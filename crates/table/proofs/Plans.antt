@@ -7,20 +7,31 @@ use mathlib.Core.Path.{◌≡◌, refl, ap, sym, ◌∙◌, subst}
 use Prim.Native.Nat.{ℕ}
 use native.Mathlib.Omega.{arith}
 use lib.Dec.{eqb}
-use Rattle.model.specs.Plan.{Plan}
+use Rattle.model.specs.declared.Edition.{Edition}
+use Rattle.model.specs.declared.Edition.TheVariants.{First, Second}
+use Rattle.model.specs.Plan.{resume_cost, Plan}
 use Rattle.model.specs.Acceptance.{Formed, Accepted}
 use Rattle.model.specs.Places.{pick}
+use Rattle.model.specs.Words.{edition_number}
 use Rattle.rows.proofs.Plans.{plan_read}
 use Rattle.table.specs.Accepting.{accepted?}
 use Rattle.table.specs.declared.Head.{Head}
-use Rattle.table.specs.Table.{Table, table_of, plan_at, same_numbers, same_head, same_table, plan_of}
-use Rattle.table.proofs.Tests.{no_truth, eqb_exactly, both, four, five}
+use Rattle.table.specs.Table.{Table, head_of, table_of, edition_of, plan_at, same_numbers, same_head, same_table, plan_of}
+use Rattle.table.proofs.Tests.{no_truth, eqb_exactly, both, three, four, five}
 use Rattle.table.proofs.Accepting.{accepted_exactly}
 use Rattle.table.proofs.Bridge.{formed_plan}
 
+-- Reading an edition's numbers back gives the edition; so a plan's head says its edition.
+edition_back : (e : Edition) → edition_of (edition_number e) (resume_cost e) ≡ e
+edition_back First = refl
+edition_back (Second u) = refl
+
+pub edition_said : (h : Head) (p : Plan) → h ≡ head_of p → edition_of h.edition h.resume ≡ p.edition
+edition_said h p e = ap (λ (x : Head). edition_of x.edition x.resume) e ∙ edition_back p.edition
+
 -- Reading the table of a plan back gives the plan.
 pub plan_back : (p : Plan) → Formed p → plan_at (table_of p) ≡ p
-plan_back p f = rw (plan_read (formed_plan p f).0)
+plan_back p f = rw (edition_back p.edition, plan_read (formed_plan p f).0)
 
 -- SAME TABLES
 
@@ -35,33 +46,38 @@ same_list (n ∷ u) (m ∷ v) =
 
 abbrev pub SameHead : Head → Head → Type 0
 SameHead h k =
-    ((h.deadline ≡ k.deadline) × (h.switch ≡ k.switch) × (h.total ≡ k.total) × (h.max_load_total ≡ k.max_load_total)) ×
-    ((h.leaves ≡ k.leaves) × (h.functions ≡ k.functions) × (h.bounds ≡ k.bounds) × (h.totals ≡ k.totals) × (h.max_load_totals ≡ k.max_load_totals))
+    ((h.deadline ≡ k.deadline) × (h.switch ≡ k.switch) × (h.edition ≡ k.edition) × (h.resume ≡ k.resume)) ×
+    ((h.total ≡ k.total) × (h.max_load_total ≡ k.max_load_total) × (h.leaves ≡ k.leaves) × (h.functions ≡ k.functions)) ×
+    ((h.bounds ≡ k.bounds) × (h.totals ≡ k.totals) × (h.max_load_totals ≡ k.max_load_totals))
 
 head_parts : (h k : Head) → (same_head h k ≡ true) ↔ SameHead h k
 head_parts h k =
-    both _ _
-    (four _ _ _ _ (eqb_exactly h.deadline k.deadline) (eqb_exactly h.switch k.switch) (eqb_exactly h.total k.total) (eqb_exactly h.max_load_total k.max_load_total))
-    (five _ _ _ _ _ (eqb_exactly h.leaves k.leaves) (eqb_exactly h.functions k.functions) (same_list h.bounds k.bounds) (same_list h.totals k.totals) (same_list h.max_load_totals k.max_load_totals))
+    three _ _ _
+    (four _ _ _ _ (eqb_exactly h.deadline k.deadline) (eqb_exactly h.switch k.switch) (eqb_exactly h.edition k.edition) (eqb_exactly h.resume k.resume))
+    (four _ _ _ _ (eqb_exactly h.total k.total) (eqb_exactly h.max_load_total k.max_load_total) (eqb_exactly h.leaves k.leaves) (eqb_exactly h.functions k.functions))
+    (three _ _ _ (same_list h.bounds k.bounds) (same_list h.totals k.totals) (same_list h.max_load_totals k.max_load_totals))
 
 pub head_whole : (h k : Head) → SameHead h k → h ≡ k
-head_whole h k ((a, b, c, d), (e, f, g, i, j)) = λ x.
+head_whole h k ((a, b, c, d), (e, f, g, i), (j, l, m)) = λ x.
     record {
       deadline = a x;
       switch = b x;
-      total = c x;
-      max_load_total = d x;
-      leaves = e x;
-      functions = f x;
-      bounds = g x;
-      totals = i x;
-      max_load_totals = j x;
+      edition = c x;
+      resume = d x;
+      total = e x;
+      max_load_total = f x;
+      leaves = g x;
+      functions = i x;
+      bounds = j x;
+      totals = l x;
+      max_load_totals = m x;
     }
 
 head_refl : (h k : Head) → h ≡ k → SameHead h k
 head_refl h k e = (
-  (ap (λ x. x.deadline) e, ap (λ x. x.switch) e, ap (λ x. x.total) e, ap (λ x. x.max_load_total) e),
-  (ap (λ x. x.leaves) e, ap (λ x. x.functions) e, ap (λ x. x.bounds) e, ap (λ x. x.totals) e, ap (λ x. x.max_load_totals) e),
+  (ap (λ x. x.deadline) e, ap (λ x. x.switch) e, ap (λ x. x.edition) e, ap (λ x. x.resume) e),
+  (ap (λ x. x.total) e, ap (λ x. x.max_load_total) e, ap (λ x. x.leaves) e, ap (λ x. x.functions) e),
+  (ap (λ x. x.bounds) e, ap (λ x. x.totals) e, ap (λ x. x.max_load_totals) e),
 )
 
 pub head_exactly : (h k : Head) → (same_head h k ≡ true) ↔ (h ≡ k)

@@ -1,7 +1,7 @@
--- Rules 3 to 10 and 19 as tests on a plan (01, 'Calls'; 02, L2). The rules themselves are in the model (Acceptance); a test holds exactly when they do.
+-- Rules 3 to 10 and 19 as tests on a plan (01, 'Calls'; 02, L2 and L7). The rules themselves are in the model (Acceptance); a test holds exactly when they do.
 -- Assumes nothing: these are definitions.
 use Rattle.std.specs.Prelude.{Bool, true, false, ◌&&◌, ◌||◌, not, List, [], ◌∷◌, ◌++◌, ℕ, zero, suc, ◌+◌, ◌-◌, ◌^◌, eqb, leb, ltb, length}
-use Rattle.model.specs.Plan.{Block, C, M, Lines, close, leaf_line, call_line, loop_line, if_line, Plan}
+use Rattle.model.specs.Plan.{Block, C, M, Lines, close, leaf_line, call_line, loop_line, if_line, resume_cost, Plan}
 use Rattle.model.specs.Forms.{Forms, done, leaf, call, loop, cond, forms, main}
 use Rattle.model.specs.Total.{total}
 use Rattle.model.specs.Places.{bit}
@@ -40,8 +40,8 @@ functions? hs n (l ∷ ls) = function? hs n l && functions? (hs ++ (height hs l 
 -- Rules 3 to 7 and 19.
 abbrev pub formed? : Plan → Bool
 formed? p =
-    leb 1 p.deadline && (leb p.deadline (2 ^ 40) && (leb p.switch (2 ^ 20) &&
-    (leb 1 (length p.functions) && (leb (length p.functions) 16 && (leb (sizes p.functions) 512 && functions? [] 0 p.functions)))))
+    leb 1 p.deadline && (leb p.deadline (2 ^ 40) && (leb p.switch (2 ^ 20) && (leb (resume_cost p.edition) (2 ^ 20) &&
+    (leb 1 (length p.functions) && (leb (length p.functions) 16 && (leb (sizes p.functions) 512 && functions? [] 0 p.functions))))))
 
 -- The forms have a point, inside them or in what they call.
 unfoldable pub pointed? : Forms → Bool

@@ -1,21 +1,25 @@
 -- What the private functions promise. Nothing of this stands in the contracts of `read`, `judge` and `check`.
 -- Assumes nothing: these are definitions.
 use Rattle.std.specs.Prelude.{true, false, List, ◌≡◌, ℕ, zero, suc, ◌^◌, ◌≤◌, get_or, set, take, Option, Some, None}
-use Rattle.model.specs.Plan.{Plan}
+use Rattle.model.specs.Plan.{resume_cost, Plan}
 use Rattle.model.specs.Acceptance.{sizes}
+use Rattle.model.specs.Words.{edition_number}
 use Rattle.rows.specs.declared.Leaf.{Leaf}
 use Rattle.rows.specs.Leaves.{lent_turns, lent_tails, lent_max_load_turns, blank_leaf}
 use Rattle.reader.specs.declared.Raw.{Raw}
 use Rattle.table.specs.declared.Head.{Head}
 use Rattle.table.specs.declared.Derived.{Derived}
 use Rattle.table.specs.Accepting.{short?}
-use Rattle.table.specs.Table.{table_of, head_of}
+use Rattle.table.specs.Table.{table_of, head_of, edition_of}
 
--- Deadline and switch cost are in range, and a lent row of so many leaves holds those of the plan, 512 at most.
+-- Deadline, switch cost and U are in range, number and U are those of an edition, and a lent row of so many leaves holds those of the plan, 512 at most.
 pub record HeadRanged (room : ℕ) (h : Head) : Type 0 where
   pub deadline_low : 1 ≤ h.deadline
   pub deadline_high : h.deadline ≤ 2 ^ 40
   pub switch : h.switch ≤ 2 ^ 20
+  pub resume_range : h.resume ≤ 2 ^ 20
+  pub edition : h.edition ≡ edition_number (edition_of h.edition h.resume)
+  pub resume : h.resume ≡ resume_cost (edition_of h.edition h.resume)
   pub few : h.leaves ≤ 512
   pub held : h.leaves ≤ room
 
@@ -75,6 +79,8 @@ headed raw d =
     record {
       deadline = raw.deadline;
       switch = raw.switch;
+      edition = edition_number raw.edition;
+      resume = resume_cost raw.edition;
       total = d.total;
       max_load_total = d.max_load_total;
       leaves = raw.leaves;

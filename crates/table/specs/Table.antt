@@ -3,12 +3,15 @@
 -- Assumes nothing: these are definitions.
 use Rattle.std.specs.Prelude.{Bool, true, false, ◌&&◌, List, [], ◌∷◌, ◌++◌, map, ℕ, ◌*◌, eqb, length, take}
 use Rattle.std.proofs.Math.Option.{Option, none, some}
-use Rattle.model.specs.Plan.{Block, C, M, Lines, Plan, leaves}
+use Rattle.model.specs.declared.Edition.{Edition}
+use Rattle.model.specs.declared.Edition.TheVariants.{First, Second}
+use Rattle.model.specs.Plan.{Block, C, M, Lines, resume_cost, Plan, leaves}
 use Rattle.model.specs.Forms.{main}
 use Rattle.model.specs.Total.{total, tallies}
 use Rattle.model.specs.Tail.{tail}
 use Rattle.model.specs.Acceptance.{sizes}
 use Rattle.model.specs.Places.{pick}
+use Rattle.model.specs.Words.{edition_number}
 use Rattle.rows.specs.Records.{row_of, bounds_of}
 use Rattle.reader.specs.Raw.{padded}
 use Rattle.rows.specs.Reading.{functions_at}
@@ -36,13 +39,15 @@ unfoldable pub all_tails : List ℕ → List Lines → List ℕ
 all_tails ts [] = []
 all_tails ts (l ∷ ls) = map (λ b. tail ts b.number l 0) (leaves l) ++ all_tails ts ls
 
--- What stands beside the row: D, T, both totals, how many leaves and functions there are, the functions' bounds, and their totals at both costs. What 16
--- functions would need is filled up with 0.
+-- What stands beside the row: D, T, the edition's number and its U, both totals, how many leaves and functions there are, the functions' bounds, and their
+-- totals at both costs. What 16 functions would need is filled up with 0.
 abbrev pub head_of : Plan → Head
 head_of p =
     record {
       deadline = p.deadline;
       switch = p.switch;
+      edition = edition_number p.edition;
+      resume = resume_cost p.edition;
       total = total C (main p);
       max_load_total = total M (main p);
       leaves = sizes p.functions;
@@ -64,10 +69,19 @@ table_of p =
 
 -- THE PLAN OF A TABLE
 
+-- The edition with this number and this U; a number that is not 2 is read as that of edition 1, and `same_head` tells whether it is.
+abbrev pub edition_of : ℕ → ℕ → Edition
+edition_of n u = pick (eqb n 2) (Second u) First
+
 -- The plan that a table stands for, if it is one's.
 abbrev pub plan_at : Table → Plan
 plan_at t =
-    record { deadline = t.head.deadline; switch = t.head.switch; functions = functions_at t.row t.head.bounds 0 t.head.functions }
+    record {
+      deadline = t.head.deadline;
+      switch = t.head.switch;
+      edition = edition_of t.head.edition t.head.resume;
+      functions = functions_at t.row t.head.bounds 0 t.head.functions;
+    }
 
 -- The same numbers, the same heads, and the same tables.
 unfoldable pub same_numbers : List ℕ → List ℕ → Bool
@@ -78,9 +92,9 @@ same_numbers (n ∷ u) (m ∷ v) = eqb n m && same_numbers u v
 
 abbrev pub same_head : Head → Head → Bool
 same_head h k =
-    (eqb h.deadline k.deadline && (eqb h.switch k.switch && (eqb h.total k.total && eqb h.max_load_total k.max_load_total))) &&
-    (eqb h.leaves k.leaves && (eqb h.functions k.functions && (same_numbers h.bounds k.bounds &&
-    (same_numbers h.totals k.totals && same_numbers h.max_load_totals k.max_load_totals))))
+    (eqb h.deadline k.deadline && (eqb h.switch k.switch && (eqb h.edition k.edition && eqb h.resume k.resume))) &&
+    ((eqb h.total k.total && (eqb h.max_load_total k.max_load_total && (eqb h.leaves k.leaves && eqb h.functions k.functions))) &&
+    (same_numbers h.bounds k.bounds && (same_numbers h.totals k.totals && same_numbers h.max_load_totals k.max_load_totals)))
 
 abbrev pub same_table : Table → Table → Bool
 same_table t u =
@@ -108,6 +122,8 @@ zero_head =
     record {
       deadline = 0;
       switch = 0;
+      edition = 0;
+      resume = 0;
       total = 0;
       max_load_total = 0;
       leaves = 0;

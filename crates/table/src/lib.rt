@@ -2,28 +2,32 @@
 #![tactic(auto)]
 
 ghost use Rattle.std.specs.Prelude.{◌≡◌, ◌≤◌, length, take};
-ghost use Rattle.model.specs.Plan.{Plan};
+ghost use Rattle.model.specs.Plan.{resume_cost, Plan};
 ghost use Rattle.model.specs.Acceptance.{sizes};
 ghost use Rattle.rows.specs.Answers.{Says};
 ghost use Rattle.structure.specs.Plans.{CodeStructured};
-ghost use Rattle.table.specs.Table.{zero_head, good};
+ghost use Rattle.table.specs.Table.{edition_of, zero_head, good};
 ghost use Rattle.table.specs.Lent.{table_with, row_after};
 ghost use Rattle.table.specs.Reading.{judged, verdict, result_of, RawOf, ColumnsWritten};
 ghost use Rattle.table.specs.Private.{HeadRanged, Derives, Agrees, headed, filled};
 
 use columns::{measure, sums_agree, tails_agree};
-use model::Refusal;
+use model::{Edition, Refusal};
 use reader::{Raw, RefusedAt, read_lines};
-use rows::{BOUNDS, Code, Cost, LIMIT, Leaf, MAX_FUNCTIONS, MAX_LEAVES, MAX_SWITCH, PricedCode};
+use rows::{
+    BOUNDS, Code, Cost, LIMIT, Leaf, MAX_FUNCTIONS, MAX_LEAVES, MAX_RESUME, MAX_SWITCH, PricedCode,
+};
 use structure::{called, seen_all, structured};
 
-// What stands beside the row of leaf records, numbers alone, as the C interface takes it: deadline and switch cost, the total and the max-load total, how
-// many leaves and functions there are, the functions' bounds, and their totals, isolated and max-load.
+// What stands beside the row of leaf records, numbers alone, as the C interface takes it: deadline and switch cost, the edition's number and its U (1 and 0,
+// or 2 and U), the total and the max-load total, how many leaves and functions there are, the functions' bounds, and their totals, isolated and max-load.
 #[repr(C)]
 #[derive(Clone, Copy)]
 pub struct Head {
     pub deadline: u64,
     pub switch: u64,
+    pub edition: u64,
+    pub resume: u64,
     pub total: u64,
     pub max_load_total: u64,
     pub leaves: usize,
@@ -34,6 +38,18 @@ pub struct Head {
 }
 
 impl Head {
+    // The edition that this head says. A number that is not 2 is read as that of edition 1; `check` refuses a head that has no edition's numbers.
+    pub fn edition(&self) -> Edition
+        ensures { result ≡ edition_of self.now.edition self.now.resume }
+    {
+        let second = Edition::Second(self.resume);
+        if self.edition == u64::from(second) {
+            second
+        } else {
+            Edition::First
+        }
+    }
+
     // The code of the table that this row and this head hold: the first leaves of the row, as many as the head says.
     pub fn code<'a>(&'a self, row: &'a [Leaf]) -> Code<'a>
         requires { self.now.leaves ≤ length row.now }
@@ -57,6 +73,8 @@ impl Default for Head {
         Head {
             deadline: 0,
             switch: 0,
+            edition: 0,
+            resume: 0,
             total: 0,
             max_load_total: 0,
             leaves: 0,
@@ -137,13 +155,27 @@ fn stands(head: &Head, total: u64, max_load_total: u64) -> bool
     head.total == total && head.max_load_total == max_load_total
 }
 
-// Whether deadline and switch cost are in range, and a lent row of so many leaves holds those of the plan.
+// U of an edition; 0 in the first.
+fn resume_cost(edition: Edition) -> u64
+    ensures { result ≡ resume_cost edition }
+{
+    match edition {
+        Edition::First => 0,
+        Edition::Second(cost) => cost,
+    }
+}
+
+// Whether deadline, switch cost and U are in range, number and U are those of an edition, and a lent row of so many leaves holds those of the plan.
 fn ranged(head: &Head, room: usize) -> bool
     ensures { Says result (HeadRanged room head.now) }
 {
+    let edition = head.edition();
     1 <= head.deadline
         && head.deadline <= LIMIT
         && head.switch <= MAX_SWITCH
+        && head.resume <= MAX_RESUME
+        && head.edition == u64::from(edition)
+        && head.resume == resume_cost(edition)
         && head.leaves <= MAX_LEAVES
         && head.leaves <= room
 }
@@ -193,6 +225,8 @@ fn head_from(raw: &Raw, d: &Derived) -> Head
     Head {
         deadline: raw.deadline,
         switch: raw.switch,
+        edition: u64::from(raw.edition),
+        resume: resume_cost(raw.edition),
         total: d.total,
         max_load_total: d.max_load_total,
         leaves: raw.leaves,

@@ -3,6 +3,7 @@
 use mathlib.Core.Path.{◌≡◌, refl}
 use mathlib.Core.List.{[], ◌∷◌, ◌++◌, map}
 use mathlib.Core.Bool.{true, false}
+use Rattle.model.specs.declared.Edition.TheVariants.{First, Second}
 use Rattle.text.specs.declared.Form.TheVariants.{Task, Leaf, Call, Loop, If}
 use Rattle.text.specs.declared.Class.TheVariants.{Digit, Small, Space, OpenBracket, CloseBracket, LineFeed, Other}
 use Rattle.std.specs.Prelude.{Some, None}
@@ -12,9 +13,22 @@ use Rattle.text.specs.Grammar.{no_form, form, line_form, read_at}
 use Rattle.text.specs.Spelling.{numerals, decimal}
 
 -- Lines of the plans A and B.
-task_line : line_form (bytes "(task 100 4\n") ≡ form (Task 100 4)
+task_line : line_form (bytes "(task 100 4\n") ≡ form (Task 100 4 First)
 unfolding line_form matched item number digits
 task_line = refl
+
+-- A third number makes it one of edition 2, also where it is 0; a fourth is no number of a task line.
+resume_line : line_form (bytes "(task 100 4 3\n") ≡ form (Task 100 4 (Second 3))
+unfolding line_form matched item number digits
+resume_line = refl
+
+resume_free : line_form (bytes "(task 100 4 0\n") ≡ form (Task 100 4 (Second 0))
+unfolding line_form matched item number digits
+resume_free = refl
+
+four_numbers : line_form (bytes "(task 100 4 3 2\n") ≡ no_form
+unfolding line_form matched item number digits
+four_numbers = refl
 
 leaf_line : line_form (bytes "(leaf p 5 9)\n") ≡ form (Leaf true 5 9)
 unfolding line_form matched item number digits
@@ -78,11 +92,11 @@ unfolding line_form matched item number digits
 no_number = refl
 
 -- A number of 25 digits is read as it is, and held at 2^41 in the answer.
-long_number : line_form (bytes "(task 1234567890123456789012345 4\n") ≡ form (Task 1234567890123456789012345 4)
+long_number : line_form (bytes "(task 1234567890123456789012345 4\n") ≡ form (Task 1234567890123456789012345 4 First)
 unfolding line_form matched item number digits
 long_number = refl
 
-long_held : read_at (bytes "(fun\n(task 1234567890123456789012345 4\n)\n") 5 ≡ Some (Task 2199023255552 4, 39)
+long_held : read_at (bytes "(fun\n(task 1234567890123456789012345 4\n)\n") 5 ≡ Some (Task 2199023255552 4 First, 39)
 unfolding read_at line_end line_at line_of line_form matched item number digits
 long_held = refl
 

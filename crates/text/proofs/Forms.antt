@@ -6,6 +6,7 @@ use mathlib.Core.List.{List}
 use mathlib.Core.Bool.{Bool, true, false}
 use native.Mathlib.Omega.{arith}
 use lib.ListN.{length, get_or}
+use Rattle.model.specs.declared.Edition.TheVariants.{First, Second}
 use Rattle.text.specs.declared.Shown.{Shown}
 use Rattle.text.specs.declared.Form.{Form}
 use Rattle.text.specs.declared.Form.TheVariants.{Task, Leaf, Call, Loop, If}
@@ -25,11 +26,19 @@ count_of {s = s} {at} {f = f} p h w = (filled p false (line_at s at) f.kind w.nu
 -- The code's numbers are those of the form, held.
 module _ {s : List ℕ} {at : ℕ} {row row' : List ℕ} {f : Shown} {e : ℕ} (long : length row ≡ 10) where
   pub task_held : (w : ShownAt (2 ^ 41) s at (bytes "(task D T") row row' f e)
-      → Task (get_or row' 0 0) (get_or row' 1 0) ≡ cap_form (Task (nth w.numbers 0) (nth w.numbers 1))
+      → Task (get_or row' 0 0) (get_or row' 1 0) First ≡ cap_form (Task (nth w.numbers 0) (nth w.numbers 1) First)
   unfolding arity once kindless
   task_held w =
       let n : length w.numbers ≡ 2 = count_of (bytes "(task D T") refl w in
       rw (number_stored w 0 (omega arith) (omega arith), number_stored w 1 (omega arith) (omega arith))
+
+  pub resume_held : (w : ShownAt (2 ^ 41) s at (bytes "(task D T U") row row' f e)
+      → Task (get_or row' 0 0) (get_or row' 1 0) (Second (get_or row' 2 0))
+      ≡ cap_form (Task (nth w.numbers 0) (nth w.numbers 1) (Second (nth w.numbers 2)))
+  unfolding arity once kindless
+  resume_held w =
+      let n : length w.numbers ≡ 3 = count_of (bytes "(task D T U") refl w in
+      rw (number_stored w 0 (omega arith) (omega arith), number_stored w 1 (omega arith) (omega arith), number_stored w 2 (omega arith) (omega arith))
 
   pub leaf_held : (w : ShownAt (2 ^ 41) s at (bytes "(leaf K C M)") row row' f e)
       → Leaf f.kind (get_or row' 0 0) (get_or row' 1 0) ≡ cap_form (Leaf f.kind (nth w.numbers 0) (nth w.numbers 1))

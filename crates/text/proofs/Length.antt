@@ -6,6 +6,9 @@ use mathlib.Core.List.{List, [], ◌∷◌, ◌++◌}
 use mathlib.Core.Bool.{Bool, true, false}
 use native.Mathlib.Omega.{arith}
 use lib.ListN.{length, length-append}
+use Rattle.model.specs.declared.Edition.{Edition}
+use Rattle.model.specs.declared.Edition.TheVariants.{First, Second}
+use Rattle.model.specs.Plan.{resume_cost}
 use Rattle.text.specs.declared.Form.TheVariants.{Task, Leaf, Call, Loop, If}
 use Rattle.text.specs.Spelling.{decimal, kind_text, spell}
 use Rattle.text.proofs.Decimal.{tens, decimal_length}
@@ -40,10 +43,12 @@ costs_before c m r p q =
     omega (arith, number_before c 7 (32 ∷ (decimal m ++ r)) (cost_length c p), number_before m 7 r (cost_length m q))
 
 -- The five lines that have numbers.
-pub task_width : (d t : ℕ) → d ≤ 2 ^ 40 → t ≤ 2 ^ 20 → length (spell (Task d t)) ≤ 28
+pub task_width : (d t : ℕ) (e : Edition) → d ≤ 2 ^ 40 → t ≤ 2 ^ 20 → resume_cost e ≤ 2 ^ 20 → length (spell (Task d t e)) ≤ 36
 unfolding spell
-task_width d t p q =
+task_width d t First p q r =
     omega (arith, number_before d 13 (32 ∷ (decimal t ++ (10 ∷ []))) (deadline_length d p), number_before t 7 (10 ∷ []) (cost_length t q))
+task_width d t (Second u) p q r =
+    omega (arith, number_before d 13 (32 ∷ (decimal t ++ (32 ∷ (decimal u ++ (10 ∷ []))))) (deadline_length d p), costs_before t u (10 ∷ []) q r)
 
 pub leaf_width : (k : Bool) (c m : ℕ) → c ≤ 2 ^ 20 → m ≤ 2 ^ 20 → length (spell (Leaf k c m)) ≤ 25
 unfolding spell

@@ -8,10 +8,11 @@ use native.Mathlib.Omega.{arith}
 use native.Mathlib.Decide.{dec_le}
 use lib.Dec.{eqb}
 use borrow.Author.Tests.{lt-ltb, le-ltb, ne_eqb, eqb-true}
+use Rattle.model.specs.declared.Edition.TheVariants.{First, Second}
 use Rattle.text.specs.declared.Form.{Form}
 use Rattle.text.specs.declared.Form.TheVariants.{Task, Fun, Then, Else, Close, Leaf, Call, Loop, If}
 use Rattle.text.specs.Text.{joined, lines}
-use Rattle.text.specs.Patterns.{is_upper, number, some, item, fit_kind, fit_number, matched}
+use Rattle.text.specs.Patterns.{is_upper, number, some, item, fit_kind, fit_number, miss, ended, matched}
 use Rattle.text.specs.Grammar.{form, line_form}
 use Rattle.text.specs.Spelling.{numerals, decimal, kind_text, spell}
 use Rattle.text.proofs.Decimal.{Apart, never_some, number_decimal}
@@ -69,7 +70,8 @@ ends_kind false r = refl
 -- The text of a form is a line.
 ends_spell : (f : Form) → ends (spell f) ≡ true
 unfolding spell ends nothing
-ends_spell (Task d t) = ends_costs d t (10 ∷ [])
+ends_spell (Task d t First) = ends_costs d t (10 ∷ [])
+ends_spell (Task d t (Second u)) = ends_decimal d _ ∙ ends_costs t u (10 ∷ [])
 ends_spell Fun = refl
 ends_spell Then = refl
 ends_spell Else = refl
@@ -109,13 +111,25 @@ unfolding item
 item_kind true r = refl
 item_kind false r = refl
 
+-- Where something else than the line feed follows, a pattern does not end.
+ended_not : (k : Bool) (b : ℕ) (bs : List ℕ) → eqb b 10 ≡ false → ended k (b ∷ bs) ≡ miss
+ended_not k b [] e = rw e
+ended_not k b (c ∷ bs) e = refl
+
 -- A form is read from the text that spells it.
 pub reads_spelled : (f : Form) → line_form (spell f) ≡ form f
 unfolding line_form spell matched item
-reads_spelled (Task d t) =
+reads_spelled (Task d t First) =
     rw (
       item_decimal 68 d (32 ∷ (decimal t ++ (10 ∷ []))) refl refl refl,
       item_decimal 84 t (10 ∷ []) refl refl refl,
+    )
+reads_spelled (Task d t (Second u)) =
+    rw (
+      item_decimal 68 d (32 ∷ (decimal t ++ (32 ∷ (decimal u ++ (10 ∷ []))))) refl refl refl,
+      item_decimal 84 t (32 ∷ (decimal u ++ (10 ∷ []))) refl refl refl,
+      ended_not false 32 (decimal u ++ (10 ∷ [])) refl,
+      item_decimal 85 u (10 ∷ []) refl refl refl,
     )
 reads_spelled Fun = refl
 reads_spelled Then = refl

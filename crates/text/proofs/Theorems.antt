@@ -8,6 +8,8 @@ use mathlib.Core.List.{List, [], ◌∷◌, ◌++◌}
 use mathlib.Core.Bool.{Bool, true, false}
 use lib.ListN.{length, drop}
 use lib.Dec.{leb}
+use Rattle.model.specs.declared.Edition.{Edition}
+use Rattle.model.specs.Plan.{resume_cost}
 use Rattle.text.specs.declared.Form.{Form}
 use Rattle.text.specs.declared.Form.TheVariants.{Task, Leaf, Call, Loop, If}
 use Rattle.std.specs.Prelude.{Option}
@@ -92,8 +94,8 @@ cost_length = lengths.cost_length
 pub deadline_length : (n : ℕ) → n ≤ 2 ^ 40 → length (decimal n) ≤ 13
 deadline_length = lengths.deadline_length
 
--- A task line takes at most 28 bytes.
-pub task_width : (d t : ℕ) → d ≤ 2 ^ 40 → t ≤ 2 ^ 20 → length (spell (Task d t)) ≤ 28
+-- A task line, U included, takes at most 36 bytes.
+pub task_width : (d t : ℕ) (e : Edition) → d ≤ 2 ^ 40 → t ≤ 2 ^ 20 → resume_cost e ≤ 2 ^ 20 → length (spell (Task d t e)) ≤ 36
 task_width = lengths.task_width
 
 -- A leaf line takes at most 25 bytes.

@@ -25,6 +25,7 @@ pub spells_read : (l : List ℕ) (g : Form) → line_form l ≡ form g → l ≡
 unfolding line_form spell spelled once kindless
 spells_read l g e =
     try _ _ _ g l e (λ k v h. (filled (bytes "(task D T") false l k v refl h).text) λ e.
+    try _ _ _ g l e (λ k v h. (filled (bytes "(task D T U") false l k v refl h).text) λ e.
     try _ _ _ g l e (λ k v h. (filled (bytes "(leaf K C M)") false l k v refl h).text) λ e.
     try _ _ _ g l e (λ k v h. (filled (bytes "(call K F C M)") false l k v refl h).text) λ e.
     try _ _ _ g l e (λ k v h. (filled (bytes "(loop K B C M") false l k v refl h).text) λ e.

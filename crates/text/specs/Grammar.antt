@@ -1,7 +1,9 @@
--- The plan's own table of patterns, what a line of a plan is, and what reading one at a place answers (01, 'A plan, one form a line').
+-- The plan's own table of patterns, what a line of a plan is, and what reading one at a place answers (01, 'A plan, one form a line'; 02, L7).
 -- Assumes nothing: these are definitions.
 use Rattle.std.specs.Prelude.{ℕ, ◌^◌, ◌<◌, ◌≤◌, ◌≡◌, List, Bool, false, length, get_or, drop, Option, Some, None}
 use Prim.Native.String.{String}
+use Rattle.model.specs.declared.Edition.{Edition}
+use Rattle.model.specs.declared.Edition.TheVariants.{First, Second}
 use Rattle.text.specs.declared.Form.{Form}
 use Rattle.text.specs.declared.Form.TheVariants.{Task, Fun, Then, Else, Close, Leaf, Call, Loop, If}
 use Rattle.text.specs.Text.{bytes, line_at, rest_at, line_end}
@@ -39,16 +41,22 @@ block_form l =
     (like "(loop K B C M" l (λ k v. Loop k (nth v 0) (nth v 1) (nth v 2))
     (like "(if K C M" l (λ k v. If k (nth v 0) (nth v 1)) (plain_form l))))
 
--- Any line: the task's, a leaf's, or one without numbers; or none of the forms.
+-- Any line: the task's (02, L7: with a third number, that of a plan of edition 2), a leaf's, or one without numbers; or none of the forms.
 unfoldable pub line_form : List ℕ → Line
-line_form l = like "(task D T" l (λ k v. Task (nth v 0) (nth v 1)) (block_form l)
+line_form l =
+    like "(task D T" l (λ k v. Task (nth v 0) (nth v 1) First)
+    (like "(task D T U" l (λ k v. Task (nth v 0) (nth v 1) (Second (nth v 2))) (block_form l))
 
 -- A form with its numbers held at 2^41: no range of 01 goes so far.
 abbrev cap : ℕ → ℕ
 cap = capped (2 ^ 41)
 
+abbrev pub cap_edition : Edition → Edition
+cap_edition First = First
+cap_edition (Second u) = Second (cap u)
+
 abbrev pub cap_form : Form → Form
-cap_form (Task d t) = Task (cap d) (cap t)
+cap_form (Task d t e) = Task (cap d) (cap t) (cap_edition e)
 cap_form Fun = Fun
 cap_form Then = Then
 cap_form Else = Else

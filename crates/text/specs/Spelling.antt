@@ -1,6 +1,8 @@
 -- The one text of a number and of a line. It shares no pattern with `line_form`, which reads them.
 -- Assumes nothing: these are definitions.
 use Rattle.std.specs.Prelude.{ℕ, zero, suc, ◌+◌, ◌/◌, ◌%◌, List, [], ◌∷◌, ◌++◌, Bool, cond as pick, ltb}
+use Rattle.model.specs.declared.Edition.{Edition}
+use Rattle.model.specs.declared.Edition.TheVariants.{First, Second}
 use Rattle.text.specs.declared.Form.{Form}
 use Rattle.text.specs.declared.Form.TheVariants.{Task, Fun, Then, Else, Close, Leaf, Call, Loop, If}
 use Rattle.text.specs.Text.{bytes}
@@ -18,8 +20,13 @@ decimal n = numerals (suc n) n
 abbrev pub kind_text : Bool → List ℕ
 kind_text k = pick k (bytes "p") (bytes "s")
 
+-- A third number, U, in edition 2 (02, L7).
+abbrev pub resume_text : Edition → List ℕ
+resume_text First = []
+resume_text (Second u) = bytes " " ++ decimal u
+
 unfoldable pub spell : Form → List ℕ
-spell (Task d t) = bytes "(task " ++ (decimal d ++ (bytes " " ++ (decimal t ++ bytes "\n")))
+spell (Task d t e) = bytes "(task " ++ (decimal d ++ (bytes " " ++ (decimal t ++ (resume_text e ++ bytes "\n"))))
 spell Fun = bytes "(fun\n"
 spell Then = bytes "(then\n"
 spell Else = bytes "(else\n"

@@ -7,10 +7,13 @@ ghost use Rattle.text.specs.Patterns.{class_of, is_upper, MatchAt};
 ghost use Rattle.text.specs.Grammar.{read_at};
 ghost use Rattle.text.specs.Private.{DigitIs, DigitsTo, NumberAt, StandsAt, kind_said, CapitalAt, LiteralStart, plain_line_at, block_line_at};
 
-// The lines of the grammar. The kind K is true for p, a point, and false for s, silent. Numbers over 2^41 are held at 2^41.
+use model::Edition;
+
+// The lines of the grammar. The kind K is true for p, a point, and false for s, silent; a task line with a third number, U, is one of edition 2 (document
+// 02, L7). Numbers over 2^41 are held at 2^41.
 #[derive(Clone, Copy, Debug, PartialEq, Eq)]
 pub enum Form {
-    Task(u64, u64),
+    Task(u64, u64, Edition),
     Fun,
     Then,
     Else,
@@ -272,7 +275,10 @@ pub fn line(text: &[u8], at: usize) -> Option<(Form, usize)>
 {
     let mut n = [0; ROOM];
     if let Some((_, e)) = matches_word(text, at, b"(task D T", CAP, &mut n) {
-        return Some((Form::Task(n[0], n[1]), e));
+        return Some((Form::Task(n[0], n[1], Edition::First), e));
+    }
+    if let Some((_, e)) = matches_word(text, at, b"(task D T U", CAP, &mut n) {
+        return Some((Form::Task(n[0], n[1], Edition::Second(n[2])), e));
     }
     block_line(text, at)
 }

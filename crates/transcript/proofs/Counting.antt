@@ -23,7 +23,7 @@ use Rattle.print.specs.Lines.{answer_line}
 use Rattle.std.specs.Prelude.{Option, Some, None}
 use Rattle.flight_log.specs.Log.{entry_of, call_text, Small}
 use Rattle.flight_log.proofs.Theorems.{other_exactly}
-use Rattle.transcript.specs.Transcript.{reply_to, reading_of, is_go, gap, shared, suspended, after_call, ticks, after_end}
+use Rattle.transcript.specs.Transcript.{reply_to, reading_of, shares, gap, shared, suspended, after_call, ticks, after_end}
 use Rattle.transcript.specs.Transcript.{Progress, next_progress, progress_after, line_told, at_first}
 use Rattle.transcript.specs.Pieces.{shared_to, shared_after, ticks_to, ticks_after, entry_shared, entry_told}
 use Rattle.transcript.proofs.Effects.{Effect, kept, opens, goes, ends, doing, effect}
@@ -42,13 +42,13 @@ last_more (x ∷ w ∷ xs) y = later (last_more (w ∷ xs) y)
 
 -- A further call adds the gap before it to one of both sums, by the decision before the gap.
 pub shared_more : {xs : List Exchange} {z : Exchange} → LastOf xs z → (y : Exchange) →
-    shared (xs ++ (y ∷ [])) ≡ shared xs + pick (is_go z.answer) (gap z y) 0
+    shared (xs ++ (y ∷ [])) ≡ shared xs + pick (shares z.answer) (gap z y) 0
 unfolding shared
 shared_more only y = omega arith
 shared_more (later {x} {y = w} h) y = omega (arith, shared_more h y)
 
 pub suspended_more : {xs : List Exchange} {z : Exchange} → LastOf xs z → (y : Exchange) →
-    suspended (xs ++ (y ∷ [])) ≡ suspended xs + pick (is_go z.answer) 0 (gap z y)
+    suspended (xs ++ (y ∷ [])) ≡ suspended xs + pick (shares z.answer) 0 (gap z y)
 unfolding suspended
 suspended_more only y = omega arith
 suspended_more (later {x} {y = w} h) y = omega (arith, suspended_more h y)
@@ -60,8 +60,8 @@ no_gap x = (refl, refl)
 
 -- The same of any calls and two more.
 pub gap_counted : (xs : List Exchange) (x y : Exchange) →
-    (shared (xs ++ (x ∷ y ∷ [])) ≡ shared (xs ++ (x ∷ [])) + pick (is_go x.answer) (gap x y) 0) ×
-    (suspended (xs ++ (x ∷ y ∷ [])) ≡ suspended (xs ++ (x ∷ [])) + pick (is_go x.answer) 0 (gap x y))
+    (shared (xs ++ (x ∷ y ∷ [])) ≡ shared (xs ++ (x ∷ [])) + pick (shares x.answer) (gap x y) 0) ×
+    (suspended (xs ++ (x ∷ y ∷ [])) ≡ suspended (xs ++ (x ∷ [])) + pick (shares x.answer) 0 (gap x y))
 gap_counted xs x y =
     let two : (xs ++ (x ∷ [])) ++ (y ∷ []) ≡ xs ++ (x ∷ y ∷ []) = append_assoc xs (x ∷ []) (y ∷ []) in
     (rw two at (shared_more (last_more xs x) y), rw two at (suspended_more (last_more xs x) y))
@@ -74,7 +74,7 @@ pub record Counted (s : OpenRelease) (xs : List Exchange) (n : ℕ) : Type 0 whe
   pub last : Exchange
   pub is_last : LastOf xs last
   pub reading_is : s.reading ≡ reading_of last.call
-  pub others_are : s.others ≡ doing (is_go last.answer)
+  pub others_are : s.others ≡ doing (shares last.answer)
   pub shared_is : n ≡ shared xs
   pub sum_is : shared xs + suspended xs ≡ s.reading
 
@@ -89,14 +89,14 @@ module _ {s : OpenRelease} {xs : List Exchange} {n : ℕ} (k : Counted s xs n) (
   now_read = reading_of y.call
 
   gap_shared : shared_to s.others s.reading now_read n ≡ shared (xs ++ (y ∷ []))
-  gap_shared = rw k.others_are (go (is_go k.last.answer) (shared_more k.is_last y))
+  gap_shared = rw k.others_are (go (shares k.last.answer) (shared_more k.is_last y))
     where
       go : (b : Bool) → shared (xs ++ (y ∷ [])) ≡ shared xs + pick b (gap k.last y) 0 → shared_to (doing b) s.reading now_read n ≡ shared (xs ++ (y ∷ []))
       go true q = omega (arith, k.shared_is, k.sum_is, k.reading_is)
       go false q = omega (arith, k.shared_is)
 
   gap_sum : shared (xs ++ (y ∷ [])) + suspended (xs ++ (y ∷ [])) ≡ now_read
-  gap_sum = go (is_go k.last.answer) (shared_more k.is_last y) (suspended_more k.is_last y)
+  gap_sum = go (shares k.last.answer) (shared_more k.is_last y) (suspended_more k.is_last y)
     where
       go : (b : Bool) → shared (xs ++ (y ∷ [])) ≡ shared xs + pick b (gap k.last y) 0 →
           suspended (xs ++ (y ∷ [])) ≡ suspended xs + pick b 0 (gap k.last y) →

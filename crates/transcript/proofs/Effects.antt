@@ -33,28 +33,28 @@ use Rattle.control.specs.declared.State.TheVariants.{Idle, Open}
 use Rattle.control.specs.declared.OpenRelease.{OpenRelease}
 use Rattle.control.specs.State.{fresh, standing, open_at_release, open_at_report}
 use Rattle.control.specs.Calls.{place_of, running_at, found_at, read_state, in_numbers, reply, on_state, on_plan, call_on}
-use Rattle.transcript.specs.Transcript.{is_go}
+use Rattle.transcript.specs.Transcript.{shares}
 
 abbrev replied : State → Answer → Reply State
 replied x a = record { state = x; answer = a }
 
--- What the others do after a decision, by whether it was go.
+-- What the others do after a decision, by whether the gap after it is shared.
 abbrev pub doing : Bool → Others
 doing true = Running
 doing false = Suspended
 
--- A refused call keeps the state. After an accepted release or report one is open with its reading, and the others run exactly if the decision was go. An
--- accepted report or end comes where one is open, its reading is not below the last one, and an end leaves a fresh state.
+-- A refused call keeps the state. After an accepted release or report one is open with its reading, and the others run exactly if the gap after it is
+-- shared. An accepted report or end comes where one is open, its reading is not below the last one, and an end leaves a fresh state.
 pub data Effect : State → Call → Reply State → Type 0 where
   kept : (s : State) (c : Call) (k : Refusal) → number_of k ≤ 17 → Effect s c (refuse s k)
-  opens : (s : State) (w : Word) (r : ℕ) (m : ℤ) (l : Bool) (x : OpenRelease) → x.reading ≡ 0 → x.others ≡ doing (is_go (Decided w r m l)) →
+  opens : (s : State) (w : Word) (r : ℕ) (m : ℤ) (l : Bool) (x : OpenRelease) → x.reading ≡ 0 → x.others ≡ doing (shares (Decided w r m l)) →
       Effect s Release (replied (Open x) (Decided w r m l))
   goes : (o : OpenRelease) (n e : ℕ) (w : Word) (r : ℕ) (m : ℤ) (l : Bool) (x : OpenRelease) → o.reading ≤ e → x.reading ≡ e →
-      x.others ≡ doing (is_go (Decided w r m l)) → Effect (Open o) (Report n e) (replied (Open x) (Decided w r m l))
+      x.others ≡ doing (shares (Decided w r m l)) → Effect (Open o) (Report n e) (replied (Open x) (Decided w r m l))
   ends : (o : OpenRelease) (e : ℕ) (w : Ending) (l : Bool) → o.reading ≤ e → Effect (Open o) (End e) (replied fresh (Closed w l))
 
 -- The word of a decision tells what the others do then.
-word_tells : (h : Bool) (others : Others) (r : ℕ) (m : ℤ) (l : Bool) → others_by_word (word h others) others ≡ doing (is_go (Decided (word h others) r m l))
+word_tells : (h : Bool) (others : Others) (r : ℕ) (m : ℤ) (l : Bool) → others_by_word (word h others) others ≡ doing (shares (Decided (word h others) r m l))
 word_tells true Running r m l = refl
 word_tells false Running r m l = refl
 word_tells true Suspended r m l = refl
@@ -69,9 +69,9 @@ module _ (p : Plan) where
       go : (b : Bool) → Effect s Release (in_numbers p s (pick b (decided p at_release 0 Running) (refuse idle Unfit)))
       go true =
           let o = outlook p at_release in
-          opens s (word (holds p o 0) Running) o.remaining (margin p o 0) (late p 0)
-          (open_at_release p 0 (others_by_word (word (holds p o 0) Running) Running)) refl
-          (word_tells (holds p o 0) Running o.remaining (margin p o 0) (late p 0))
+          opens s (word (holds p o 0 Running) Running) o.remaining (margin p o 0 Running) (late p 0)
+          (open_at_release p 0 (others_by_word (word (holds p o 0 Running) Running) Running)) refl
+          (word_tells (holds p o 0 Running) Running o.remaining (margin p o 0 Running) (late p 0))
       go false = kept s Release Unfit (omega arith)
   idle_effect s (Report n e) = kept s (Report n e) refusals.Idle (omega arith)
   idle_effect s (End e) = kept s (End e) refusals.Idle (omega arith)
@@ -83,9 +83,9 @@ module _ (p : Plan) where
     found_effect n e h none = kept (Open s) (Report n e) Astray (omega arith)
     found_effect n e h (some ms) =
         let o = outlook p (at_report n ms) in
-        goes s n e (word (holds p o e) s.others) o.remaining (margin p o e) (late p e)
-        (open_at_report p s.place n ms e (others_by_word (word (holds p o e) s.others) s.others)) h refl
-        (word_tells (holds p o e) s.others o.remaining (margin p o e) (late p e))
+        goes s n e (word (holds p o e s.others) s.others) o.remaining (margin p o e s.others) (late p e)
+        (open_at_report p s.place n ms e (others_by_word (word (holds p o e s.others) s.others) s.others)) h refl
+        (word_tells (holds p o e s.others) s.others o.remaining (margin p o e s.others) (late p e))
 
     running_effect : (c : Call) → Effect (Open s) c (reply p (Open s) (running_at s ls) c)
     unfolding respond

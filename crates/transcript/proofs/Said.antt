@@ -15,7 +15,7 @@ use Rattle.flight_log.proofs.Theorems.{entries_said}
 use Rattle.transcript.specs.Transcript.{after_call, after_end, told, at_first, transcript, answers_told}
 
 -- The calls of some exchanges.
-abbrev calls_of : List Exchange → List Call
+abbrev pub calls_of : List Exchange → List Call
 calls_of xs = map (λ x. x.call) xs
 
 answered_told : (t : Table) (s : State) (accepted xs : List Exchange) → Answered (controller_of t) s xs →

@@ -1,6 +1,6 @@
--- The theorems about the replay of a log (02, L1), to be read; each is proved in a file beside this one. The definitions to believe are in specs/Transcript
--- (the replay, from the plan's text and the log's bytes alone), in specs/Log of crate `flight_log` (what a line says), and in specs/Pieces what `start`, `feed` and
--- `close` promise (FedPiece, ClosedLog) and what is printed through them (PrintedOf).
+-- The theorems about the replay of a log (02, L1 and L7), to be read; each is proved in a file beside this one. The definitions to believe are in
+-- specs/Transcript (the replay, from the plan's text and the log's bytes alone), in specs/Log of crate `flight_log` (what a line says), and in specs/Pieces
+-- what `start`, `feed` and `close` promise (FedPiece, ClosedLog) and what is printed through them (PrintedOf).
 -- Assumes nothing.
 use mathlib.Core.Bool.{Bool}
 use mathlib.Core.List.{List, [], ◌∷◌, ◌++◌, map}
@@ -19,7 +19,7 @@ use Rattle.model.specs.declared.Call.TheVariants.{End}
 use Rattle.model.specs.declared.Ending.{Ending}
 use Rattle.model.specs.declared.Answer.TheVariants.{Refused, Closed}
 use Rattle.model.specs.Histories.{Exchange, Answered}
-use Rattle.model.specs.Worked.{plan_A}
+use Rattle.model.specs.Worked.{plan_A, returning_A}
 use Rattle.rows.specs.declared.Leaf.{Leaf}
 use Rattle.reader.specs.Outcome.{plan, refused}
 use Rattle.reader.specs.Print.{print}
@@ -34,7 +34,7 @@ use Rattle.control.specs.Calls.{controller_of}
 use Rattle.print.specs.Lines.{answer_line, refused_plan_line}
 use Rattle.std.specs.Prelude.{Option, Some}
 use Rattle.flight_log.specs.Log.{entry_of, call_text, Small, log_text, AllSmall}
-use Rattle.transcript.specs.Transcript.{reply_to, is_go, gap, shared, suspended, ticks, after_end, Progress, next_progress, progress_after}
+use Rattle.transcript.specs.Transcript.{reply_to, shares, gap, shared, suspended, ticks, after_end, Progress, next_progress, progress_after}
 use Rattle.transcript.specs.Transcript.{told, at_first, transcript, replay, answers_told}
 use Rattle.transcript.specs.Pieces.{begin, PrintedOf, whole_log}
 use Rattle.transcript.proofs.Counting as counting
@@ -102,10 +102,10 @@ never_broken text p h = unbroken.never_broken p ((read_as_plan 512 text p).0 h).
 pub no_gap : (x : Exchange) → (shared (x ∷ []) ≡ 0) × (suspended (x ∷ []) ≡ 0)
 no_gap = counting.no_gap
 
--- Each gap between neighbouring readings counts once: as shared where the decision before it was go, else as suspended.
+-- Each gap between neighbouring readings counts once: as shared where the decision before it was go or resume, else as suspended.
 pub gap_counted : (xs : List Exchange) (x y : Exchange) →
-    (shared (xs ++ (x ∷ y ∷ [])) ≡ shared (xs ++ (x ∷ [])) + pick (is_go x.answer) (gap x y) 0) ×
-    (suspended (xs ++ (x ∷ y ∷ [])) ≡ suspended (xs ++ (x ∷ [])) + pick (is_go x.answer) 0 (gap x y))
+    (shared (xs ++ (x ∷ y ∷ [])) ≡ shared (xs ++ (x ∷ [])) + pick (shares x.answer) (gap x y) 0) ×
+    (suspended (xs ++ (x ∷ y ∷ [])) ≡ suspended (xs ++ (x ∷ [])) + pick (shares x.answer) 0 (gap x y))
 gap_counted = counting.gap_counted
 
 -- Consider any lines of a log, and behind them an end that is accepted. Its ticks shared and suspended together are its reading.
@@ -122,3 +122,9 @@ sum_is_end_reading = counting.sum_is_end_reading
 pub worst_replayed : replay (print plan_A) (bytes "release\npoint 0 0\npoint 1 9\npoint 1 33\npoint 1 57\npoint 1 73\nend 81\n") ≡
     bytes "go 49 47 0\ngo 49 38 0\ngo 44 19 0\ngo 32 7 0\nsuspend 20 -5 0\nstay 8 15 0\nresume 0\n57 24 81\n"
 worst_replayed = examples.worst_replayed
+
+-- The same with U 3 (02, L7): the others run up to the third visit of the loop, at 57, are suspended from there to the fourth, at 73, and run again from there
+-- to the end, at 88. So 57 + 15 ticks are shared, and 16 suspended.
+pub return_replayed : replay (print returning_A) (bytes "release\npoint 0 0\npoint 1 9\npoint 1 33\npoint 1 57\npoint 1 73\nend 88\n") ≡
+    bytes "go 49 47 0\ngo 49 38 0\ngo 44 19 0\ngo 32 7 0\nsuspend 20 -5 0\nresume 8 12 0\nended 0\n72 16 88\n"
+return_replayed = examples.return_replayed

@@ -1,4 +1,5 @@
--- The replay of a flight log (02, L1), from the plan's text and the log's bytes alone: each line's answer, and after an accepted end the ticks of its release.
+-- The replay of a flight log (02, L1 and L7), from the plan's text and the log's bytes alone: each line's answer, and after an accepted end the ticks of its
+-- release.
 -- Assumes nothing: these are definitions.
 use Rattle.std.specs.Prelude.{ℕ, ◌+◌, ◌-◌, Bool, true, false, List, [], ◌∷◌, ◌++◌}
 use Rattle.model.specs.declared.Refusal.TheVariants.{Garbled}
@@ -6,7 +7,7 @@ use Rattle.model.specs.Refusals.{number_of}
 use Rattle.model.specs.Places.{pick}
 use Rattle.model.specs.declared.Call.{Call}
 use Rattle.model.specs.declared.Call.TheVariants.{Release, Report, End}
-use Rattle.model.specs.declared.Word.TheVariants.{Go, Suspend, Stay}
+use Rattle.model.specs.declared.Word.TheVariants.{Go, Suspend, Stay, Resume}
 use Rattle.model.specs.declared.Answer.{Answer}
 use Rattle.model.specs.declared.Answer.TheVariants.{Refused, Decided, Closed}
 use Rattle.model.specs.Calls.{Reply, refuse}
@@ -34,29 +35,30 @@ reading_of Release = 0
 reading_of (Report n e) = e
 reading_of (End e) = e
 
--- The decision was go.
-abbrev pub is_go : Answer → Bool
-is_go (Refused n) = false
-is_go (Decided Go r m late) = true
-is_go (Decided Suspend r m late) = false
-is_go (Decided Stay r m late) = false
-is_go (Closed e late) = false
+-- The gap after a decision is shared: the answer was go, or resume before the end (02, L7).
+abbrev pub shares : Answer → Bool
+shares (Refused n) = false
+shares (Decided Go r m late) = true
+shares (Decided Suspend r m late) = false
+shares (Decided Stay r m late) = false
+shares (Decided Resume r m late) = true
+shares (Closed e late) = false
 
 -- The gap between two readings.
 abbrev pub gap : Exchange → Exchange → ℕ
 gap x y = reading_of y.call - reading_of x.call
 
--- Ticks shared: of accepted calls in order, the sum of those gaps between neighbouring readings where the decision before the gap was go.
+-- Ticks shared: of accepted calls in order, the sum of those gaps between neighbouring readings where the decision before the gap was go or resume.
 unfoldable pub shared : List Exchange → ℕ
 shared [] = 0
 shared (x ∷ []) = 0
-shared (x ∷ y ∷ ys) = pick (is_go x.answer) (gap x y) 0 + shared (y ∷ ys)
+shared (x ∷ y ∷ ys) = pick (shares x.answer) (gap x y) 0 + shared (y ∷ ys)
 
 -- Ticks suspended: the sum of the other gaps.
 unfoldable pub suspended : List Exchange → ℕ
 suspended [] = 0
 suspended (x ∷ []) = 0
-suspended (x ∷ y ∷ ys) = pick (is_go x.answer) 0 (gap x y) + suspended (y ∷ ys)
+suspended (x ∷ y ∷ ys) = pick (shares x.answer) 0 (gap x y) + suspended (y ∷ ys)
 
 -- The accepted calls of a release, from it on in order, with one more, or of the release that it is.
 abbrev pub with_call : List Exchange → Call → Answer → List Exchange

@@ -3,6 +3,7 @@
 use reference::calls::{margin, Answer, Word, LEAST_MARGIN};
 use reference::composed::{Composed, Place};
 use reference::numbers::Numbers;
+use reference::plan::Plan;
 
 use super::super::calls::Call;
 use super::super::law::Outcome;
@@ -11,16 +12,15 @@ use super::super::state::{EARLIER, LEVEL, SUSPENDED};
 use super::{Asked, Difference};
 
 /// The numbers of a decision, and what it was found from.
-pub struct Decision {
+pub struct Decision<'a> {
+    pub plan: &'a Plan,
     pub word: Word,
     pub remaining: u64,
     pub margin: i64,
     late: bool,
     pub releases: bool,
-    suspended: bool,
+    pub suspended: bool,
     reading: u64,
-    deadline: u64,
-    pub switch: u64,
     stretch: u64,
     pub place: Place,
     pub is_final: bool,
@@ -29,27 +29,34 @@ pub struct Decision {
     first_remaining: u64,
 }
 
-impl Decision {
+impl Decision<'_> {
     /// The word that this margin leads to.
     pub fn weigh(&mut self, margin: i64) {
-        self.word = match (self.suspended, margin >= 0) {
-            (true, _) => Word::Stay,
-            (false, true) => Word::Go,
-            (false, false) => Word::Suspend,
-        };
+        self.word = Word::of(self.plan, self.suspended, margin);
     }
 
-    /// What comes off beside the stretch, where the decision is final or not.
+    /// The U that comes off, 0 where none does.
+    pub fn cost_of_return(&self) -> u64 {
+        self.plan.cost_of_return(self.suspended)
+    }
+
+    /// What comes off beside the stretch and U, where the decision is final or not.
     fn reserve(&self, is_final: bool) -> u64 {
         match is_final {
             true => 0,
-            false => self.remaining + self.switch,
+            false => self.remaining + self.plan.switch,
         }
     }
 
-    /// The margin with so much taken off beside the stretch.
+    /// The margin of this need beside U.
+    fn margin_of(&self, needed: u64) -> i64 {
+        let needed = needed + self.cost_of_return();
+        margin(self.plan.deadline, self.reading, needed)
+    }
+
+    /// The margin with so much taken off beside the stretch and U.
     pub fn margin_beside(&self, reserve: u64) -> i64 {
-        margin(self.deadline, self.reading, self.stretch + reserve)
+        self.margin_of(self.stretch + reserve)
     }
 
     /// The margin if it were a final decision or not.
@@ -58,18 +65,18 @@ impl Decision {
     }
 
     pub fn margin_with(&self, stretch: u64) -> i64 {
-        let reserve = self.reserve(self.is_final);
-        margin(self.deadline, self.reading, stretch + reserve)
+        self.margin_of(stretch + self.reserve(self.is_final))
     }
 
     /// D less all the rest, with no regard to what 64 bits hold.
     fn margin_unheld(&self) -> i64 {
-        let taken = self.stretch + self.reserve(self.is_final);
-        self.deadline.wrapping_sub(self.reading).wrapping_sub(taken) as i64
+        let taken = self.stretch + self.reserve(self.is_final) + self.cost_of_return();
+        let left = self.plan.deadline.wrapping_sub(self.reading);
+        left.wrapping_sub(taken) as i64
     }
 }
 
-fn of_outcome(asked: &Asked, outcome: &Outcome) -> Option<Decision> {
+fn of_outcome<'a>(asked: &Asked<'a>, outcome: &Outcome) -> Option<Decision<'a>> {
     let Answer::Decision {
         word,
         remaining,
@@ -79,12 +86,14 @@ fn of_outcome(asked: &Asked, outcome: &Outcome) -> Option<Decision> {
     else {
         return None;
     };
-    let composed = Composed::new(asked.plan?);
+    let plan = asked.plan?;
+    let composed = Composed::new(plan);
     let place = places::by_forms(&composed, &outcome.state)?;
     let mut first = outcome.state.clone();
     first.0[EARLIER + first.0[LEVEL] as usize] = 0;
     let releases = asked.call == Call::Release;
     Some(Decision {
+        plan,
         word,
         remaining,
         margin,
@@ -92,8 +101,6 @@ fn of_outcome(asked: &Asked, outcome: &Outcome) -> Option<Decision> {
         releases,
         suspended: asked.state.is_suspended() && !releases,
         reading: asked.reading(),
-        deadline: composed.plan().deadline,
-        switch: composed.plan().switch,
         stretch: composed.stretch_at(&place),
         is_final: composed.is_final(&place),
         place,
@@ -107,7 +114,7 @@ pub fn decided(asked: &Asked, change: impl Fn(&mut Decision)) -> Outcome {
     let mut outcome = asked.right();
     if let Some(mut decision) = of_outcome(asked, &outcome) {
         change(&mut decision);
-        outcome.state.0[SUSPENDED] = u64::from(decision.word != Word::Go);
+        outcome.state.0[SUSPENDED] = u64::from(!decision.word.others_run());
         outcome.answer = Answer::Decision {
             word: decision.word,
             remaining: decision.remaining,
@@ -146,7 +153,7 @@ pub const ALL: &[Difference] = &[
     ("switch-left-out", |asked| {
         decided(asked, |found| {
             if !found.is_final {
-                found.weigh(found.margin + found.switch as i64);
+                found.weigh(found.margin + found.plan.switch as i64);
             }
         })
     }),
@@ -176,7 +183,9 @@ pub const ALL: &[Difference] = &[
         })
     }),
     ("late-at-deadline", |asked| {
-        decided(asked, |found| found.late = found.reading >= found.deadline)
+        decided(asked, |found| {
+            found.late = found.reading >= found.plan.deadline
+        })
     }),
     ("never-late", |asked| {
         decided(asked, |found| found.late = false)

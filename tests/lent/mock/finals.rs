@@ -81,10 +81,8 @@ impl Look<'_> {
 /// The right outcome with its decision taken for a final one where this says so.
 fn judged(asked: &Asked, is_final: impl Fn(&Plan, &Decision) -> bool) -> Outcome {
     decided(asked, |found| {
-        if let Some(plan) = asked.plan {
-            found.margin = found.margin_if(is_final(plan, found));
-            found.weigh(found.margin);
-        }
+        found.margin = found.margin_if(is_final(found.plan, found));
+        found.weigh(found.margin);
     })
 }
 
@@ -173,7 +171,7 @@ pub const ALL: &[Difference] = &[
     ("final-with-switch", |asked| {
         decided(asked, |found| {
             if found.is_final {
-                found.margin = found.margin_beside(found.switch);
+                found.margin = found.margin_beside(found.plan.switch);
                 found.weigh(found.margin);
             }
         })

@@ -120,6 +120,9 @@ fn reply(answer: Answer, call: Call) -> Reply {
         _ if refused && planted("refusal-with-remaining") => reply.remaining = 1,
         _ if !refused && planted("accepted-with-number") => reply.number = 1,
         Call::End(_) if !refused && planted("end-with-remaining") => reply.remaining = 1,
+        _ if answer.is_return() && planted("return-without-numbers") => {
+            (reply.remaining, reply.margin) = (0, 0);
+        }
         _ if planted("late-is-2") => reply.late *= 2,
         _ => {}
     }

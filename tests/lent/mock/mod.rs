@@ -9,6 +9,7 @@ mod memory;
 mod numbers;
 mod planted;
 mod refusals;
+mod returns;
 mod states;
 mod tables;
 mod texts;
@@ -37,6 +38,7 @@ fn difference() -> fn(&Asked) -> Outcome {
             decisions::ALL,
             finals::ALL,
             visits::ALL,
+            returns::ALL,
             refusals::ALL,
             states::ALL,
             broken::ALL,

@@ -5,6 +5,7 @@ use reference::numbers::Numbers;
 use reference::plan::{Form, Kind, Plan, MOST_FUNCTIONS};
 use reference::records::{Record, AFTER, MAX_LOAD_TURN, OTHER, TAIL, TURN};
 use reference::table::{self, Table, HEAD, MAX_LOAD_TOTAL, MAX_LOAD_TOTALS, TOTAL, TOTALS};
+use reference::table::{EDITION, RESUMING};
 
 use super::planted::planted;
 
@@ -84,6 +85,27 @@ fn plant_leaf(record: &mut Record, composed: &Composed, form: &Form) {
     }
 }
 
+/// Differences in the head beside the totals, and behind those of so many functions.
+fn plant_beside(head: &mut [u64; HEAD], functions: usize) {
+    for (name, last) in [
+        ("totals-behind", MAX_LOAD_TOTALS - 1),
+        ("max-load-totals-behind", HEAD - 1),
+    ] {
+        if planted(name) && functions < MOST_FUNCTIONS {
+            head[last] = 1;
+        }
+    }
+    if planted("edition-left-out") {
+        head[EDITION] = 1;
+    }
+    if planted("resume-left-out") {
+        head[RESUMING] = 0;
+    }
+    if planted("bounds-end") && functions == MOST_FUNCTIONS {
+        head[TOTALS - 1] = 0;
+    }
+}
+
 /// The table of a plan, and what is planted there.
 pub fn table(plan: &Plan) -> Table {
     let composed = Composed::new(plan);
@@ -115,16 +137,6 @@ pub fn table(plan: &Plan) -> Table {
     if planted("max-load-totals-turned") {
         head[MAX_LOAD_TOTALS..MAX_LOAD_TOTALS + functions].reverse();
     }
-    for (name, last) in [
-        ("totals-behind", MAX_LOAD_TOTALS - 1),
-        ("max-load-totals-behind", HEAD - 1),
-    ] {
-        if planted(name) && functions < MOST_FUNCTIONS {
-            head[last] = 1;
-        }
-    }
-    if planted("bounds-end") && functions == MOST_FUNCTIONS {
-        head[TOTALS - 1] = 0;
-    }
+    plant_beside(&mut head, functions);
     Table { row, head }
 }

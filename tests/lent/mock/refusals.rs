@@ -100,15 +100,12 @@ fn bound_passed(asked: &Asked) -> Outcome {
     wrong
 }
 
-/// How much D is above total and T; below 0 where it is not.
-fn spare(asked: &Asked, with_stretch: bool) -> i64 {
+/// How much D is above total, T and what is taken off more; below 0 where it is not.
+fn spare(asked: &Asked, more: fn(&Composed) -> u64) -> i64 {
     asked.plan.map_or(0, |plan| {
         let composed = Composed::new(plan);
-        let stretch = match with_stretch {
-            true => composed.release_stretch(),
-            false => 0,
-        };
-        plan.deadline as i64 - (composed.total() + plan.switch + stretch) as i64
+        let taken = composed.total() + plan.switch + more(&composed);
+        plan.deadline as i64 - taken as i64
     })
 }
 
@@ -147,11 +144,17 @@ pub const ALL: &[Difference] = &[
         instead(asked, 13, |number| number == 0 && releases)
     }),
     ("unfit-at-deadline", |asked| {
-        let unfit = asked.call == Call::Release && spare(asked, false) <= 0;
+        let unfit = asked.call == Call::Release && spare(asked, |_| 0) <= 0;
         instead(asked, 13, |number| number == 0 && unfit)
     }),
     ("unfit-by-stretch", |asked| {
-        let unfit = asked.call == Call::Release && spare(asked, true) < 0;
+        let stretch = |composed: &Composed| composed.release_stretch();
+        let unfit = asked.call == Call::Release && spare(asked, stretch) < 0;
+        instead(asked, 13, |number| number == 0 && unfit)
+    }),
+    ("unfit-by-resume", |asked| {
+        let resume = |composed: &Composed| composed.plan().cost_of_return(true);
+        let unfit = asked.call == Call::Release && spare(asked, resume) < 0;
         instead(asked, 13, |number| number == 0 && unfit)
     }),
     ("unfit-by-condition", unfit_by_condition),

@@ -118,6 +118,15 @@ pub const ALL: &[Difference] = &[
     ("end-keeps-suspended", |asked| {
         kept(asked, end, SUSPENDED..SUSPENDED + 1)
     }),
+    ("return-keeps-suspended", |asked| {
+        let resumes = |outcome: &Outcome| match outcome.answer {
+            Answer::Decision { word, .. } => word == Word::Resume,
+            _ => false,
+        };
+        accepted(asked, report, |outcome| {
+            outcome.state.0[SUSPENDED] |= u64::from(resumes(outcome));
+        })
+    }),
     ("running-kept", |asked| yes_kept(asked, RUNNING)),
     ("suspended-kept", |asked| yes_kept(asked, SUSPENDED)),
     ("resume-always", |asked| end_word(asked, Word::Resume)),

@@ -8,7 +8,8 @@ use reference::plan::{self, Form, Kind, Plan, MOST_FUNCTIONS, MOST_LEAVES};
 use reference::records::{ISOLATED, KIND, LEVEL, MAX_LOAD_TURN, OTHER, POINT, TAIL, TURN};
 use reference::table::{self, Finding, Table, FUNCTIONS};
 use reference::table::{
-    BOUNDS, DEADLINE, HEAD, LEAVES, MAX_LOAD_TOTAL, MAX_LOAD_TOTALS, SWITCH, TOTAL, TOTALS,
+    BOUNDS, DEADLINE, EDITION, HEAD, LEAVES, MAX_LOAD_TOTAL, MAX_LOAD_TOTALS, RESUMING, SWITCH,
+    TOTAL, TOTALS,
 };
 
 use super::super::calls::Call;
@@ -66,11 +67,11 @@ fn set_head(asked: &Asked, numbers: Range<usize>) -> Outcome {
     })
 }
 
-/// The same where D or T is not looked at.
-fn set_task(asked: &Asked, at: usize) -> Outcome {
+/// The same where D, T, the edition or U is not looked at: this one is there instead.
+fn set_task(asked: &Asked, at: usize, number: u64) -> Outcome {
     let mut table = asked.table.clone();
     if asked.plan.is_none() {
-        table.head[at] = 1;
+        table.head[at] = number;
     }
     on_table(asked, &table)
 }
@@ -208,8 +209,23 @@ pub const ALL: &[Difference] = &[
             MAX_LOAD_TOTALS..MAX_LOAD_TOTALS + functions as usize - 1,
         )
     }),
-    ("deadline-unjudged", |asked| set_task(asked, DEADLINE)),
-    ("switch-unjudged", |asked| set_task(asked, SWITCH)),
+    ("deadline-unjudged", |asked| set_task(asked, DEADLINE, 1)),
+    ("switch-unjudged", |asked| set_task(asked, SWITCH, 1)),
+    ("edition-unjudged", |asked| set_task(asked, EDITION, 2)),
+    ("resume-unjudged", |asked| set_task(asked, RESUMING, 0)),
+    ("resume-of-edition-1-unjudged", |asked| {
+        match asked.table.head[EDITION] {
+            1 => set_task(asked, RESUMING, 0),
+            _ => asked.right(),
+        }
+    }),
+    ("edition-2-broken", |asked| {
+        broken(asked, asked.table.head[EDITION] == 2)
+    }),
+    ("free-return-broken", |asked| {
+        let head = &asked.table.head;
+        broken(asked, (head[EDITION], head[RESUMING]) == (2, 0))
+    }),
     ("range-unjudged", |asked| without_rule(asked, 3)),
     ("load-unjudged", |asked| without_rule(asked, 5)),
     ("costless-unjudged", |asked| without_rule(asked, 19)),

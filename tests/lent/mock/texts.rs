@@ -1,7 +1,7 @@
 //! Differences in which texts are accepted, and in number and line of a refusal.
 
 use reference::composed::{function_totals, Cost};
-use reference::plan::{self, Kind, Plan, Refusal, MOST_BYTES, MOST_LEAVES};
+use reference::plan::{self, Kind, Plan, Refusal, MOST_BYTES, MOST_COST, MOST_LEAVES};
 use reference::rules;
 
 use super::costless;
@@ -19,6 +19,58 @@ const READ_AS: &[(&str, u8, u8)] = &[
     ("vertical-tab-is-line-feed", 11, b'\n'),
     ("byte-138-is-line-feed", b'\n' + 128, b'\n'),
 ];
+
+/// What is done to the fields of the first line, so that other task lines pass for right
+/// ones, and right ones for others.
+type Change = fn(&mut Vec<String>);
+
+const FIRST_LINES: &[(&str, Change)] = &[
+    ("resume-unranged", |fields| {
+        let number = |field: &String| field.parse::<u64>().ok();
+        if fields.get(3).and_then(number) > Some(MOST_COST) {
+            fields[3] = MOST_COST.to_string();
+        }
+    }),
+    ("resume-by-one-more", |fields| {
+        if fields.get(3).is_some_and(|field| field == "1048577") {
+            fields[3] = MOST_COST.to_string();
+        }
+    }),
+    ("resume-0-is-edition-1", |fields| {
+        if fields.get(3).is_some_and(|field| field == "0") {
+            fields.truncate(3);
+        }
+    }),
+    ("edition-1-as-2", |fields| {
+        if fields.len() == 3 {
+            fields.push("0".to_string());
+        }
+    }),
+    ("resume-with-leading-zero", |fields| {
+        if let Some(rest) = fields.get(3).and_then(|field| field.strip_prefix("0")) {
+            fields[3] = if rest.is_empty() { "0" } else { rest }.to_string();
+        }
+    }),
+    ("fourth-number-ignored", |fields| fields.truncate(4)),
+    ("edition-2-refused", |fields| {
+        if fields.len() == 4 {
+            fields.truncate(2);
+        }
+    }),
+];
+
+/// The text with its first line changed so, if it ends in a line feed.
+fn first_line_changed(text: &[u8], change: Change) -> Vec<u8> {
+    let Some(end) = text.iter().position(|&byte| byte == b'\n') else {
+        return text.to_vec();
+    };
+    let Ok(line) = std::str::from_utf8(&text[..end]) else {
+        return text.to_vec();
+    };
+    let mut fields = line.split(' ').map(str::to_string).collect();
+    change(&mut fields);
+    [fields.join(" ").as_bytes(), &text[end..]].concat()
+}
 
 /// Whether a silent form of the plan that passes the test has a point inside.
 fn hides_point(plan: &Plan, test: impl Fn(&Kind) -> bool) -> bool {
@@ -113,6 +165,9 @@ pub fn read(text: &[u8], records: usize) -> Result<Plan, Refusal> {
     for &(_, byte, other) in READ_AS.iter().filter(|(name, ..)| planted(name)) {
         let same = text.iter_mut().filter(|found| **found == byte);
         same.for_each(|found| *found = other);
+    }
+    for &(_, change) in FIRST_LINES.iter().filter(|(name, _)| planted(name)) {
+        text = first_line_changed(&text, change);
     }
     let plan = read_lines(&text, row)?;
     judge(&plan).map_err(|number| (number, 0))?;

@@ -187,10 +187,7 @@ fn reported(asked: &Asked, stretch: impl Fn(&Composed, &Place) -> u64) -> Outcom
 /// The same wherever one is given.
 fn stretched(asked: &Asked, stretch: impl Fn(&Composed, &Place) -> Option<u64>) -> Outcome {
     decided(asked, |found| {
-        let Some(plan) = asked.plan else {
-            return;
-        };
-        if let Some(other) = stretch(&Composed::new(plan), &found.place) {
+        if let Some(other) = stretch(&Composed::new(found.plan), &found.place) {
             found.margin = found.margin_with(other);
             found.weigh(found.margin);
         }

@@ -94,7 +94,19 @@ fn numbers(plan: &Plan) -> Figures {
     if planted("totals-turned") {
         figures.task.swap(0, 1);
     }
+    change_resume(&mut figures.task);
     figures
+}
+
+/// What is planted in the first line by its U.
+fn change_resume(task: &mut Vec<u64>) {
+    match task.get(4) {
+        Some(_) if planted("resume-left-out") => drop(task.pop()),
+        Some(0) if planted("resume-0-left-out") => drop(task.pop()),
+        Some(_) if planted("resume-before-switch") => task.swap(3, 4),
+        None if planted("resume-in-edition-1") => task.push(0),
+        _ => {}
+    }
 }
 
 /// The answer to a refused plan.

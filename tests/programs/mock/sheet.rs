@@ -33,11 +33,12 @@ fn parts(points: &[Point]) -> Vec<Vec<Point>> {
 /// A field of a line: its name, its columns, and the most digits of its numbers.
 type Field = (&'static str, usize, u32);
 
-const TASK: [Field; 4] = [
+const TASK: [Field; 5] = [
     ("total", 14, 13),
     ("max-load", 14, 13),
     ("deadline", 14, 13),
     ("switch", 14, 7),
+    ("resume", 14, 7),
 ];
 const PAGE: [Field; 1] = [("page", 14, 1)];
 const POINT: [Field; 4] = [
@@ -69,8 +70,8 @@ fn fields(numbers: &[u64], fields: &[Field]) -> String {
 }
 
 /// The heading of a page.
-fn heading(task: [u64; 4], at: usize) -> Vec<String> {
-    let mut task = fields(&task, &TASK);
+fn heading(task: &[u64], at: usize) -> Vec<String> {
+    let mut task = fields(task, &TASK);
     let number = at as u64 + either("pages-from-0", 0, 1);
     let mut page = fields(&[number], &PAGE);
     match () {
@@ -103,7 +104,7 @@ fn filled(line: String) -> String {
 }
 
 /// A page of the sheet; `last` where no other follows.
-fn page(task: [u64; 4], at: usize, points: &[Point], last: bool) -> String {
+fn page(task: &[u64], at: usize, points: &[Point], last: bool) -> String {
     let mut lines = heading(task, at);
     lines.extend(points.iter().map(|point| fields(point, &POINT)));
     let feed = last && planted("form-feed-for-blank-lines");
@@ -125,7 +126,7 @@ pub fn printed(answer: Result<Figures, String>) -> String {
             let last = |at: usize| at + 1 == parts.len();
             let pages = parts.iter().enumerate();
             pages
-                .map(|(at, points)| page(figures.task, at, points, last(at)))
+                .map(|(at, points)| page(&figures.task, at, points, last(at)))
                 .collect()
         }
         Err(refusal) if planted("refusal-padded") => filled(refusal.trim_end().to_string()),

@@ -1,13 +1,15 @@
 //! Numbers and calls read off the list of all runs against the composed ones,
 //! on random small plans.
 
-use reference::calls::{Answer, Controller, Word};
+use reference::calls::{Answer, Controller};
 use reference::composed::Composed;
+use reference::edition::Edition;
 use reference::finals::Finals;
 use reference::gen::{self, Random};
 use reference::listed::Listed;
 use reference::numbers::{listing, Numbers};
 use reference::plan::{text, Plan};
+use reference::returns::Returns;
 use reference::visits::Visits;
 
 use super::tally::Tally;
@@ -77,13 +79,15 @@ fn reading(random: &mut Random, plan: &Plan, last: u64, turning: u64) -> u64 {
 /// What the calls of one plan met, so that no kind of answer goes untried.
 #[derive(Default)]
 struct Met {
-    words: [usize; 5],
+    /// Each word, and resume at a report apart.
+    words: [usize; 6],
     refused: [usize; 18],
     late: usize,
     held: usize,
     deepest: usize,
     finals: Finals,
     visits: Visits,
+    returns: Returns,
 }
 
 impl Met {
@@ -97,26 +101,23 @@ impl Met {
             Answer::Decision {
                 word, margin, late, ..
             } => {
-                self.words[word as usize] += 1;
+                let kind = if answer.is_return() { 5 } else { word as usize };
+                self.words[kind] += 1;
                 self.late += usize::from(late);
                 self.held += usize::from(margin == reference::calls::LEAST_MARGIN);
             }
         }
     }
 
-    /// Whether each kind of answer was met.
-    fn check(&self, tally: &mut Tally) {
-        for word in [
-            Word::Go,
-            Word::Suspend,
-            Word::Stay,
-            Word::Resume,
-            Word::Ended,
-        ] {
-            tally.holds(self.words[word as usize] > 0, || {
-                format!("{word:?} is answered")
-            });
-        }
+    /// Whether each kind of answer of this edition was met.
+    fn check(&self, tally: &mut Tally, edition: Edition) {
+        let words = match edition {
+            Edition::First => &self.words[..5],
+            Edition::Second => &self.words[..],
+        };
+        tally.holds(words.iter().all(|&count| count > 0), || {
+            format!("each word is answered: {words:?}")
+        });
         for number in 12..=17 {
             tally.holds(self.refused[number] > 0, || {
                 format!("refusal {number} is met")
@@ -128,16 +129,27 @@ impl Met {
         tally.holds(self.late > 0 && self.held > 0, || {
             "late marks and held margins are met".to_string()
         });
+        self.check_decisions(tally, edition);
+    }
+
+    /// Whether each kind of decision was met often.
+    fn check_decisions(&self, tally: &mut Tally, edition: Edition) {
         println!("  final decisions: {}", self.finals);
-        tally.holds(self.finals.met(500), || {
+        tally.holds(self.finals.met(edition, edition.share(500)), || {
             "each answer of a final decision is met often".to_string()
         });
         println!(
             "  visits with a smaller stretch than their point: {}",
             self.visits
         );
-        tally.holds(self.visits.met(40), || {
+        tally.holds(self.visits.met(edition, edition.share(40)), || {
             "each answer at such a visit is met often".to_string()
+        });
+        println!("  while suspended: {}", self.returns);
+        let twice = edition == Edition::First || self.returns.twice(50, 50);
+        let returns = self.returns.met(edition, 100) && twice;
+        tally.holds(returns, || {
+            "each answer while suspended is met often".to_string()
         });
     }
 }
@@ -256,6 +268,7 @@ fn histories(
         if let Some(history) = both.by_runs.place() {
             met.finals.note(listed, history, first);
             met.visits.note(listed, history, first);
+            met.returns.note(listed, history, first);
         }
         tally.equal(first.line(), second.line(), || both.shown());
         both.compare_states(tally);
@@ -263,13 +276,13 @@ fn histories(
     }
 }
 
-pub fn check(tally: &mut Tally) {
+fn of_edition(tally: &mut Tally, edition: Edition) {
     let mut random = Random::new(21);
     let mut met = Met::default();
     let (mut plans, mut runs, mut rich) = (0, 0, 0);
-    for _ in 0..PLANS {
-        let shape = gen::small_shape(&mut random);
-        let plan = gen::valid_plan(&mut random, shape);
+    let tried = edition.share(PLANS);
+    for _ in 0..tried {
+        let plan = gen::small_plan(&mut random, edition);
         let Some(listed) = Listed::new(&plan, MOST_RUNS) else {
             continue;
         };
@@ -280,9 +293,16 @@ pub fn check(tally: &mut Tally) {
         tables(tally, &plan, &listed, &composed);
         histories(tally, &mut random, &listed, &composed, &mut met);
     }
-    println!("  {plans} plans, {rich} of them with 20 runs or more, {runs} runs listed");
-    tally.holds(plans > PLANS / 2 && rich > PLANS / 10, || {
+    println!("  {edition}: {plans} plans, {rich} of them with 20 runs or more");
+    println!("  {runs} runs listed");
+    tally.holds(plans > tried / 2 && rich > tried / 10, || {
         "plans to compare".to_string()
     });
-    met.check(tally);
+    met.check(tally, edition);
+}
+
+pub fn check(tally: &mut Tally) {
+    for edition in Edition::BOTH {
+        of_edition(tally, edition);
+    }
 }

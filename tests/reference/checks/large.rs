@@ -1,8 +1,10 @@
 //! Composed numbers of plans too large to list, against single runs of them:
 //! no run exceeds them, and the dearest run meets them. No decision is final with a
-//! point still to come, and the last one of a run is where no point can come next.
+//! point still to come, and the last one of a run is where no point can come next. The
+//! plans are of edition 1: none of these numbers knows of U.
 
 use reference::composed::{Composed, Place};
+use reference::edition::Edition;
 use reference::gen::{self, Random};
 use reference::numbers::Numbers;
 use reference::plan::{text, Form, Kind, Plan};
@@ -156,7 +158,7 @@ pub fn check(tally: &mut Tally) {
     let (mut dearest_runs, mut random_runs) = (0, 0);
     for _ in 0..400 {
         let shape = gen::large_shape(&mut random);
-        let plan = gen::valid_plan(&mut random, shape);
+        let plan = gen::valid_plan(&mut random, shape, Edition::First);
         let composed = Composed::new(&plan);
         let leaves: Vec<&Form> = plan.leaves().into_iter().map(|(_, form)| form).collect();
         let main = &plan.functions[plan.main()];

@@ -123,6 +123,30 @@ fn order_and_rows(tally: &mut Tally) {
     reads(tally, "a longer row", &after_512(LEAF), 600, Some((4, 515)));
 }
 
+/// Task lines of edition 2 (02, L7).
+fn editions(tally: &mut Tally) {
+    let with = |line: &str| joined(&[line, "(fun", ")", ")"]);
+    let resume = |line: &str| plan::read(with(line).as_bytes(), 512).map(|plan| plan.resume);
+    for (line, wanted) in [
+        ("(task 9 0", None),
+        ("(task 9 0 0", Some(0)),
+        ("(task 9 0 1", Some(1)),
+        ("(task 9 0 1048576", Some(1_048_576)),
+    ] {
+        tally.equal(resume(line), Ok(wanted), || {
+            format!("U of {line}, a U of 0 being edition 2")
+        });
+    }
+    let zeros = "a leading zero of U is form";
+    refuses(tally, zeros, &with("(task 9 0 00"), (2, 1));
+    refuses(tally, zeros, &with("(task 9 0 01048577"), (2, 1));
+    refuses(tally, "a U of 2^20 + 1", &with("(task 9 0 1048577"), (3, 1));
+    let longer = "a longer task line is form";
+    refuses(tally, longer, &with("(task 9 0 1 x"), (2, 1));
+    refuses(tally, longer, &with("(task 9 0 1 1"), (2, 1));
+    refuses(tally, longer, &with("(task 9 0 1048577 1"), (2, 1));
+}
+
 /// Rule 19, of document 02.
 fn costless_points(tally: &mut Tally) {
     let parts = "(then\n)\n(else\n)\n)";
@@ -166,6 +190,7 @@ pub fn check(tally: &mut Tally) {
     nesting(tally);
     ends(tally);
     order_and_rows(tally);
+    editions(tally);
     costless_points(tally);
     whole_plans(tally);
 }

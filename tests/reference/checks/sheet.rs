@@ -8,11 +8,12 @@ use reference::listed::Listed;
 use reference::numbers::figures;
 use reference::sheet::{printed, sheet};
 use reference::worked::{EMPTY, PLAN_A};
+use reference::worked_returns::PLAN_A_2;
 
 use super::tally::{accepted, Tally};
 
-/// The fields of a heading end in columns 14, 28, 42 and 56, those of a point in
-/// columns 6, 10, 24 and 38.
+/// The fields of a heading end in columns 14, 28, 42, 56 and, in edition 2, 70, those of a
+/// point in columns 6, 10, 24 and 38.
 const BLANK: &str = "                                                                        ";
 const PAGE_1: &str = "             1                                                          ";
 
@@ -23,6 +24,15 @@ const ON_PLAN_A: [&str; 5] = [
     BLANK,
     "     0   1            49             9                                  ",
     "     1   1            44            24                                  ",
+];
+
+/// The same with a U of 3.
+const ON_PLAN_A_2: [&str; 5] = [
+    "            49            93           100             4             3  ",
+    PAGE_1,
+    BLANK,
+    ON_PLAN_A[3],
+    ON_PLAN_A[4],
 ];
 
 /// D is 1, all else 0.
@@ -58,6 +68,9 @@ const BEHIND_511: [&str; 3] = [
     BLANK,
 ];
 
+/// The same with a U of 2^20.
+const WIDEST_2: &str = " 1099511627776 1099511627776 1099511627776             3       1048576  ";
+
 /// These lines, and blank ones up to the end of the page.
 fn one_page(lines: &[&str]) -> String {
     let blank = std::iter::repeat(&BLANK);
@@ -76,11 +89,15 @@ fn of_one_page(tally: &mut Tally) {
         &[")", ")"],
     );
     let widest = task(&[[words(&["(leaf p 1048576 1048576)"]), square].concat()]);
+    let widest_2 = widest.replacen(" 3\n", " 3 1048576\n", 1);
+    let on_widest_2 = [&[WIDEST_2], &ON_WIDEST[1..]].concat();
     let sheets = [
         ("plan A, by runs", sheet(&by_runs), &ON_PLAN_A[..]),
         ("plan A, by forms", sheet(&by_forms), &ON_PLAN_A),
+        ("edition 2", printed(PLAN_A_2.as_bytes()), &ON_PLAN_A_2),
         ("no points", printed(EMPTY.as_bytes()), &ON_EMPTY),
         ("the widest", printed(widest.as_bytes()), &ON_WIDEST),
+        ("the widest U", printed(widest_2.as_bytes()), &on_widest_2),
     ];
     for (name, found, wanted) in sheets {
         tally.equal(found, one_page(wanted), || format!("sheet, {name}"));
@@ -135,10 +152,12 @@ fn of_refused(tally: &mut Tally) {
 pub fn check(tally: &mut Tally) {
     let lines = [
         &ON_PLAN_A[..],
+        &ON_PLAN_A_2,
         &ON_EMPTY,
         &ON_WIDEST,
         &BEHIND_57,
         &BEHIND_511,
+        &[WIDEST_2],
     ];
     for line in lines.concat() {
         tally.equal(line.len(), 72, || format!("columns of {line:?}"));

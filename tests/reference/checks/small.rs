@@ -1,5 +1,7 @@
-//! The small plans at whose histories two ways of finding a number are compared.
+//! The small plans at whose histories two ways of finding a number are compared. They are
+//! of edition 1: none of these numbers knows of U.
 
+use reference::edition::Edition;
 use reference::gen::{self, Random};
 use reference::listed::Listed;
 
@@ -14,7 +16,7 @@ pub fn each_plan(seed: u64, mut of_plan: impl FnMut(&Listed)) {
     let mut random = Random::new(seed);
     let mut plans = 0;
     while plans < PLANS {
-        let plan = gen::small_or_calling_plan(&mut random);
+        let plan = gen::small_or_calling_plan(&mut random, Edition::First);
         if let Some(listed) = Listed::new(&plan, MOST_RUNS) {
             of_plan(&listed);
             plans += 1;

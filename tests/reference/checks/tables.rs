@@ -1,5 +1,6 @@
 //! Tables of plans with a point that costs nothing, right but for that: they are those
-//! of no accepted plan, and with the leaf silent they are.
+//! of no accepted plan, and with the leaf silent they are. And tables with another edition
+//! or another U.
 
 use std::collections::BTreeMap;
 
@@ -7,10 +8,12 @@ use reference::composed::Composed;
 use reference::costless::{self, Costless};
 use reference::gen::Random;
 use reference::listed::Listed;
-use reference::plan::{read, text, Plan};
-use reference::table::{finding, table, Finding};
+use reference::plan::{read, text, Plan, MOST_COST};
+use reference::table::{finding, table, Finding, EDITION, RESUMING};
+use reference::worked::{PLAN_A, PLAN_B};
+use reference::worked_returns::PLAN_A_2;
 
-use super::tally::Tally;
+use super::tally::{accepted, Tally};
 
 const PLANS: usize = 400;
 const MOST_RUNS: usize = 300;
@@ -44,7 +47,40 @@ fn judged(tally: &mut Tally, costless: &Costless) {
     }
 }
 
+/// Edition and U in the head of a table that is right beside them, and what it is.
+const EDITIONS: [(u64, u64, Finding); 14] = [
+    (1, 0, Finding::Good),
+    (2, 0, Finding::Good),
+    (2, 1, Finding::Good),
+    (2, MOST_COST, Finding::Good),
+    (2, MOST_COST + 1, Finding::Refused(3)),
+    (2, u64::MAX, Finding::Refused(3)),
+    (1, 1, Finding::Differs),
+    (1, MOST_COST, Finding::Differs),
+    (1, u64::MAX, Finding::Differs),
+    (0, 0, Finding::Differs),
+    (3, 0, Finding::Differs),
+    (3, 1, Finding::Differs),
+    (258, 0, Finding::Differs),
+    (u64::MAX, 0, Finding::Differs),
+];
+
+/// Each edition 1 plan has the table of an edition 2 plan but for its edition (02, L7).
+fn editions(tally: &mut Tally) {
+    for text in [PLAN_A, PLAN_B, PLAN_A_2] {
+        let plan = accepted(text);
+        let mut table = table(&Composed::new(&plan));
+        for (edition, resume, wanted) in EDITIONS {
+            (table.head[EDITION], table.head[RESUMING]) = (edition, resume);
+            tally.equal(finding(&table), wanted, || {
+                format!("edition {edition} with U {resume}, {text}")
+            });
+        }
+    }
+}
+
 pub fn check(tally: &mut Tally) {
+    editions(tally);
     let mut random = Random::new(61);
     let mut met = BTreeMap::new();
     for costless in costless::plans(&mut random, PLANS) {

@@ -4,11 +4,13 @@
 use reference::aimed;
 use reference::crossed;
 use reference::damage;
+use reference::edition::editions;
 use reference::gen::{self, Random};
 use reference::plan::{self, read, text, LINE_RULES};
 use reference::rulings::{Rulings, ALL_RULINGS};
 use reference::two_faults;
 use reference::worked::{PLAN_A, PLAN_B};
+use reference::worked_returns::PLAN_A_2;
 
 use super::tally::Tally;
 
@@ -115,7 +117,7 @@ fn costless_points(tally: &mut Tally) {
 
 fn damaged_texts(tally: &mut Tally) {
     let mut random = Random::new(11);
-    for base in [PLAN_A, PLAN_B] {
+    for base in [PLAN_A, PLAN_B, PLAN_A_2] {
         let base = base.as_bytes();
         let changed = [
             damage::every_number_at_edges(base),
@@ -128,11 +130,11 @@ fn damaged_texts(tally: &mut Tally) {
         }
     }
     let mut rulings = Rulings::default();
-    for round in 0..4_000 {
+    for (round, edition) in editions(4_000).enumerate() {
         let shape = gen::small_shape(&mut random);
         let plan = match round % 3 {
-            0 => gen::loose_plan(&mut random, shape),
-            _ => gen::valid_plan(&mut random, shape),
+            0 => gen::loose_plan(&mut random, shape, edition),
+            _ => gen::valid_plan(&mut random, shape, edition),
         };
         let whole = text(&plan);
         let changed = damage::damaged(&mut random, &whole);
@@ -150,12 +152,12 @@ fn damaged_texts(tally: &mut Tally) {
 /// have leaves, and refused in a row of one less.
 fn round_trips(tally: &mut Tally) {
     let mut random = Random::new(12);
-    for round in 0..2_000 {
+    for (round, edition) in editions(2_000).enumerate() {
         let shape = match round % 10 {
             0 => gen::large_shape(&mut random),
             _ => gen::small_shape(&mut random),
         };
-        let plan = gen::valid_plan(&mut random, shape);
+        let plan = gen::valid_plan(&mut random, shape, edition);
         let count = plan.leaves().len();
         let whole = text(&plan);
         let shown = || String::from_utf8_lossy(&whole).into_owned();

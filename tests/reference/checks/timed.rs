@@ -1,15 +1,23 @@
 //! Timed runs: on small and large plans, whatever the ticks, every call of a
-//! timed run is accepted, no reading passes the deadline, and the others run
-//! exactly while the condition has held at every decision.
+//! timed run is accepted, no reading passes the deadline, and the others run exactly
+//! while they may: in edition 1 where the condition has held at every decision, in
+//! edition 2 (02, L7) where the rule held at the latest one, the condition if they ran
+//! before it and the rule of return if they were suspended.
 
 use reference::calls::{Answer, Controller, Word};
 use reference::composed::Composed;
+use reference::edition::Edition;
 use reference::finals::Finals;
 use reference::gen::{self, Random};
 use reference::numbers::Numbers;
 use reference::plan::{text, Plan};
+use reference::returns::Returns;
 
 use super::tally::Tally;
+
+/// How many plans of edition 1 have timed runs.
+const SMALL: usize = 3_000;
+const LARGE: usize = 200;
 
 struct Timed<'a> {
     plan: &'a Plan,
@@ -19,9 +27,16 @@ struct Timed<'a> {
     others_run: bool,
     /// How the ticks of this run are chosen.
     habit: u64,
-    /// Whether the condition has held at every decision of this run.
-    held: bool,
-    finals: &'a mut Finals,
+    /// Whether the others may run, by the decisions of this run.
+    may_run: bool,
+    met: &'a mut Met,
+}
+
+/// What runs met, so that nothing goes untried.
+#[derive(Default)]
+struct Met {
+    finals: Finals,
+    returns: Returns,
 }
 
 /// How many ticks something takes that may take up to `most`.
@@ -41,35 +56,44 @@ impl Timed<'_> {
     /// Takes over the answer of a call of the timed run; false if it was refused.
     fn answered(&mut self, random: &mut Random, answer: Answer) -> bool {
         if let Some(place) = self.controller.place() {
-            self.finals.note(self.composed, place, answer);
+            self.met.finals.note(self.composed, place, answer);
+            self.met.returns.note(self.composed, place, answer);
         }
         let (word, late) = match answer {
             Answer::Refused(_) => return false,
-            Answer::End { word, late } => (word, late),
-            Answer::Decision { word, late, .. } => (word, late),
+            Answer::End { word, late } | Answer::Decision { word, late, .. } => (word, late),
         };
-        match word {
-            Word::Suspend => {
-                self.others_run = false;
-                self.clock += ticks(random, self.habit, self.plan.switch);
-            }
-            Word::Resume => self.others_run = true,
-            Word::Go | Word::Stay | Word::Ended => {}
+        self.others_run = word.others_after(self.others_run);
+        if word == Word::Suspend || answer.is_return() {
+            self.clock += ticks(random, self.habit, word.switching(self.plan));
         }
         !late
     }
 
-    /// The condition at the place that the controller stands at, for a reading: that of
-    /// document 01 where a point can come next, else that of L3 of document 02.
-    fn condition(&self, reading: u64) -> bool {
-        let Some(place) = self.controller.place() else {
-            return true;
-        };
+    /// What the condition sets beside the elapsed time at the place that the controller
+    /// stands at: that of document 01 where a point can come next, else that of L3 of
+    /// document 02.
+    fn needed(&self) -> Option<u64> {
+        let place = self.controller.place()?;
         let reserve = match self.composed.next_points(place).is_empty() {
             true => 0,
             false => self.composed.remaining(place) + self.plan.switch,
         };
-        reading + self.composed.stretch_at(place) + reserve <= self.plan.deadline
+        Some(self.composed.stretch_at(place) + reserve)
+    }
+
+    /// Takes over a decision with this reading that was just made, the others being as they
+    /// were before it.
+    fn judge(&mut self, reading: u64) {
+        let holds = |cost: u64| {
+            let needed = self.needed();
+            needed.is_none_or(|needed| reading + needed + cost <= self.plan.deadline)
+        };
+        self.may_run = match self.plan.resume {
+            None => self.may_run && holds(0),
+            Some(_) if self.others_run => holds(0),
+            Some(cost) => holds(cost),
+        };
     }
 
     /// A call that the rules refuse, somewhere among the others.
@@ -90,11 +114,12 @@ impl Timed<'_> {
     fn release(&mut self, random: &mut Random, tally: &mut Tally) {
         self.clock = 0;
         let answer = self.controller.release();
-        self.held = self.condition(0);
+        self.may_run = true;
+        self.judge(0);
         tally.holds(self.answered(random, answer), || {
             format!("release on {}", self.shown())
         });
-        tally.equal(self.others_run, self.held, || {
+        tally.equal(self.others_run, self.may_run, || {
             format!("others after release on {}", self.shown())
         });
     }
@@ -102,7 +127,7 @@ impl Timed<'_> {
     fn report(&mut self, random: &mut Random, leaf: usize, tally: &mut Tally) {
         let reading = self.clock;
         let answer = self.controller.report(leaf as u64, reading);
-        self.held &= self.condition(reading);
+        self.judge(reading);
         let kept = self.answered(random, answer) && reading <= self.plan.deadline;
         let what = || {
             format!(
@@ -111,7 +136,7 @@ impl Timed<'_> {
             )
         };
         tally.holds(kept, what);
-        tally.equal(self.others_run, self.held, what);
+        tally.equal(self.others_run, self.may_run, what);
         if random.chance(10) {
             self.disturb(random, tally);
         }
@@ -160,7 +185,7 @@ fn plan_runs(
     random: &mut Random,
     plan: &Plan,
     long: usize,
-    finals: &mut Finals,
+    met: &mut Met,
 ) -> usize {
     let composed = Composed::new(plan);
     if composed.total() + plan.switch > plan.deadline {
@@ -174,8 +199,8 @@ fn plan_runs(
         clock: 0,
         others_run: true,
         habit: 0,
-        held: true,
-        finals,
+        may_run: true,
+        met,
     };
     let mut count = 0;
     for _ in 0..4 {
@@ -187,26 +212,35 @@ fn plan_runs(
     count
 }
 
-pub fn check(tally: &mut Tally) {
+/// Runs of so many small and large plans of an edition.
+fn of_edition(tally: &mut Tally, edition: Edition) {
     let mut random = Random::new(31);
     let (mut small, mut large) = (0, 0);
-    let mut finals = Finals::default();
-    for _ in 0..3_000 {
-        let shape = gen::small_shape(&mut random);
-        let plan = gen::valid_plan(&mut random, shape);
-        small += plan_runs(tally, &mut random, &plan, 200, &mut finals);
+    let mut met = Met::default();
+    for _ in 0..edition.share(SMALL) {
+        let plan = gen::small_plan(&mut random, edition);
+        small += plan_runs(tally, &mut random, &plan, 200, &mut met);
     }
-    for _ in 0..200 {
-        let shape = gen::large_shape(&mut random);
-        let plan = gen::valid_plan(&mut random, shape);
-        large += plan_runs(tally, &mut random, &plan, 400, &mut finals);
+    for _ in 0..edition.share(LARGE) {
+        let plan = gen::large_plan(&mut random, edition);
+        large += plan_runs(tally, &mut random, &plan, 400, &mut met);
     }
-    println!("  {small} runs of small plans, {large} of large ones");
-    tally.holds(small > 3_000 && large > 100, || {
-        format!("{small} and {large} timed runs")
-    });
-    println!("  final decisions: {finals}");
-    tally.holds(finals.met(20), || {
+    println!("  {edition}: {small} runs of small plans, {large} of large ones");
+    let enough = small > edition.share(SMALL) && large > edition.share(LARGE / 2);
+    tally.holds(enough, || format!("{small} and {large} timed runs"));
+    println!("  final decisions: {}", met.finals);
+    tally.holds(met.finals.met(edition, edition.share(20)), || {
         "each answer of a final decision is met in timed runs".to_string()
     });
+    println!("  while suspended: {}", met.returns);
+    let twice = edition == Edition::First || met.returns.twice(50, 10);
+    tally.holds(met.returns.met(edition, 20) && twice, || {
+        "each answer while suspended is met in timed runs".to_string()
+    });
+}
+
+pub fn check(tally: &mut Tally) {
+    for edition in Edition::BOTH {
+        of_edition(tally, edition);
+    }
 }

@@ -7,6 +7,7 @@ use std::collections::BTreeMap;
 
 use reference::calls::{Answer, Controller, Word};
 use reference::composed::{Composed, Place};
+use reference::edition::Edition;
 use reference::gen::{self, Random};
 use reference::listed::Listed;
 use reference::numbers::Numbers;
@@ -370,15 +371,15 @@ fn beside_before(tally: &mut Tally, random: &mut Random, plan: &Plan, beside: &m
     beside.spared_plans += usize::from(beside.spared > spared);
 }
 
-fn random_histories(tally: &mut Tally) {
+fn random_histories(tally: &mut Tally, edition: Edition) {
     let mut random = Random::new(37);
     let mut beside = Beside::default();
-    for _ in 0..SMALL / 4 {
-        let plan = gen::small_or_calling_plan(&mut random);
+    for _ in 0..edition.share(SMALL / 4) {
+        let plan = gen::small_or_calling_plan(&mut random, edition);
         beside_before(tally, &mut random, &plan, &mut beside);
     }
-    for _ in 0..LARGE / 4 {
-        let plan = gen::large_plan(&mut random);
+    for _ in 0..edition.share(LARGE / 4) {
+        let plan = gen::large_plan(&mut random, edition);
         beside_before(tally, &mut random, &plan, &mut beside);
     }
     let Beside {
@@ -388,18 +389,22 @@ fn random_histories(tally: &mut Tally) {
         spared_plans,
         lost,
     } = beside;
-    println!(
-        "  {histories} random histories, {decisions} reports: {spared} of {spared_plans} plans"
-    );
+    println!("  {edition}: {histories} random histories, {decisions} reports");
+    println!("  {spared} of {spared_plans} plans");
     println!("  go on where the stretch of the point suspended, {lost} the other way");
     tally.equal(lost, 0, || "suspended where it went on before".to_string());
-    tally.holds(histories > SMALL / 2, || format!("{histories} histories"));
-    tally.holds(spared >= OFTEN && spared_plans >= OFTEN / 2, || {
+    tally.holds(histories > edition.share(SMALL / 2), || {
+        format!("{histories} histories")
+    });
+    let often = edition.share(OFTEN);
+    tally.holds(spared >= often && spared_plans >= often / 2, || {
         format!("{spared} decisions of {spared_plans} plans are spared")
     });
 }
 
 pub fn check(tally: &mut Tally) {
     all_histories(tally);
-    random_histories(tally);
+    for edition in Edition::BOTH {
+        random_histories(tally, edition);
+    }
 }

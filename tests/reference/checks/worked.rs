@@ -6,6 +6,7 @@ use reference::listed::Listed;
 use reference::numbers::{listing, Numbers};
 use reference::plan;
 use reference::worked::{CASES, EMPTY, PLAN_A, PLAN_B, TWICE};
+use reference::worked_returns::{FREE_RETURN, PLAN_A_2};
 
 use super::tally::{accepted, Tally};
 
@@ -24,6 +25,13 @@ fn listings(tally: &mut Tally, text: &str, wanted: &str) {
 fn plan_a(tally: &mut Tally) {
     let wanted = "task 49 93 100 4\npoint 0 1 49 9\npoint 1 1 44 24\n";
     listings(tally, PLAN_A, wanted);
+}
+
+/// The listing of an edition 2 plan has U behind T, also where it is 0 (02, L7).
+fn second_edition(tally: &mut Tally) {
+    let points = "point 0 1 49 9\npoint 1 1 44 24\n";
+    listings(tally, PLAN_A_2, &format!("task 49 93 100 4 3\n{points}"));
+    listings(tally, FREE_RETURN, &format!("task 49 93 100 4 0\n{points}"));
 }
 
 fn plan_b(tally: &mut Tally) {
@@ -67,6 +75,7 @@ pub fn check(tally: &mut Tally) {
         tally.calls(case.name, case.plan, case.calls);
     }
     plan_a(tally);
+    second_edition(tally);
     plan_b(tally);
     smallest(tally);
     traps(tally);

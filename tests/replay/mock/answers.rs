@@ -1,6 +1,6 @@
 //! The answer to each line.
 
-use reference::calls::{Answer, Call, Controller};
+use reference::calls::{Answer, Call, Controller, Word};
 use reference::composed::{Composed, Place};
 use reference::numbers::Numbers;
 use reference::replay::call_of;
@@ -116,6 +116,24 @@ impl<'a> Answers<'a> {
         answer
     }
 
+    /// The line of an answer, and what is planted in that of resume.
+    fn shown(answer: Answer) -> String {
+        match answer {
+            Answer::Decision {
+                word: word @ Word::Resume,
+                late,
+                ..
+            } if planted("return-without-numbers") => Answer::End { word, late }.line() + "\n",
+            Answer::End {
+                word: word @ Word::Resume,
+                late,
+            } if planted("end-with-numbers") => {
+                format!("{} 0 0 {}\n", word.text(), u8::from(late))
+            }
+            answer => answer.line() + "\n",
+        }
+    }
+
     fn call(&mut self, call: Call) -> String {
         let answer = self.answer(call);
         match (call, answer) {
@@ -134,11 +152,11 @@ impl<'a> Answers<'a> {
                 } else {
                     self.reports + 1
                 };
-                answer.line() + "\n"
+                Self::shown(answer)
             }
             (Call::End(reading), Answer::End { .. }) => {
                 let sums = self.sums.line(reading);
-                let answer = answer.line() + "\n";
+                let answer = Self::shown(answer);
                 match () {
                     _ if planted("sums-left-out") => answer,
                     _ if planted("sums-before-answer") => sums + &answer,

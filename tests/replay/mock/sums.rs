@@ -18,6 +18,7 @@ impl Sums {
         match self.word {
             Some(Word::Suspend) => planted("gap-after-suspend-shared"),
             Some(Word::Stay) => planted("gap-after-stay-shared"),
+            Some(Word::Resume) => !planted("gap-after-return-suspended"),
             _ => true,
         }
     }

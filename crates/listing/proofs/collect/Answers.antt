@@ -25,6 +25,6 @@ returns c =
     let d = c.stretch_column-stretch.result in
     let s = c.stretch_column-stretch.ensures r.of (planned r _ e) in
     record {
-      summary = collected_summary r _ e d s c.collect_leaves-count.ensures;
+      summary = collected_summary r _ e d s c.collect_leaves-count.ensures c.edition.ensures c.task_count.ensures;
       numbers = collected_points r _ e d s c.collect_leaves-count.ensures;
     }

@@ -9,7 +9,7 @@ use Rattle.reader.proofs.functions.Given as goal
 
 abbrev pub invariant-loop-end : goal.invariant-loop-end
 invariant-loop-end l = record {
-  held : Holding l.text (length l.initial.row) l.raw.deadline l.raw.switch (numbers l.initial.row) l.spot.at l.spot.line l.spot.leaves l.raw.functions l.raw.bounds l.raw.heights (numbers l.row);
+  held : Holding l.text (length l.initial.row) l.raw.deadline l.raw.switch l.raw.edition (numbers l.initial.row) l.spot.at l.spot.line l.spot.leaves l.raw.functions l.raw.bounds l.raw.heights (numbers l.row);
   counted : l.raw.leaves ≡ l.spot.leaves;
   kept : derived l.row ≡ derived l.initial.row;
 }

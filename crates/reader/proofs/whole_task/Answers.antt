@@ -8,7 +8,7 @@ use mathlib.Core.Path.{◌≡◌, sym, ◌∙◌}
 
 pub functions-requires : goal.functions-requires
 functions-requires c =
-    let e : c.task_line.result ≡ Ok (c.in_ok-deadline.deadline, c.in_ok-deadline.switch, c.in_ok-deadline.end) = search rules in
+    let e : c.task_line.result ≡ Ok (c.in_ok-deadline.deadline, c.in_ok-deadline.switch, c.in_ok-deadline.edition, c.in_ok-deadline.end) = search rules in
     let opened = head_means c.args.text.now (length c.args.row.now) (sym e ∙ c.task_line.ensures) in
     (opened.0, opened.1)
 
