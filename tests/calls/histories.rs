@@ -112,19 +112,15 @@ impl<'a, N: Numbers> History<'a, N> {
     fn any_reading(&self, random: &mut Random, turning: i128) -> u64 {
         let last = self.controller.last_reading();
         let deadline = self.numbers.plan().deadline;
-        let beside = |random: &mut Random, at: i128| {
-            let at = at + i128::from(random.below(3)) - 1;
-            at.clamp(0, i128::from(u64::MAX)) as u64
-        };
         let power = 1 << random.pick(&[62, 63]);
         match (self.habit, random.below(100)) {
             (_, 0..3) => last.saturating_sub(1 + random.below(3)),
             (_, 3..5) => random.below(4),
-            (WILD, 5..11) => beside(random, turning + (1 << 62)),
-            (WILD, 11..17) => beside(random, power),
+            (WILD, 5..11) => random.beside(turning + (1 << 62)),
+            (WILD, 11..17) => random.beside(power),
             (WILD, 17..20) => u64::MAX - random.below(2),
-            (WILD, 20..50) | (TURNING, 5..12) => beside(random, i128::from(deadline)),
-            (WILD, 50..70) | (TURNING, 12..80) => beside(random, turning),
+            (WILD, 20..50) | (TURNING, 5..12) => random.beside(i128::from(deadline)),
+            (WILD, 50..70) | (TURNING, 12..80) => random.beside(turning),
             (STEADY, 5..60) => last.saturating_add(random.below(deadline / 16 + 2)),
             _ => last,
         }

@@ -1,7 +1,7 @@
 //! The delivered calls against the reference: reply and every later number of the
 //! state, on the plans that the document works through, on the smallest plan, in
-//! random histories, on damaged tables and states, on any bytes, in timed runs, and in
-//! the worst cases of small plans.
+//! random histories, on damaged tables and states, on any bytes, in timed runs, in the
+//! worst cases of small plans, and in pairs of runs of which one is faster.
 
 mod bytes;
 mod damage;
@@ -9,6 +9,7 @@ mod damaged;
 mod damaged_states;
 mod damaged_tables;
 mod deep;
+mod faster;
 mod habit;
 mod histories;
 mod smallest;
@@ -27,6 +28,7 @@ const PARTS: &[Part] = &[
     ("bytes", bytes::compare_all),
     ("timed", timed::compare_all),
     ("worst", worst::compare_all),
+    ("faster", faster::compare_all),
 ];
 
 /// How many records are lent, where a part has them all.

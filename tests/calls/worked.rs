@@ -5,26 +5,20 @@ use lent::calls::{made, Call};
 use lent::state::State;
 use lent::tally::Tally;
 use reference::composed::Composed;
+use reference::faster::judge_worked;
 use reference::plan;
 use reference::records::MAX_LOAD_TURN;
 use reference::table::{self, Table, MAX_LOAD_TOTAL, MAX_LOAD_TOTALS, TOTAL, TOTALS};
-use reference::worked::{CASES, PLAN_A, PLAN_B, TWICE};
+use reference::worked::{call_of, CASES, PLAN_A, PLAN_B, TWICE};
+use reference::worked_faster::PAIRS;
 
+use super::faster;
+
+/// The table of a text that must be accepted.
 fn of_text(text: &str) -> Table {
     let plan = plan::read(text.as_bytes(), 512);
     let plan = plan.unwrap_or_else(|refusal| panic!("{refusal:?}: {text}"));
     table::table(&Composed::new(&plan))
-}
-
-fn call_of(words: &str) -> Call {
-    let fields: Vec<&str> = words.split(' ').collect();
-    let number = |at: usize| fields[at].parse().expect("a number");
-    match fields[0] {
-        "release" => Call::Release,
-        "report" => Call::Report(number(1), number(2)),
-        "end" => Call::End(number(1)),
-        other => panic!("no call: {other}"),
-    }
 }
 
 /// Calls one after the other, each line `release`, `report N R` or `end R`
@@ -152,6 +146,18 @@ fn visits_anew(tally: &mut Tally) {
     calls_to(tally, "two calls of a loop", TWICE, &lines, wanted);
 }
 
+/// Pairs of sequences, of which the second is faster or a hypothesis is missing.
+fn faster_runs(tally: &mut Tally) {
+    for pair in PAIRS {
+        let table = of_text(pair.plan);
+        for lines in pair.sequences {
+            calls_on(tally, pair.name, &table, lines);
+        }
+        let answers = |calls: &[Call]| faster::answers(&table, calls);
+        judge_worked(pair, &answers, &mut |truth, what| tally.holds(truth, what));
+    }
+}
+
 pub fn compare_all(tally: &mut Tally) {
     for case in CASES.iter().copied().flatten() {
         calls(tally, case.name, case.plan, case.calls);
@@ -160,4 +166,5 @@ pub fn compare_all(tally: &mut Tally) {
     suspended(tally);
     plan_b(tally);
     visits_anew(tally);
+    faster_runs(tally);
 }

@@ -42,6 +42,12 @@ impl Random {
         from[self.index(from.len())]
     }
 
+    /// A number, or the one before or behind it, as near as 64 bits come.
+    pub fn beside(&mut self, number: i128) -> u64 {
+        let number = number + i128::from(self.below(3)) - 1;
+        number.clamp(0, i128::from(u64::MAX)) as u64
+    }
+
     /// What a number is changed to: one more, one less, 0, a random one, the
     /// largest, and one of those that stand in tables and states.
     pub fn others(&mut self, old: u64) -> [u64; 6] {

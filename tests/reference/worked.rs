@@ -4,6 +4,7 @@
 //! The reference's own checks and the tests of the proved calls run them all, with
 //! those of the last stretch, of the stretch of a visit and of coming back.
 
+use super::calls::Call;
 use super::worked_last::LAST_STRETCH;
 use super::worked_returns::RETURNS;
 use super::worked_visits::OWN_STRETCH;
@@ -35,6 +36,18 @@ pub struct Case {
     pub name: &'static str,
     pub plan: &'static str,
     pub calls: &'static [&'static str],
+}
+
+/// The call that such a line has before its answer.
+pub fn call_of(words: &str) -> Call {
+    let fields: Vec<&str> = words.split(' ').collect();
+    let number = |at: usize| fields[at].parse().expect("a number");
+    match fields[0] {
+        "release" => Call::Release,
+        "report" => Call::Report(number(1), number(2)),
+        "end" => Call::End(number(1)),
+        other => panic!("no call: {other}"),
+    }
 }
 
 pub const CASES: &[&[Case]] = &[

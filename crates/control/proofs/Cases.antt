@@ -20,7 +20,7 @@ use Rattle.place.specs.Stack.{frames}
 use Rattle.control.specs.declared.State.{State}
 use Rattle.control.specs.State.{fresh, points?}
 use Rattle.control.specs.Calls.{read_state, on_state, on_plan, call_on, controller_of}
-use Rattle.control.specs.Cases.{Case, worst_of_A, cases, worst_of_returning_A, returns, CaseHolds, CasesHold}
+use Rattle.control.specs.Cases.{Case, on_A, worst_of_A, faster_on_A, cases, worst_of_returning_A, two_returns, two_stays, returns, CaseHolds, CasesHold}
 
 -- The same calls on the plan itself.
 AnsweredOn : Plan → State → List Exchange → Type 0
@@ -97,7 +97,7 @@ cases_right = (
 
 -- The cases of edition 2 hold too.
 pub returns_right : CasesHold returns
-unfolding returns worst_of_returning_A CasesHold AnsweredOn returning_A plan_A plans.leaves all_leaves forms linked last total silence rounds_silence visit_stretch stretch rounds_stretch passes seek onward can_end no_more no_further behind below whole kept seek_at onward_at suffix turned inside_of decode is_point respond frames points? same_numbers ◌⊕◌
+unfolding returns worst_of_returning_A two_returns two_stays CasesHold AnsweredOn returning_A plan_A plans.leaves all_leaves forms linked last total silence rounds_silence visit_stretch stretch rounds_stretch passes seek onward can_end no_more no_further behind below whole kept seek_at onward_at suffix turned inside_of decode is_point respond frames points? same_numbers ◌⊕◌
 returns_right = (
   right _ returning_A_accepted refl refl refl (refl, (refl, (refl, (refl, (refl, (refl, (refl, tt))))))),
   (
@@ -106,8 +106,13 @@ returns_right = (
       right _ returning_A_accepted refl refl refl (refl, (refl, (refl, (refl, (refl, (refl, (refl, tt))))))),
       (
         right _ returning_A_accepted refl refl refl (refl, (refl, (refl, (refl, (refl, (refl, (refl, tt))))))),
-        (right _ returning_A_accepted refl refl refl (refl, (refl, (refl, (refl, tt)))), tt),
+        (right _ returning_A_accepted refl refl refl (refl, (refl, (refl, (refl, (refl, (refl, (refl, tt))))))), tt),
       ),
     ),
   ),
 )
+
+-- So does the faster run of plan A.
+pub faster_right : CaseHolds (on_A faster_on_A)
+unfolding faster_on_A AnsweredOn plan_A plans.leaves all_leaves forms linked last total silence rounds_silence visit_stretch stretch rounds_stretch passes seek onward can_end no_more no_further behind below whole kept seek_at onward_at suffix turned inside_of decode is_point respond frames points? same_numbers ◌⊕◌
+faster_right = right _ plan_A_accepted refl refl refl (refl, (refl, (refl, (refl, (refl, (refl, (refl, tt)))))))

@@ -1,6 +1,6 @@
 -- The marked cases m1 to m12 of document 01 ('Plans worked through'), m5 and m11 as document 02 (L3 and L6) has them, as one table: a plan, and calls from a
 -- fresh state on its table with their answers, each worked out by hand from the documents' sentences. Behind them stand further cases of edition 2 (02, L7),
--- as a table of the same form.
+-- as a table of the same form, and a faster run of plan A (02, L8).
 -- Assumes nothing: these are definitions.
 use Rattle.std.specs.Prelude.{false, List, [], ◌∷◌, map, ◌≡◌, ℕ, pos, negsuc}
 use Rattle.model.specs.declared.Refusal.TheVariants.{Unfit, Astray}
@@ -83,6 +83,22 @@ worst_of_returning_A =
     (Report 1 33 gets Decided Go 32 (pos 7) false) ∷ (Report 1 57 gets Decided Suspend 20 (negsuc 4) false) ∷ (Report 1 73 gets Decided Resume 8 (pos 12) false) ∷
     (End 88 gets Closed Ended false) ∷ []
 
+-- Two stops and two returns: visit 2 at 35 has margin 100 − 35 − 32 − 24 − 4 − 3 and resumes, visit 3 at 60 has margin 100 − 60 − 20 − 24 − 4 and suspends,
+-- and visit 4 at 76 has margin 100 − 76 − 12 − 3 and resumes.
+unfoldable pub two_returns : List Exchange
+two_returns =
+    (Release gets Decided Go 49 (pos 47) false) ∷ (Report 0 0 gets Decided Go 49 (pos 38) false) ∷ (Report 1 29 gets Decided Suspend 44 (negsuc 0) false) ∷
+    (Report 1 35 gets Decided Resume 32 (pos 2) false) ∷ (Report 1 60 gets Decided Suspend 20 (negsuc 7) false) ∷ (Report 1 76 gets Decided Resume 8 (pos 9) false) ∷
+    (End 91 gets Closed Ended false) ∷ []
+
+-- Two stays where a further point can come: visit 2 at 38 has margin 100 − 38 − 32 − 24 − 4 − 3, and visit 3 at 60 has margin 100 − 60 − 20 − 24 − 4 − 3. Visit
+-- 4 at 76 resumes with the margin that it has in `two_returns`.
+unfoldable pub two_stays : List Exchange
+two_stays =
+    (Release gets Decided Go 49 (pos 47) false) ∷ (Report 0 0 gets Decided Go 49 (pos 38) false) ∷ (Report 1 29 gets Decided Suspend 44 (negsuc 0) false) ∷
+    (Report 1 38 gets Decided Stay 32 (negsuc 0) false) ∷ (Report 1 60 gets Decided Stay 20 (negsuc 10) false) ∷ (Report 1 76 gets Decided Resume 8 (pos 9) false) ∷
+    (End 91 gets Closed Ended false) ∷ []
+
 -- Returns and stays of edition 2, on plan A with U 3.
 unfoldable pub returns : List Case
 returns =
@@ -94,14 +110,15 @@ returns =
     on_returning_A ((Release gets Decided Go 49 (pos 47) false) ∷ (Report 0 0 gets Decided Go 49 (pos 38) false) ∷ (Report 1 9 gets Decided Go 44 (pos 19) false) ∷
     (Report 1 33 gets Decided Go 32 (pos 7) false) ∷ (Report 1 57 gets Decided Suspend 20 (negsuc 4) false) ∷ (Report 1 86 gets Decided Stay 8 (negsuc 0) false) ∷
     (End 94 gets Closed Resumed false) ∷ []) ∷
-    -- two stops and two returns: visit 2 at 35 has margin 100 − 35 − 32 − 24 − 4 − 3 and resumes, visit 3 at 60 has margin 100 − 60 − 20 − 24 − 4 and suspends,
-    -- and visit 4 at 76 has margin 100 − 76 − 12 − 3 and resumes
-    on_returning_A ((Release gets Decided Go 49 (pos 47) false) ∷ (Report 0 0 gets Decided Go 49 (pos 38) false) ∷ (Report 1 29 gets Decided Suspend 44 (negsuc 0) false) ∷
-    (Report 1 35 gets Decided Resume 32 (pos 2) false) ∷ (Report 1 60 gets Decided Suspend 20 (negsuc 7) false) ∷ (Report 1 76 gets Decided Resume 8 (pos 9) false) ∷
-    (End 91 gets Closed Ended false) ∷ []) ∷
-    -- a stay where a further point can come: visit 2 at 38 has margin 100 − 38 − 32 − 24 − 4 − 3
-    on_returning_A ((Release gets Decided Go 49 (pos 47) false) ∷ (Report 0 0 gets Decided Go 49 (pos 38) false) ∷ (Report 1 29 gets Decided Suspend 44 (negsuc 0) false) ∷
-    (Report 1 38 gets Decided Stay 32 (negsuc 0) false) ∷ []) ∷ []
+    on_returning_A two_returns ∷ on_returning_A two_stays ∷ []
+
+-- A run of plan A that is faster than m3 up to the last report (02, L8): the loop's body takes 17 ticks under load for 20. Visit 2 comes at 9 + 4 + 17 = 30 and
+-- visit 3 at 51 with margin 100 − 51 − 20 − 24 − 4, and both go on; visit 4 comes at 72 with margin 100 − 72 − 12, and the end at 72 + 12 = 84.
+unfoldable pub faster_on_A : List Exchange
+faster_on_A =
+    (Release gets Decided Go 49 (pos 47) false) ∷ (Report 0 0 gets Decided Go 49 (pos 38) false) ∷ (Report 1 9 gets Decided Go 44 (pos 19) false) ∷
+    (Report 1 30 gets Decided Go 32 (pos 10) false) ∷ (Report 1 51 gets Decided Go 20 (pos 1) false) ∷ (Report 1 72 gets Decided Go 8 (pos 16) false) ∷
+    (End 84 gets Closed Ended false) ∷ []
 
 -- A case holds: its plan is accepted, its table has these totals and its leaves these stretches, and the calls on it answer so.
 pub record CaseHolds (c : Case) : Type 0 where

@@ -25,7 +25,7 @@ use Rattle.demands.proofs.Tables.{numbers_held}
 use Rattle.demands.proofs.Delivered.{answered_held}
 
 -- A case that is right on the plan's table is right in the memory.
-right_in : (c : Case) → CaseHolds c → (m : Memory) → TableOf c.plan m → RightIn m c
+pub right_in : (c : Case) → CaseHolds c → (m : Memory) → TableOf c.plan m → RightIn m c
 right_in c r m o =
     let e = numbers_held c.plan m o in
     record {

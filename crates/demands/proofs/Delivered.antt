@@ -1,6 +1,6 @@
 -- The delivered calls answer as the controller does on the table in lent memory; a refused one leaves the lent state, and the states that the others lead
 -- to stand for the controller's. So on the table of an accepted plan they answer as the controller over places does, and keep the deadline.
-use mathlib.Core.List.{List, [], ◌∷◌}
+use mathlib.Core.List.{List}
 use mathlib.Core.Path.{◌≡◌, refl, ap, sym, ◌∙◌, subst}
 use Rattle.model.specs.Plan.{Plan}
 use Rattle.model.specs.declared.Call.{Call}
@@ -55,14 +55,17 @@ module _ (m : Memory) where
   unfolding called
   accepted_leaves s c q = moves s (lent (reply s c).state) (reply s c).answer q
 
+  -- So each call answers as there and leaves a state that stands for the one that is left there.
+  pub as_there : (s : State) (x : control.State) (c : Call) → state_of s ≡ x →
+      (((delivered m).respond s c).answer ≡ (call_on (table_held m) x c).answer) × (state_of ((delivered m).respond s c).state ≡ (call_on (table_held m) x c).state)
+  as_there s x c e =
+      (answer_held s c ∙ ap (λ y. (call_on (table_held m) y c).answer) e, state_left s c ∙ ap (λ y. (call_on (table_held m) y c).state) e)
+
   -- Calls have the answers that they have there.
   pub answered_held : (s : State) (xs : List Exchange) → Answered (controller_of (table_held m)) (state_of s) xs → Answered (delivered m) s xs
-  unfolding Answered
-  answered_held s [] u = tt
-  answered_held s (x ∷ xs) (e, u) = (
-    answer_held s x.call ∙ e,
-    answered_held ((delivered m).respond s x.call).state xs (subst (λ t. Answered (controller_of (table_held m)) t xs) (sym (state_left s x.call)) u),
-  )
+  answered_held s =
+      model.answered_alike (controller_of (table_held m)) (delivered m) (λ x t. state_of t ≡ x)
+      (λ x t c e. let (i, j) = as_there t x c e in (sym i, j)) (state_of s) s refl
 
 module _ (p : Plan) (m : Memory) (o : TableOf p m) where
   -- A lent state stands for one of the controller over places.

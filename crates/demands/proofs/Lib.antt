@@ -8,5 +8,6 @@ pub mod Decisions
 pub mod Reached
 pub mod Cases
 pub mod Worst
+pub mod Faster
 pub mod Theorems
 pub mod Replay

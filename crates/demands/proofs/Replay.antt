@@ -1,10 +1,11 @@
 -- The replay of a log (02, L1) prints what the delivered calls answer. The other theorems about it stand in `crates/transcript/proofs/Theorems.antt`.
 -- Assumes nothing.
-use mathlib.Core.List.{List, [], ◌∷◌, map}
-use mathlib.Core.Path.{◌≡◌, ap, sym, ◌∙◌, subst}
+use mathlib.Core.List.{List, [], map}
+use mathlib.Core.Path.{◌≡◌, refl, ap, ◌∙◌, subst}
 use Prim.Native.Nat.{ℕ}
 use Rattle.model.specs.Plan.{Plan}
 use Rattle.model.specs.Histories.{Exchange, Answered}
+use Rattle.model.proofs.Theorems as model
 use Rattle.table.specs.Table.{Table, table_of}
 use Rattle.table.proofs.Theorems.{read_as_plan}
 use Rattle.control.specs.Calls.{controller_of}
@@ -16,16 +17,11 @@ use Rattle.rolsipay.specs.declared.State.{State}
 use Rattle.rolsipay.specs.Calling.{zeros, state_of}
 use Rattle.demands.specs.Delivered.{Memory, after_read, ReadAs, delivered}
 use Rattle.demands.proofs.Tables.{table_held, numbers_held, read_holds}
-use Rattle.demands.proofs.Delivered.{answer_held, state_left}
+use Rattle.demands.proofs.Delivered.{as_there}
 
 -- Calls have the answers of the controller on the table in the memory.
 answered_there : (m : Memory) (s : State) (xs : List Exchange) → Answered (delivered m) s xs → Answered (controller_of (table_held m)) (state_of s) xs
-unfolding Answered
-answered_there m s [] u = tt
-answered_there m s (x ∷ xs) (e, u) = (
-  sym (answer_held m s x.call) ∙ e,
-  subst (λ t. Answered (controller_of (table_held m)) t xs) (state_left m s x.call) (answered_there m ((delivered m).respond s x.call).state xs u),
-)
+answered_there m s = model.answered_alike (delivered m) (controller_of (table_held m)) (λ t x. state_of t ≡ x) (as_there m) s (state_of s) refl
 
 -- Consider a text that is read as a plan into lent memory. Consider calls with numbers below 2^64 and their answers, made one after the other from a fresh
 -- lent state. The replay of the log that says these calls, on the same text, prints these answers in order, with the ticks after each accepted end.

@@ -23,7 +23,8 @@ use Rattle.model.specs.declared.Others.TheVariants.{Running}
 use Rattle.model.specs.Calls.{Accepts}
 use Rattle.model.specs.Decisions.{Decision, MayRun, Fit}
 use Rattle.model.specs.Timed.{PointOf, last_reading, Refusable, CallList, closed, opened, KeepsDeadline, Plays}
-use Rattle.model.specs.Histories.{Reached, Since}
+use Rattle.model.specs.Histories.{Exchange, Reached, Since, Answered}
+use Rattle.model.specs.Faster.{NoLater, SharesNoLess}
 use Rattle.model.specs.Worked.{plan_A, returning_A}
 use Rattle.model.proofs.Theorems as model
 use Rattle.reader.specs.Print.{print}
@@ -31,20 +32,21 @@ use Rattle.table.proofs.Theorems as table
 use Rattle.control.specs.declared.OpenRelease.{OpenRelease}
 use Rattle.control.specs.declared.State.TheVariants.{Idle, Open}
 use Rattle.control.specs.Meaning.{StandsSomewhere, HistoryState}
-use Rattle.control.specs.Cases.{worst_of_A, cases, worst_of_returning_A}
+use Rattle.control.specs.Cases.{worst_of_A, faster_on_A, cases, worst_of_returning_A, two_returns, two_stays}
 use Rattle.rolsipay.specs.declared.State.{State}
 use Rattle.rolsipay.specs.Calling.{zeros, state_of}
 use Rattle.demands.specs.Delivered.{Memory, read_answer, after_read, ReadAs, delivered}
 use Rattle.demands.specs.Rules.{Ruled, TableOf, Refuses}
 use Rattle.demands.specs.Tables.{Numbers}
 use Rattle.demands.specs.Decisions.{Decides, DecidesAsBefore, Closes, ClosesAsBefore}
-use Rattle.demands.specs.Lists.{exchanges, text_A, text_returning_A}
+use Rattle.demands.specs.Lists.{exchanges, before_end, text_A, text_returning_A}
 use Rattle.demands.specs.Cases.{EachRight}
 use Rattle.demands.proofs.Tables as tables
 use Rattle.demands.proofs.Decisions as decisions
 use Rattle.demands.proofs.Reached as reached
 use Rattle.demands.proofs.Delivered as delivering
 use Rattle.demands.proofs.Worst as worst
+use Rattle.demands.proofs.Faster as faster
 use Rattle.demands.proofs.Cases as marked
 
 -- DEMAND 1: THE RULES' NUMBERS, AND A REFUSAL CHANGES NOTHING
@@ -214,6 +216,34 @@ returning_A_read m room = worst.read_returning_A (length m.row) room
 pub return_played : (m : Memory) → 4 ≤ length m.row → (z : CallList returning_A (delivered (after_read text_returning_A m)) zeros Running closed) ×
     (exchanges returning_A (delivered (after_read text_returning_A m)) z ≡ worst_of_returning_A)
 return_played m room = worst.worst_returning_A (after_read text_returning_A m) (table_written text_returning_A m returning_A (returning_A_read m room))
+
+-- A FASTER RUN SHARES NO LESS
+
+-- Consider any two lent memories, which may be one, and any text that is read into both as a plan, of either edition. Take two sequences of calls with their
+-- answers, the first on the one memory and the second on the other, from a state of zeros: each an accepted release and accepted reports, of the same points in
+-- the same order, no reading of the second later than the first's at the same place (`NoLater`). Wherever the others run in the first, behind the release or a
+-- report, they run in the second behind the call at the same place (02, L8). What they do is said by the answers alone.
+pub faster_shares_no_less : (text : List ℕ) (m n : Memory) (p : Plan) → ReadAs text m p → ReadAs text n p → (first second : List Exchange) →
+    Answered (delivered (after_read text m)) zeros first → Answered (delivered (after_read text n)) zeros second →
+    NoLater second first → SharesNoLess second first
+faster_shares_no_less text m n p e f = faster.shares_no_less p (after_read text m) (after_read text n) (table_written text m p e) (table_written text n p f)
+
+-- There are such pairs. On plan A the first is the worst case (m3) up to its last report, and at 57 the others are suspended; in the second the loop's body
+-- takes 17 ticks for 20, and they run on.
+pub faster_pair_on_A : (m : Memory) → 4 ≤ length m.row →
+    Answered (delivered (after_read text_A m)) zeros (before_end worst_of_A) ×
+    Answered (delivered (after_read text_A m)) zeros (before_end faster_on_A) ×
+    NoLater (before_end faster_on_A) (before_end worst_of_A)
+faster_pair_on_A m room = faster.pair_A (after_read text_A m) (table_written text_A m plan_A (plan_A_read m room))
+
+-- On plan A with U 3 the others are suspended at 29 in both. In the first they stay so at 38 and 60 and resume at 76; in the second they resume at 35, are
+-- suspended once more at 60, and resume at 76.
+pub faster_pair_with_returns : (m : Memory) → 4 ≤ length m.row →
+    Answered (delivered (after_read text_returning_A m)) zeros (before_end two_stays) ×
+    Answered (delivered (after_read text_returning_A m)) zeros (before_end two_returns) ×
+    NoLater (before_end two_returns) (before_end two_stays)
+faster_pair_with_returns m room =
+    faster.pair_returning_A (after_read text_returning_A m) (table_written text_returning_A m returning_A (returning_A_read m room))
 
 -- RULE 11 AND THE MARKED CASES
 

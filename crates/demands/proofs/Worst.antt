@@ -133,7 +133,7 @@ played_returning_A k s a =
     end_played returning_A k refl a)))
 
 -- The answers are those of m3, and of the first case of edition 2.
-answers_A : (m : Memory) → TableOf plan_A m → Answered (delivered m) zeros worst_of_A
+pub answers_A : (m : Memory) → TableOf plan_A m → Answered (delivered m) zeros worst_of_A
 unfolding cases EachRight
 answers_A m o = (each_right.1.1.1.0.right_in m o).answered
 

@@ -1,6 +1,7 @@
--- What a list of demand 3 looks like from outside: its calls, each with its answer; and the texts of plan A, with two numbers and with three.
+-- What a list of demand 3 looks like from outside: its calls, each with its answer; the calls of a list before its end; and the texts of plan A, with two
+-- numbers and with three.
 -- Assumes nothing: these are definitions.
-use Rattle.std.specs.Prelude.{List, [], ◌∷◌, ℕ}
+use Rattle.std.specs.Prelude.{List, [], ◌∷◌, ℕ, ◌-◌, length, take}
 use Rattle.text.specs.Text.{bytes}
 use Rattle.model.specs.Plan.{Plan}
 use Rattle.model.specs.declared.Call.TheVariants.{Release, Report, End}
@@ -18,6 +19,10 @@ exchanges p k (silent_visit b w ticks e q x z) = exchanges p k z
 exchanges p k (point_visit {s = s} {o = o} b w switch ticks e q y x z) =
     (Report b.number o.clock gets answer p k s (Report b.number o.clock)) ∷ exchanges p k z
 exchanges p k (ends {s = s} {o = o} e z) = (End o.clock gets answer p k s (End o.clock)) ∷ exchanges p k z
+
+-- The calls before the last of a list, its end.
+abbrev pub before_end : List Exchange → List Exchange
+before_end xs = take (length xs - 1) xs
 
 -- The text of plan A (01, 'Plans worked through').
 unfoldable pub text_A : List ℕ

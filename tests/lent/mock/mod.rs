@@ -4,6 +4,7 @@
 mod broken;
 mod costless;
 mod decisions;
+mod faster;
 mod finals;
 mod memory;
 mod numbers;
@@ -21,7 +22,7 @@ use std::sync::OnceLock;
 use reference::calls::Answer;
 use reference::composed::Composed;
 use reference::plan::Plan;
-use reference::table::Table;
+use reference::table::{Table, LEAVES};
 
 use super::calls::Call;
 use super::law::{self, Outcome};
@@ -39,6 +40,7 @@ fn difference() -> fn(&Asked) -> Outcome {
             finals::ALL,
             visits::ALL,
             returns::ALL,
+            faster::ALL,
             refusals::ALL,
             states::ALL,
             broken::ALL,
@@ -82,6 +84,11 @@ impl Asked<'_> {
 
     fn right(&self) -> Outcome {
         self.outcome_of(self.state, self.call)
+    }
+
+    /// Whether the row goes on behind the plan's own records.
+    fn has_spare_records(&self) -> bool {
+        self.table.row.len() as u64 > self.table.head[LEAVES]
     }
 
     fn reading(&self) -> u64 {

@@ -72,6 +72,9 @@ pub const ALL: &[Difference] = &[
             false => found.remaining,
         })
     }),
+    ("return-with-cost-added", |asked| {
+        weighed_less(asked, |found| 2 * found.cost_of_return())
+    }),
     ("return-with-switch-at-final", |asked| {
         suspended(asked, |found| {
             if found.is_final && found.plan.resume.is_some() {

@@ -256,7 +256,7 @@ pub const ALL: &[Difference] = &[
         broken(asked, asked.table.head[DEADLINE] % 2 == 1)
     }),
     ("longer-rows-broken", |asked| {
-        broken(asked, records(asked) > asked.table.head[LEAVES])
+        broken(asked, asked.has_spare_records())
     }),
     ("short-rows-unjudged", |asked| {
         unbroken(asked, 13, || records(asked) < asked.table.head[LEAVES])

@@ -1,9 +1,10 @@
 //! The reference's own checks: the worked plans, sheets and logs, the readings taken,
 //! the aimed texts, tables that one rule refuses, the two ways of finding the numbers,
-//! the final decisions and the stretches of visits against each other, timed runs and
-//! worst cases.
+//! the final decisions and the stretches of visits against each other, timed runs, worst
+//! cases and faster runs.
 
 mod compare;
+mod faster;
 mod finals;
 mod large;
 mod readings_of_calls;
@@ -25,7 +26,7 @@ use tally::Tally;
 
 fn main() {
     let mut tally = Tally::new();
-    let parts: [(&str, fn(&mut Tally)); 13] = [
+    let parts: [(&str, fn(&mut Tally)); 14] = [
         ("worked plans", worked::check),
         ("sheets", sheet::check),
         ("readings of texts", readings_of_texts::check),
@@ -39,6 +40,7 @@ fn main() {
         ("large plans", large::check),
         ("timed runs", timed::check),
         ("worst cases", worst::check),
+        ("faster runs", faster::check),
     ];
     for (name, check) in parts {
         let before = tally.passed + tally.failed;

@@ -7,6 +7,7 @@ use reference::composed::Composed;
 use reference::listed::Listed;
 use reference::numbers::Numbers;
 use reference::plan::{self, Plan};
+use reference::worked::call_of;
 
 /// Failures past this many are counted but not shown.
 const SHOWN: usize = 20;
@@ -55,14 +56,7 @@ impl Tally {
         let mut controller = Controller::new(numbers);
         for line in lines {
             let (call, wanted) = line.split_once(" -> ").expect("a call and its answer");
-            let fields: Vec<&str> = call.split(' ').collect();
-            let number = |at: usize| fields[at].parse::<u64>().expect("a number");
-            let answer = match fields[0] {
-                "release" => controller.release(),
-                "report" => controller.report(number(1), number(2)),
-                "end" => controller.end(number(1)),
-                other => panic!("no call: {other}"),
-            };
+            let answer = controller.call(call_of(call));
             self.equal(answer.line().as_str(), wanted, || {
                 format!("{name}, {way}: {call}")
             });

@@ -1,13 +1,17 @@
 //! The plans that document 01 works through: their listings, the marked cases m1
 //! to m12 and the other edges and traps named there.
 
+use reference::calls::Call;
 use reference::composed::Composed;
+use reference::faster::judge_worked;
 use reference::listed::Listed;
 use reference::numbers::{listing, Numbers};
 use reference::plan;
 use reference::worked::{CASES, EMPTY, PLAN_A, PLAN_B, TWICE};
+use reference::worked_faster::PAIRS;
 use reference::worked_returns::{FREE_RETURN, PLAN_A_2};
 
+use super::faster;
 use super::tally::{accepted, Tally};
 
 fn listings(tally: &mut Tally, text: &str, wanted: &str) {
@@ -70,6 +74,19 @@ fn traps(tally: &mut Tally) {
     listings(tally, TWICE, wanted);
 }
 
+/// Pairs of sequences, of which the second is faster or a hypothesis is missing (02, L8).
+fn faster_runs(tally: &mut Tally) {
+    for pair in PAIRS {
+        for lines in pair.sequences {
+            tally.calls(pair.name, pair.plan, lines);
+        }
+        let plan = accepted(pair.plan);
+        let composed = Composed::new(&plan);
+        let answers = |calls: &[Call]| faster::answers(&composed, calls);
+        judge_worked(pair, &answers, &mut |truth, what| tally.holds(truth, what));
+    }
+}
+
 pub fn check(tally: &mut Tally) {
     for case in CASES.iter().copied().flatten() {
         tally.calls(case.name, case.plan, case.calls);
@@ -79,4 +96,5 @@ pub fn check(tally: &mut Tally) {
     plan_b(tally);
     smallest(tally);
     traps(tally);
+    faster_runs(tally);
 }
