@@ -190,11 +190,7 @@ fn places_of(tally: &mut Tally, random: &mut Random, plan: &Plan) {
 fn large_states(tally: &mut Tally) {
     for edition in Edition::BOTH {
         let mut random = Random::new(88);
-        let mut plans = deep::of_edition(edition);
-        for _ in 0..edition.share(40) {
-            plans.push(gen::large_plan(&mut random, edition));
-        }
-        for plan in &plans {
+        for plan in &deep::and_large(&mut random, edition, edition.share(40)) {
             places_of(tally, &mut random, plan);
         }
     }

@@ -3,6 +3,7 @@
 use reference::aimed::{many, nest, task, words};
 use reference::composed::Composed;
 use reference::edition::Edition;
+use reference::gen::{self, Random};
 use reference::numbers::Numbers;
 use reference::plan::{self, Plan, MOST_LEAVES};
 
@@ -107,6 +108,12 @@ pub fn of_edition(edition: Edition) -> Vec<Plan> {
     };
     let plans = plans().into_iter();
     plans.map(|(_, plan)| Plan { resume, ..plan }).collect()
+}
+
+/// And so many random large ones behind them.
+pub fn and_large(random: &mut Random, edition: Edition, count: usize) -> Vec<Plan> {
+    let large = (0..count).map(|_| gen::large_plan(random, edition));
+    of_edition(edition).into_iter().chain(large).collect()
 }
 
 /// Each with its name.

@@ -67,11 +67,7 @@ fn of_edition(tally: &mut Tally, edition: Edition) -> [Met; 2] {
         let plan = gen::small_plan(&mut random, edition);
         pairs(tally, &mut random, &mut small, &plan, 60);
     }
-    let mut plans = deep::of_edition(edition);
-    for _ in 0..LARGE {
-        plans.push(gen::large_plan(&mut random, edition));
-    }
-    for plan in &plans {
+    for plan in &deep::and_large(&mut random, edition, LARGE) {
         pairs(tally, &mut random, &mut large, plan, 100);
     }
     [small, large]
