@@ -157,6 +157,7 @@ def load_rust(path):
     for line in whole_lines(text.splitlines()):
         if re.match(r"(?:pub )?ghost use ", line):
             source.use(line)
+    source.imports.setdefault("Option", ("Rattle.std.specs.Prelude", "Option"))
     used = [pair for tree in re.findall(r"^(?:pub )?use ([^;]+);", text, re.M) for pair in imported(tree)]
     for path, name in used + [(path, path) for path in re.findall(r"\b\w+::[A-Z]\w*", text)]:
         *modules, last = path.split("::")

@@ -7,6 +7,7 @@ use lent::places::{self, Standings};
 use lent::state::{Frame, State, EARLIER, LEAVES, LEVEL, RUNNING, STATE, SUSPENDED};
 use lent::tally::Tally;
 use reference::composed::Composed;
+use reference::deep;
 use reference::edition::{editions, Edition};
 use reference::gen::{self, Random};
 use reference::listed::Listed;
@@ -15,7 +16,6 @@ use reference::plan::{self, Form, Kind, Plan};
 use reference::table::{self, Table};
 
 use super::damage::{any_call, fitting_call, some_state};
-use super::deep;
 
 /// The most runs of a plan whose runs are listed.
 const MOST_RUNS: usize = 300;

@@ -6,13 +6,13 @@ use lent::law;
 use reference::calls::Answer;
 use reference::composed::Composed;
 use reference::costless::{self, Costless};
+use reference::deep;
 use reference::edition::editions;
 use reference::gen::{self, Random};
 use reference::plan::Plan;
 use reference::table;
 
 use super::damage::{any_call, change_one, fitting_call, some_state};
-use super::deep;
 use lent::state::State;
 use lent::tally::Tally;
 

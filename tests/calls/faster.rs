@@ -7,6 +7,7 @@ use lent::state::State;
 use lent::tally::Tally;
 use reference::calls::Answer;
 use reference::composed::Composed;
+use reference::deep;
 use reference::edition::Edition;
 use reference::faster::{judge, Met, KINDS};
 use reference::gen::{self, Random};
@@ -14,7 +15,6 @@ use reference::plan::Plan;
 use reference::table::{self, Table};
 
 use super::damage;
-use super::deep;
 
 /// Small plans of edition 1 with an accepted release, and large plans of each edition.
 const SMALL: usize = 6_000;

@@ -7,6 +7,7 @@ use lent::state::{State, EARLIER, LEAVES, LEVEL, LEVELS, STATE, SUSPENDED};
 use lent::tally::{Met, Tally};
 use reference::calls::{Answer, Controller};
 use reference::composed::Composed;
+use reference::deep;
 use reference::edition::Edition;
 use reference::finals::Finals;
 use reference::gen::{self, Random};
@@ -18,7 +19,6 @@ use reference::table::{self, Table};
 use reference::visits::Visits;
 
 use super::damage;
-use super::deep;
 
 /// Small plans whose runs are listed, the most runs of one, and calls on each.
 const PLANS: usize = 8_100;

@@ -8,7 +8,6 @@ mod damage;
 mod damaged;
 mod damaged_states;
 mod damaged_tables;
-mod deep;
 mod faster;
 mod habit;
 mod histories;

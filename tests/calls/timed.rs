@@ -5,13 +5,13 @@
 
 use lent::tally::Tally;
 use reference::composed::Composed;
+use reference::deep;
 use reference::edition::Edition;
 use reference::gen::{self, Random};
 use reference::numbers::Numbers;
 use reference::plan::Plan;
 use reference::table;
 
-use super::deep;
 use super::world::{Met, World};
 
 /// Runs of small plans of edition 1 begun and, at least, ended; how many large plans of

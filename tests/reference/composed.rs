@@ -14,7 +14,7 @@ pub enum Cost {
     Loaded,
 }
 
-fn own_cost(form: &Form, cost: Cost) -> u128 {
+pub fn own_cost(form: &Form, cost: Cost) -> u128 {
     match cost {
         Cost::Isolated => u128::from(form.isolated),
         Cost::Loaded => u128::from(form.loaded),
@@ -164,7 +164,7 @@ impl<'a> Composed<'a> {
 
     /// Largest max-load sum from the start of these forms up to the next point,
     /// where `beyond` is the same from their end on.
-    fn to_point(&self, forms: &[Form], beyond: u128) -> u128 {
+    pub fn to_point(&self, forms: &[Form], beyond: u128) -> u128 {
         forms.iter().rev().fold(beyond, |beyond, form| {
             if form.point {
                 return 0;

@@ -387,6 +387,24 @@ fn returning_plan(random: &mut Random) -> Plan {
     plan
 }
 
+/// A small plan of many ifs and few points whose visits take 0 to 2 ticks under load: the
+/// choices of its runs often give equal sums.
+pub fn tied_plan(random: &mut Random, edition: Edition) -> Plan {
+    let mut shape = small_shape(random);
+    (shape.points, shape.calls) = (random.pick(&[10, 20, 30]), random.pick(&[10, 20]));
+    (shape.loops, shape.ifs) = (random.pick(&[10, 25]), random.pick(&[30, 50]));
+    let mut plan = valid_plan(random, shape, edition);
+    plan.change_all(|form| {
+        form.loaded = random.pick(&[0, 1, 1, 1, 2, 2]);
+        form.isolated = form.isolated.min(form.loaded);
+        price(form);
+    });
+    plan.switch %= 3;
+    plan.resume = plan.resume.map(|cost| cost % 3);
+    set_deadline(random, &mut plan);
+    plan
+}
+
 pub fn large_plan(random: &mut Random, edition: Edition) -> Plan {
     let shape = large_shape(random);
     valid_plan(random, shape, edition)

@@ -14,6 +14,16 @@ struct Known {
     isolated_from: Vec<u64>,
 }
 
+impl Known {
+    /// The visits from this one of its reports, counted from 0, up to the next point or the
+    /// end.
+    fn up_to_next(&self, report: usize) -> &[Visit] {
+        let next = self.points.get(report + 1);
+        let stop = next.copied().unwrap_or(self.visits.len());
+        &self.visits[self.points[report]..stop]
+    }
+}
+
 pub struct Listed<'a> {
     plan: &'a Plan,
     leaves: Vec<(usize, &'a Form)>,
@@ -68,7 +78,7 @@ impl<'a> Listed<'a> {
             .sum()
     }
 
-    fn loaded(&self, visits: &[Visit]) -> u64 {
+    pub fn loaded(&self, visits: &[Visit]) -> u64 {
         visits
             .iter()
             .map(|visit| self.leaves[visit.leaf].1.loaded)
@@ -78,9 +88,15 @@ impl<'a> Listed<'a> {
     /// The max-load sum of a run from this one of its reports, counted from 0, up to the
     /// next or the end.
     fn loaded_from(&self, run: &Known, report: usize) -> u64 {
-        let next = run.points.get(report + 1);
-        let stop = next.copied().unwrap_or(run.visits.len());
-        self.loaded(&run.visits[run.points[report]..stop])
+        self.loaded(run.up_to_next(report))
+    }
+
+    /// Of each run with this history, which is not empty, the visits from its last report
+    /// up to the next point or the end.
+    pub fn continuations(&self, history: &[usize]) -> Vec<&[Visit]> {
+        let last = history.len() - 1;
+        let runs = self.with_history(history);
+        runs.map(|run| run.up_to_next(last)).collect()
     }
 
     /// A round lies between two visits of the condition with nothing but visits
@@ -105,7 +121,10 @@ impl<'a> Listed<'a> {
     }
 
     /// The runs whose first reports are these.
-    fn with_history<'b>(&'b self, history: &'b [usize]) -> impl Iterator<Item = &'b Known> {
+    fn with_history<'b: 'c, 'c>(
+        &'b self,
+        history: &'c [usize],
+    ) -> impl Iterator<Item = &'b Known> + 'c {
         self.runs.iter().filter(move |run| {
             run.points.len() >= history.len()
                 && run

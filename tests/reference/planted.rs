@@ -1,5 +1,6 @@
 //! What is planted in a stand-in, by the environment of its test.
 
+use std::collections::HashSet;
 use std::sync::OnceLock;
 
 /// The name of what is planted; empty where nothing is.
@@ -8,16 +9,20 @@ fn name() -> &'static str {
     NAME.get_or_init(|| std::env::var("PLANTED").unwrap_or_default())
 }
 
-/// Whether the difference of this name is planted. Where nothing is, every name
-/// that is asked for must be one that some test is to find: the last part of an
+/// Whether some test is to find the difference of this name: it is the last part of an
 /// entry.
-pub fn planted(entries: &[&str], name: &str) -> bool {
+fn is_known(entries: &'static [&'static str], name: &str) -> bool {
+    static NAMES: OnceLock<HashSet<&str>> = OnceLock::new();
+    let names = || entries.iter().filter_map(|entry| entry.rsplit('/').next());
+    NAMES.get_or_init(|| names().collect()).contains(name)
+}
+
+/// Whether the difference of this name is planted. The entries are those of the stand-in;
+/// where nothing is planted, every name that is asked for must be one that some test is to
+/// find.
+pub fn planted(entries: &'static [&'static str], name: &str) -> bool {
     if self::name().is_empty() {
-        let mut names = entries.iter().map(|entry| entry.rsplit('/').next());
-        assert!(
-            names.any(|known| known == Some(name)),
-            "no test is to find {name}"
-        );
+        assert!(is_known(entries, name), "no test is to find {name}");
     }
     self::name() == name
 }

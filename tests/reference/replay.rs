@@ -114,14 +114,27 @@ pub fn answers<N: Numbers>(numbers: &N, log: &[u8]) -> String {
         .collect()
 }
 
-/// What is printed for the text of a plan and a log.
-pub fn printed(text: &[u8], log: &[u8]) -> String {
+/// What a program prints for the text of a plan and a log, by how it answers the log of an
+/// accepted plan: from the list of runs where that is short, else form by form.
+pub fn printed_by(
+    text: &[u8],
+    log: &[u8],
+    by_runs: fn(&Listed, &[u8]) -> String,
+    by_forms: fn(&Composed, &[u8]) -> String,
+) -> String {
     let plan = match plan::read(text, MOST_LEAVES) {
         Ok(plan) => plan,
         Err((number, line)) => return format!("refused {number} {line}\n"),
     };
     match Listed::new(&plan, MOST_RUNS) {
-        Some(listed) => answers(&listed, log),
-        None => answers(&Composed::new(&plan), log),
+        Some(listed) => by_runs(&listed, log),
+        None => by_forms(&Composed::new(&plan), log),
     }
+}
+
+/// What is printed for the text of a plan and a log.
+pub fn printed(text: &[u8], log: &[u8]) -> String {
+    let by_runs = |numbers: &Listed, log: &[u8]| answers(numbers, log);
+    let by_forms = |numbers: &Composed, log: &[u8]| answers(numbers, log);
+    printed_by(text, log, by_runs, by_forms)
 }

@@ -2,18 +2,33 @@
 
 use super::plan::{Form, Kind, Plan};
 
-/// One visit of a leaf, with its level in the run.
+/// What a run chooses at a visit: at an if its part, at a loop's condition whether the
+/// loop is left or gone round once more.
+#[derive(Clone, Copy, Debug, PartialEq, Eq)]
+pub enum Choice {
+    Then,
+    Else,
+    Leave,
+    Round,
+}
+
+/// One visit of a leaf, with its level in the run and what is chosen there.
 #[derive(Clone, Copy, Debug, PartialEq, Eq)]
 pub struct Visit {
     pub leaf: usize,
     pub level: usize,
+    pub choice: Option<Choice>,
 }
 
 pub type Run = Vec<Visit>;
 
+/// The most visits of a run that is listed.
+const LONGEST: usize = 10_000;
+
 /// Each run of the first list followed by each of the second.
 fn joined(first: &[Run], second: &[Run], limit: usize) -> Option<Vec<Run>> {
-    if first.len() * second.len() > limit {
+    let longest = |runs: &[Run]| runs.iter().map(Vec::len).max().unwrap_or(0);
+    if first.len() * second.len() > limit || longest(first) + longest(second) > LONGEST {
         return None;
     }
     let mut all = Vec::with_capacity(first.len() * second.len());
@@ -35,28 +50,36 @@ fn in_row(plan: &Plan, forms: &[Form], level: usize, limit: usize) -> Option<Vec
 }
 
 fn of_form(plan: &Plan, form: &Form, level: usize, limit: usize) -> Option<Vec<Run>> {
-    let visit = vec![vec![Visit {
-        leaf: form.leaf,
-        level,
-    }]];
+    let visit = |choice| {
+        vec![vec![Visit {
+            leaf: form.leaf,
+            level,
+            choice,
+        }]]
+    };
+    let inside = |forms, level| in_row(plan, forms, level, limit);
     match &form.kind {
-        Kind::Leaf => Some(visit),
+        Kind::Leaf => Some(visit(None)),
         Kind::Call(target) => {
-            let called = in_row(plan, &plan.functions[*target], level + 1, limit)?;
-            joined(&visit, &called, limit)
+            let called = inside(&plan.functions[*target], level + 1)?;
+            joined(&visit(None), &called, limit)
         }
         Kind::If(then_part, else_part) => {
-            let mut parts = in_row(plan, then_part, level, limit)?;
-            parts.extend(in_row(plan, else_part, level, limit)?);
-            joined(&visit, &parts, limit)
+            let by_then = inside(then_part, level)?;
+            let by_else = inside(else_part, level)?;
+            let mut all = joined(&visit(Some(Choice::Then)), &by_then, limit)?;
+            all.extend(joined(&visit(Some(Choice::Else)), &by_else, limit)?);
+            (all.len() <= limit).then_some(all)
         }
         Kind::Loop(bound, body) => {
-            let round = joined(&in_row(plan, body, level + 1, limit)?, &visit, limit)?;
-            let mut after_rounds = visit;
-            let mut all = after_rounds.clone();
+            let body = inside(body, level + 1)?;
+            let round = joined(&visit(Some(Choice::Round)), &body, limit)?;
+            let leaving = visit(Some(Choice::Leave));
+            let mut rounds = vec![Vec::new()];
+            let mut all = leaving.clone();
             for _ in 0..*bound {
-                after_rounds = joined(&after_rounds, &round, limit)?;
-                all.extend_from_slice(&after_rounds);
+                rounds = joined(&rounds, &round, limit)?;
+                all.extend(joined(&rounds, &leaving, limit)?);
                 if all.len() > limit {
                     return None;
                 }
@@ -67,7 +90,7 @@ fn of_form(plan: &Plan, form: &Form, level: usize, limit: usize) -> Option<Vec<R
 }
 
 /// The runs of one function alone, its own forms at level 1; None if the list
-/// would hold more than `limit`.
+/// would hold more than `limit`, or one that is too long.
 pub fn of_function(plan: &Plan, function: usize, limit: usize) -> Option<Vec<Run>> {
     in_row(plan, &plan.functions[function], 1, limit)
 }

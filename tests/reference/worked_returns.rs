@@ -33,7 +33,7 @@ const POINT_IN_ELSE_2: &str = "(task 40 3 2\n(fun\n(if p 2 4\n(then\n(leaf s 3 6
     (leaf p 1 5)\n)\n)\n(leaf s 2 7)\n)\n)\n";
 
 /// Two points with 2^20 ticks between them; a U of as many.
-const LARGEST: &str = "(task 3145730 0 1048576\n(fun\n(leaf p 1 1048576)\n\
+pub const LARGEST: &str = "(task 3145730 0 1048576\n(fun\n(leaf p 1 1048576)\n\
     (leaf s 1048576 1048576)\n(leaf p 1 1)\n)\n)\n";
 
 pub(crate) const RETURNS: &[Case] = &[

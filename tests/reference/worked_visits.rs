@@ -21,7 +21,7 @@ const LOOP_IN_LOOP: &str = "(task 90 2\n(fun\n(loop p 1 1 2\n(leaf s 1 4)\n(loop
     (leaf s 3 11)\n)\n(leaf s 1 6)\n)\n(leaf s 2 9)\n)\n)\n";
 
 /// Behind the first call comes an if with a point in its else part alone.
-const IF_BEHIND_CALL: &str = "(task 60 4\n(fun\n(leaf p 1 2)\n)\n(fun\n(call p 0 1 1)\n\
+pub const IF_BEHIND_CALL: &str = "(task 60 4\n(fun\n(leaf p 1 2)\n)\n(fun\n(call p 0 1 1)\n\
     (if s 1 3\n(then\n(leaf s 2 8)\n)\n(else\n(leaf p 1 1)\n)\n)\n(leaf s 1 5)\n\
     (call p 0 1 1)\n)\n)\n";
 
@@ -34,11 +34,13 @@ const SILENT_CALL: &str = "(task 50 2\n(fun\n(leaf s 1 4)\n)\n(fun\n(call p 0 1 
     (call p 1 1 1)\n(leaf s 2 9)\n(call p 1 1 1)\n)\n)\n";
 
 /// An if with a point in its else part alone, in a function that is called twice.
-const IF_CALLED_TWICE: &str = "(task 60 3\n(fun\n(if p 1 2\n(then\n)\n(else\n(leaf p 1 4)\n)\n)\n\
+pub const IF_CALLED_TWICE: &str =
+    "(task 60 3\n(fun\n(if p 1 2\n(then\n)\n(else\n(leaf p 1 4)\n)\n)\n\
     )\n(fun\n(call p 0 1 1)\n(leaf s 1 12)\n(call p 0 1 1)\n)\n)\n";
 
 /// Behind the first call of function 1 come a silent call and a silent loop.
-const SILENCE_BETWEEN: &str = "(task 60 3\n(fun\n(leaf s 1 6)\n)\n(fun\n(leaf p 2 3)\n)\n(fun\n\
+pub const SILENCE_BETWEEN: &str =
+    "(task 60 3\n(fun\n(leaf s 1 6)\n)\n(fun\n(leaf p 2 3)\n)\n(fun\n\
     (call p 1 1 1)\n(call s 0 1 2)\n(loop s 2 1 1\n(leaf s 1 4)\n)\n(call p 1 1 1)\n\
     (leaf s 1 2)\n)\n)\n";
 

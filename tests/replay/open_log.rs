@@ -8,10 +8,9 @@ use std::sync::mpsc::{channel, Receiver, RecvTimeoutError};
 use std::thread;
 use std::time::{Duration, Instant};
 
+use logs::tested::{Tested, INPUT};
 use reference::program::packet_pipe;
 use reference::worked::PLAN_A;
-
-use super::replays::{Replays, INPUT};
 
 /// How long an answer may take.
 const SOON: Duration = Duration::from_secs(10);
@@ -25,9 +24,9 @@ struct Open {
 }
 
 impl Open {
-    fn new(replays: &Replays) -> io::Result<Open> {
+    fn new(tested: &Tested) -> io::Result<Open> {
         let (from, feed) = packet_pipe()?;
-        let mut command = replays.command(&[replays.plan.as_os_str(), INPUT.as_ref()]);
+        let mut command = tested.command(&[tested.plan.as_os_str(), INPUT.as_ref()]);
         command.stdin(from).stdout(Stdio::piped());
         let mut child = command.spawn()?;
         let output = child.stdout.take().expect("its output is a pipe");
@@ -87,16 +86,16 @@ const DIALOGUE: [(&str, &[&str]); 11] = [
 /// What is printed for the rest once the log is closed.
 const LAST: &str = "refused 18";
 
-pub fn compare_all(replays: &mut Replays) {
-    replays.write_plan(PLAN_A.as_bytes());
-    let mut open = match Open::new(replays) {
+pub fn compare_all(tested: &mut Tested) {
+    tested.write_plan(PLAN_A.as_bytes());
+    let mut open = match Open::new(tested) {
         Ok(open) => open,
-        Err(error) => return replays.count.holds(false, &format!("not run: {error}")),
+        Err(error) => return tested.count.holds(false, &format!("not run: {error}")),
     };
     for (piece, wanted) in DIALOGUE {
         let missing = open.answers(piece, wanted);
         let what = format!("while the log is open, after {piece:?}: missing {missing:?}");
-        replays.count.holds(missing.is_none(), &what);
+        tested.count.holds(missing.is_none(), &what);
         if missing.is_some() {
             break;
         }
@@ -105,10 +104,10 @@ pub fn compare_all(replays: &mut Replays) {
     let next = || open.lines.recv_timeout(SOON);
     let ended =
         next().is_ok_and(|line| line == LAST) && next() == Err(RecvTimeoutError::Disconnected);
-    replays
+    tested
         .count
         .holds(ended, "the rest is answered once the log is closed");
     let status = status_of(&mut open.child);
     let what = format!("the program ends by itself: {status:?}");
-    replays.count.holds(status == Some(0), &what);
+    tested.count.holds(status == Some(0), &what);
 }

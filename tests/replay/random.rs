@@ -1,17 +1,15 @@
-//! Random logs of random plans, as they are and damaged, and logs of a megabyte.
+//! Random logs of random plans, as they are and damaged.
 
 use std::collections::BTreeMap;
 
+use logs::random_logs::random_log;
+use logs::tested::Tested;
 use reference::composed::Composed;
 use reference::damage;
 use reference::edition::Edition;
 use reference::gen::{self, Random};
 use reference::numbers::Numbers;
 use reference::plan::{self, Plan};
-use reference::worked::{PLAN_A, PLAN_B};
-
-use super::logs::random_log;
-use super::replays::Replays;
 
 const SMALL_PLANS: usize = 3_000;
 const LARGE_PLANS: usize = 300;
@@ -56,30 +54,30 @@ fn kind(line: &str) -> &str {
 }
 
 /// A log of the plan as it is, and damaged.
-fn of_plan(replays: &mut Replays, random: &mut Random, met: &mut Met, plan: &Plan) {
+fn of_plan(tested: &mut Tested, random: &mut Random, met: &mut Met, plan: &Plan) {
     let text = plan::text(plan);
     let composed = Composed::new(plan);
     // Where no release is accepted, a few lines say it all.
     let unfit = composed.total() + plan.switch > plan.deadline;
     let length = random.pick(&[50, 300, 1_000, if unfit { 50 } else { 5_000 }]);
     let log = random_log(random, &composed, length);
-    for line in replays.log("a random log", &text, &log).lines() {
+    for line in tested.log("a random log", &text, &log).lines() {
         *met.entry(kind(line).to_string()).or_default() += 1;
     }
     let log = damage::damaged(random, &log);
-    replays.log("a damaged log", &text, &log);
+    tested.log("a damaged log", &text, &log);
 }
 
-fn of_plans(replays: &mut Replays, edition: Edition) {
+fn of_plans(tested: &mut Tested, edition: Edition) {
     let mut random = Random::new(101);
     let mut met = Met::new();
     for _ in 0..edition.share(SMALL_PLANS) {
         let plan = gen::small_plan(&mut random, edition);
-        of_plan(replays, &mut random, &mut met, &plan);
+        of_plan(tested, &mut random, &mut met, &plan);
     }
     for _ in 0..edition.share(LARGE_PLANS) {
         let plan = gen::large_plan(&mut random, edition);
-        of_plan(replays, &mut random, &mut met, &plan);
+        of_plan(tested, &mut random, &mut met, &plan);
     }
     println!("lines of random logs, {edition}: {met:?}");
     let kinds = match edition {
@@ -89,53 +87,12 @@ fn of_plans(replays: &mut Replays, edition: Edition) {
     // A kind of line that is hardly met is hardly compared.
     for &kind in kinds {
         let enough = met.get(kind).is_some_and(|&count| count >= OFTEN);
-        replays.count.holds(enough, &format!("{kind} is met often"));
+        tested.count.holds(enough, &format!("{kind} is met often"));
     }
 }
 
-/// Bytes of a log's lines in any order.
-fn scattered(random: &mut Random, length: usize) -> Vec<u8> {
-    let words: [&[u8]; 12] = [
-        b"release", b"point", b"end", b" ", b" ", b"0", b"1", b"9", b"\n", b"\n", b"\n", b"x",
-    ];
-    let mut log = Vec::new();
-    while log.len() < length {
-        log.extend_from_slice(random.pick(&words));
-    }
-    log
-}
-
-const MEGABYTE: usize = 1 << 20;
-const RUN: &[u8] = b"release\npoint 0 0\npoint 1 9\nend 40\n";
-
-fn megabytes(replays: &mut Replays, random: &mut Random) {
-    for text in [PLAN_A, PLAN_B] {
-        let plan = plan::read(text.as_bytes(), 512).expect("an accepted plan");
-        let log = random_log(random, &Composed::new(&plan), MEGABYTE);
-        replays.log("a megabyte of runs", text.as_bytes(), &log);
-    }
-    let one_line = vec![b'0'; MEGABYTE];
-    let logs = [
-        ("a megabyte of words", scattered(random, MEGABYTE)),
-        ("a megabyte without a line feed", one_line.clone()),
-        (
-            "a line of a megabyte",
-            [RUN, &one_line, b"\n", RUN].concat(),
-        ),
-        ("many blank lines", vec![b'\n'; MEGABYTE / 4]),
-        (
-            "the same run again and again",
-            RUN.repeat(MEGABYTE / RUN.len()),
-        ),
-    ];
-    for (group, log) in logs {
-        replays.log(group, PLAN_A.as_bytes(), &log);
-    }
-}
-
-pub fn compare_all(replays: &mut Replays) {
+pub fn compare_all(tested: &mut Tested) {
     for edition in Edition::BOTH {
-        of_plans(replays, edition);
+        of_plans(tested, edition);
     }
-    megabytes(replays, &mut Random::new(102));
 }

@@ -13,6 +13,7 @@ use Rattle.model.specs.Plan.{Plan}
 use Rattle.model.specs.Acceptance.{Accepted}
 use Rattle.model.specs.Stack.{Levels}
 use Rattle.model.specs.declared.Call.{Call}
+use Rattle.rows.specs.declared.Code.{Code}
 use Rattle.rows.specs.declared.Leaf.{Leaf}
 use Rattle.rows.specs.Leaves.{numbers, lent_turns, lent_tails, lent_max_load_turns}
 use Rattle.rows.proofs.Leaves.{numbers_length, numbers_take}
@@ -26,7 +27,7 @@ use Rattle.control.specs.declared.OpenRelease.{OpenRelease}
 use Rattle.control.specs.declared.State.{State}
 use Rattle.control.specs.State.{standing}
 use Rattle.control.specs.Calls.{read_state, on_state, on_plan, call_on}
-use Rattle.control.specs.Private.{WholeTable, GoodState}
+use Rattle.control.specs.Private.{CodeOf, WholeTable, GoodState}
 
 -- A release that does not stand anywhere stands at no levels.
 pub not_standing : (p : Plan) (o : OpenRelease) → (GoodState p o → ⊥) → standing p o ≡ none
@@ -75,6 +76,22 @@ module _ {row : List Leaf} {h : Head} (o : Owned row h) where
         numbers_length row,
       )
 
+  -- Its code, and the max-load turns in it.
+  module _ (c : Code) (r : c.row.now ≡ take h.leaves row) where
+    abbrev pub lent_code : c.bounds.now ≡ h.bounds → c.functions ≡ h.functions → CodeOf o.plan c
+    lent_code b n =
+        let i = o.table_is in
+        record {
+          row_is = ap numbers r ∙ (numbers_take h.leaves row ∙ ap (λ (u : Table). u.row) i);
+          bounds_are = b ∙ ap (λ (u : Table). u.head.bounds) i;
+          functions_are = n ∙ ap (λ (u : Table). u.head.functions) i;
+        }
+
+    pub lent_loads : lent_max_load_turns c.row.now ≡ (table_of o.plan).max_load_turns
+    lent_loads =
+        ap lent_max_load_turns r ∙
+        (sym (take-map (λ (f : Leaf). f.max_load_turn) h.leaves row) ∙ ap (λ (u : Table). u.max_load_turns) o.table_is)
+
   -- What is lent of it.
   abbrev pub lent_whole : (l : LentPlan) → l.code.row.now ≡ take h.leaves row → l.code.bounds.now ≡ h.bounds → l.code.functions ≡ h.functions → l.head.now ≡ h → WholeTable l
   lent_whole l r b n e =
@@ -83,16 +100,12 @@ module _ {row : List Leaf} {h : Head} (o : Owned row h) where
         costed = record {
           rowed = record {
             head = record { plan = o.plan; accepted = o.accepted; is = e ∙ ap (λ (u : Table). u.head) i };
-            code_is = record {
-              row_is = ap numbers r ∙ (numbers_take h.leaves row ∙ ap (λ (u : Table). u.row) i);
-              bounds_are = b ∙ ap (λ (u : Table). u.head.bounds) i;
-              functions_are = n ∙ ap (λ (u : Table). u.head.functions) i;
-            };
+            code_is = lent_code l.code r b n;
           };
           turns_are = ap lent_turns r ∙ (sym (take-map (λ (f : Leaf). f.turn) h.leaves row) ∙ ap (λ (u : Table). u.turns) i);
           tails_are = ap lent_tails r ∙ (sym (take-map (λ (f : Leaf). f.tail) h.leaves row) ∙ ap (λ (u : Table). u.tails) i);
         };
-        max_load_turns_are = ap lent_max_load_turns r ∙ (sym (take-map (λ (f : Leaf). f.max_load_turn) h.leaves row) ∙ ap (λ (u : Table). u.max_load_turns) i);
+        max_load_turns_are = lent_loads l.code r;
       }
 
   -- A call on it.

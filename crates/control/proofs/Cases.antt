@@ -42,7 +42,7 @@ right : (c : Case) → Accepted c.plan → (table_of c.plan).head.total ≡ c.to
 right c a t m s e = record { accepted = a; total_is = t; max_total_is = m; stretches_are = s; answered = on_plans c.plan a fresh c.exchanges e }
 
 -- Plan A with U 3 is accepted as plan A is: only the range of U is new.
-returning_A_accepted : Accepted returning_A
+pub returning_A_accepted : Accepted returning_A
 unfolding returning_A
 returning_A_accepted =
     let a = plan_A_accepted in

@@ -25,12 +25,13 @@ use Rattle.outlook.specs.declared.Ahead.{Ahead}
 use Rattle.outlook.specs.Loads.{PlacePriced}
 use Rattle.outlook.specs.Ahead.{ahead_of, ahead_at}
 use Rattle.table.specs.declared.Head.{Head}
+use Rattle.table.specs.Lent.{AtMaxLoad}
 use Rattle.control.specs.declared.LentPlan.{LentPlan}
 use Rattle.control.specs.declared.OpenRelease.{OpenRelease}
 use Rattle.control.specs.declared.State.TheVariants.{Open}
 use Rattle.control.specs.State.{fresh, standing}
 use Rattle.control.specs.Calls.{place_of, running_at, reply, as_step}
-use Rattle.control.specs.Private.{Rowed, WholeTable, AtMaxLoad}
+use Rattle.control.specs.Private.{Rowed, WholeTable}
 use Rattle.control.proofs.Judging.{stands_depth, stands_few, stands_decode}
 use Rattle.control.proofs.Lending.{report_asked, report_ahead}
 use Rattle.control.proofs.Reporting.{none_open}
@@ -41,7 +42,7 @@ end_onward p o (g ∷ ks) h = refl
 
 -- What lies ahead of a good release behind its last report: what `at_report` asks for, and what it says.
 module _ {l : LentPlan} (q : WholeTable l) (o : OpenRelease) (one : 1 ≤ o.place.level) (ls : Levels) (k : standing q.costed.rowed.head.plan o ≡ some ls)
-    {c : PricedCode} (m : AtMaxLoad l c) where
+    {c : PricedCode} (m : AtMaxLoad l.head.now l.code c) where
   pub spot_asked : PlacePriced c o.place
   spot_asked =
       let h = q.costed.rowed.head in

@@ -16,7 +16,7 @@ use Rattle.model.proofs.Points.{AllPoints}
 use Rattle.rows.specs.declared.Code.{Code}
 use Rattle.rows.specs.declared.Cost.{Cost}
 use Rattle.rows.specs.declared.PricedCode.{PricedCode}
-use Rattle.rows.specs.Costs.{cost_in, lent_turns_in}
+use Rattle.rows.specs.Costs.{cost_in}
 use Rattle.rows.specs.Answers.{Says}
 use Rattle.rows.specs.Leaves.{numbers, lent_turns, lent_tails, lent_max_load_turns}
 use Rattle.rows.specs.Plans.{PlanIn}
@@ -31,11 +31,14 @@ use Rattle.place.proofs.Tables.{table_of}
 use Rattle.outlook.specs.declared.Ahead.{Ahead}
 use Rattle.outlook.specs.Ahead.{ahead_of, ahead_at}
 use Rattle.outlook.specs.Loads.{CodePriced, PlacePriced}
-use Rattle.outlook.specs.Plans.{PlanLoads, PlanPriced}
+use Rattle.outlook.specs.Plans.{PlanPriced}
 use Rattle.outlook.proofs.Meaning.{code_priced, at_release_is, place_priced, at_report_is}
+use Rattle.table.specs.declared.Head.{Head}
+use Rattle.table.specs.Table.{head_of, table_of as its_table}
+use Rattle.table.specs.Lent.{AtMaxLoad}
 use Rattle.control.specs.declared.LentPlan.{LentPlan}
 use Rattle.control.specs.declared.OpenRelease.{OpenRelease}
-use Rattle.control.specs.Private.{CodeOf, Coded, Rowed, Costed, WholeTable, AtMaxLoad, GoodState}
+use Rattle.control.specs.Private.{CodeOf, Coded, Rowed, Costed, WholeTable, GoodState}
 use Rattle.control.proofs.Tabled.{laid, filled, filled_loads}
 use Rattle.control.proofs.Judging.{Located, release_wrong, release_right, above_wrong, place_right, place_wrong, costed_at, times_judged}
 
@@ -111,38 +114,38 @@ module _ {l : LentPlan} (q : Costed l) where
         times_judged q.rowed.head.plan q.rowed.head.accepted (laid_here (coded q.rowed)) o filled_here k n (rw t at above) r
         (rw (count_here (coded q.rowed)) at f)
 
+-- The code of an accepted plan at the max-load cost, with the plan's max-load totals and turns.
+pub priced : (p : Plan) → Accepted p → {h : Head} {k : Code} {c : PricedCode} → AtMaxLoad h k c → CodeOf p k → h ≡ head_of p →
+    lent_max_load_turns k.row.now ≡ (its_table p).max_load_turns → PlanPriced c p
+priced p a {h} {k} {c} m is head turns =
+    let q : Coded c.code = record { plan = p; accepted = a; is = subst (CodeOf p) (sym m.code_is) is } in
+    let totals = m.totals_are ∙ ap (λ x. x.max_load_totals) head in
+    let loads = ap (λ (y : Code). lent_max_load_turns y.row.now) m.code_is ∙ turns in
+    record { lies = laid_here q; functions_are = count_here q; loads = rw (m.cost_is, totals, loads) (filled_loads p a) }
+
 -- With the max-load turns, at the max-load cost: what `outlook` asks for, and its answers.
-module _ {l : LentPlan} (q : WholeTable l) {c : PricedCode} (m : AtMaxLoad l c) where
+module _ {l : LentPlan} (q : WholeTable l) {c : PricedCode} (m : AtMaxLoad l.head.now l.code c) where
   abbrev this : Plan
   this = q.costed.rowed.head.plan
 
   abbrev ok : Accepted q.costed.rowed.head.plan
   ok = q.costed.rowed.head.accepted
 
-  abbrev its_code : Coded c.code
-  its_code = record { plan = this; accepted = ok; is = subst (CodeOf this) (sym m.code_is) q.costed.rowed.code_is }
-
-  loads : PlanLoads (cost_in c.cost) this c.totals.now (lent_turns_in c.cost c.code.row.now)
-  loads =
-      let totals = m.totals_are ∙ ap (λ k. k.max_load_totals) q.costed.rowed.head.is in
-      let turns = ap (λ (y : Code). lent_max_load_turns y.row.now) m.code_is ∙ q.max_load_turns_are in
-      rw (m.cost_is, totals, turns) (filled_loads this ok)
-
-  priced : PlanPriced c this
-  priced = record { lies = laid_here its_code; functions_are = count_here its_code; loads = loads }
+  here : PlanPriced c this
+  here = priced this ok m q.costed.rowed.code_is q.costed.rowed.head.is q.max_load_turns_are
 
   -- At the release.
   pub release_asked : CodePriced c
-  release_asked = code_priced ok priced
+  release_asked = code_priced ok here
 
   pub release_ahead : {a : Ahead} → ((t : CodePriced c) → a ≡ ahead_of (cost_in c.cost) (main_forms t.table)) → a ≡ ahead_of M (main q.costed.rowed.head.plan)
-  release_ahead {a} e = at_release_is ok priced a e ∙ ap (λ (y : Cost). ahead_of (cost_in y) (main this)) m.cost_is
+  release_ahead {a} e = at_release_is ok here a e ∙ ap (λ (y : Cost). ahead_of (cost_in y) (main this)) m.cost_is
 
   -- At a place whose stack decodes.
   module _ (x : Place) (ls : Levels) (one : 1 ≤ x.level) (most : x.level ≤ 32) (f : decode (main q.costed.rowed.head.plan) [] (frames x.leaves x.earlier 1 x.level) ≡ some ls)
       (u : AllPoints q.costed.rowed.head.plan (frames x.leaves x.earlier 1 x.level)) where
     pub report_asked : PlacePriced c x
-    report_asked = place_priced ok priced x ls one most f u
+    report_asked = place_priced ok here x ls one most f u
 
     pub report_ahead : {a : Ahead} → ((t : PlacePriced c x) → a ≡ ahead_at (cost_in c.cost) (whole t.decoded.levels)) → a ≡ ahead_at M (whole ls)
-    report_ahead {a} e = at_report_is ok priced x ls one most f u a e ∙ ap (λ (y : Cost). ahead_at (cost_in y) (whole ls)) m.cost_is
+    report_ahead {a} e = at_report_is ok here x ls one most f u a e ∙ ap (λ (y : Cost). ahead_at (cost_in y) (whole ls)) m.cost_is

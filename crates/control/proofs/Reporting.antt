@@ -118,7 +118,7 @@ spot_decoded {o = o} k some_open =
 -- THE RELEASE MOVED ON
 
 -- The remaining time of the innermost level.
-top_time : (f : Forms) (ls : Levels) → 1 ≤ length ls → get_or (times f ls) (length ls) 0 ≡ total C (whole ls)
+pub top_time : (f : Forms) (ls : Levels) → 1 ≤ length ls → get_or (times f ls) (length ls) 0 ≡ total C (whole ls)
 unfolding TimesAt
 top_time f [] h = absurd (omega arith)
 top_time f (g ∷ ks) h =

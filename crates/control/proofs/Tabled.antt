@@ -29,7 +29,8 @@ use Rattle.table.proofs.Holding.{leaves_size}
 use Rattle.table.proofs.Written.{turns_size, tails_size}
 use Rattle.control.proofs.Columns.{holds_self, priced_all, priced_same, rounds_all, rounds_same}
 
-all_size : (ls : List Lines) → length (all_leaves ls) ≡ sizes ls
+-- A plan has as many leaves as its lines have in all.
+pub all_size : (ls : List Lines) → length (all_leaves ls) ≡ sizes ls
 unfolding all_leaves sizes
 all_size [] = refl
 all_size (l ∷ ls) = omega (arith, length-append (leaves l) (all_leaves ls), leaves_size l, all_size ls)

@@ -18,8 +18,6 @@ use Rattle.model.specs.Calls.{Reply, others_after}
 use Rattle.model.specs.Controller.{next_levels, decided}
 use Rattle.model.specs.Stack.{Levels}
 use Rattle.rows.specs.declared.Code.{Code}
-use Rattle.rows.specs.declared.Cost.TheVariants.{MaxLoad}
-use Rattle.rows.specs.declared.PricedCode.{PricedCode}
 use Rattle.rows.specs.Leaves.{numbers, lent_turns, lent_tails, lent_max_load_turns}
 use Rattle.rows.specs.Records.{row_of}
 use Rattle.place.specs.Stack.{Stacked}
@@ -95,12 +93,6 @@ pub record Costed (l : LentPlan) : Type 0 where
 pub record WholeTable (l : LentPlan) : Type 0 where
   pub costed : Costed l
   pub max_load_turns_are : lent_max_load_turns l.code.row.now ≡ (table_of costed.rowed.head.plan).max_load_turns
-
--- The code beside the head, at the max-load cost.
-pub record AtMaxLoad (l : LentPlan) (c : PricedCode) : Type 0 where
-  pub code_is : c.code ≡ l.code
-  pub cost_is : c.cost ≡ MaxLoad
-  pub totals_are : c.totals.now ≡ l.head.now.max_load_totals
 
 -- The open release is good: it stands at some levels of the plan (01, refusal 11).
 abbrev pub GoodState : Plan → OpenRelease → Type 0

@@ -19,13 +19,13 @@ ghost use Rattle.table.specs.Lent.{table_with};
 ghost use Rattle.control.specs.declared.State.TheVariants.{Idle, Open};
 ghost use Rattle.control.specs.State.{standing};
 ghost use Rattle.control.specs.Calls.{place_of, running_at, read_state, reply, on_state, call_on, as_step};
-ghost use Rattle.control.specs.Private.{terms, rule_met, weighing, opened, arrived, stepped, closing, Headed, Coded, Costed, WholeTable, AtMaxLoad};
+ghost use Rattle.control.specs.Private.{terms, rule_met, weighing, opened, arrived, stepped, closing, Headed, Coded, Costed, WholeTable};
 ghost use Rattle.control.specs.Private.{GoodState, GoodOnCode, GoodOnTable, Arriving, moved_to};
 
 use model::{Answer, Call, Edition, Ending, Others, Outlook, Refusal, Word};
 use outlook::{at_release, at_report};
 use place::{ByLevel, Place, advance, begin, keep_time, place_ok, times_ok, zero_above};
-use rows::{Code, Cost, Leaf, PricedCode};
+use rows::{Code, Leaf};
 use table::{Head, check};
 
 // An open release: what the others do, the last accepted reading, the place of the last point, and the remaining time kept for each level.
@@ -57,19 +57,6 @@ pub struct Step {
 struct LentPlan<'a> {
     code: Code<'a>,
     head: &'a Head,
-}
-
-impl<'a> LentPlan<'a> {
-    // The code at the max-load cost, which is what a stretch sums.
-    fn at_max_load(&self) -> PricedCode<'a>
-        ensures { AtMaxLoad self.now result }
-    {
-        PricedCode {
-            code: self.code,
-            cost: Cost::MaxLoad,
-            totals: &self.head.max_load_totals,
-        }
-    }
 }
 
 // A decision: its answer, and what the others do then.
@@ -181,7 +168,7 @@ fn start(plan: &LentPlan, state: &mut State) -> Result<Answer, Refusal>
     if head.deadline < head.total + head.switch {
         return Err(Refusal::Unfit);
     }
-    let ahead = at_release(&plan.at_max_load());
+    let ahead = at_release(&plan.head.at_max_load(plan.code));
     let outlook = Outlook {
         remaining: head.total,
         stretch: ahead.stretch,
@@ -246,7 +233,7 @@ fn arrive(plan: &LentPlan, release: &mut OpenRelease, reading: u64) -> Answer
         &release.place,
         &mut release.times,
     );
-    let ahead = at_report(&plan.at_max_load(), &release.place);
+    let ahead = at_report(&plan.head.at_max_load(plan.code), &release.place);
     let outlook = Outlook {
         remaining: release.times[release.place.level],
         stretch: ahead.stretch,
@@ -288,7 +275,7 @@ fn may_close(plan: &LentPlan, release: &OpenRelease) -> bool
     ensures { (q : WholeTable plan.now) (ls : Levels) → standing q.costed.rowed.head.plan release.now ≡ some ls
         → result ≡ can_close q.costed.rowed.head.plan (place_of release.now ls) }
 {
-    let code = plan.at_max_load();
+    let code = plan.head.at_max_load(plan.code);
     if release.place.level == 0 {
         at_release(&code).ends
     } else {

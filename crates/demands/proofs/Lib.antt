@@ -11,3 +11,4 @@ pub mod Worst
 pub mod Faster
 pub mod Theorems
 pub mod Replay
+pub mod Causes

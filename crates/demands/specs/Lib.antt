@@ -4,3 +4,4 @@ pub mod Tables
 pub mod Decisions
 pub mod Lists
 pub mod Cases
+pub mod Causes

@@ -1,5 +1,6 @@
 -- The theorems of this crate, to be read; each is proved in a file beside this one.
--- The definitions to believe are in specs/Log: what a line of a log is, the entries of a log, and the text of a call.
+-- The definitions to believe are in specs/Log: what a line of a log is, the entries of a log, and the text of a call; and in specs/Pieces what is held of the
+-- line being read, and which entries end in a piece.
 -- Assumes nothing.
 use Prim.Native.Nat.{ℕ, ◌≤◌, ◌<◌}
 use mathlib.Core.Logic.{◌↔◌}
@@ -11,7 +12,9 @@ use Rattle.model.specs.declared.Call.{Call}
 use Rattle.std.specs.Prelude.{Some, None}
 use Rattle.flight_log.specs.Log.{entry_of, entries, call_text, Small, Feedless, log_text, AllSmall}
 use Rattle.flight_log.proofs.Calls as calls
+use Rattle.flight_log.specs.Pieces.{entries_in, held_after, entry_left}
 use Rattle.flight_log.proofs.Lines as log_lines
+use Rattle.flight_log.proofs.Pieces as pieces
 
 -- A call is read from its text.
 pub reads_call : (c : Call) → Small c → entry_of (call_text c) ≡ Some c
@@ -56,3 +59,16 @@ entries_cut = log_lines.entries_cut
 -- A log that says calls has an entry for each, in order.
 pub entries_said : (cs : List Call) → AllSmall cs → entries (log_text cs) ≡ map Some cs
 entries_said = log_lines.entries_said
+
+-- PIECES
+
+-- Two pieces, one behind the other, have the entries of one, and the same is held behind them.
+pub entries_join : (l a b : List ℕ) → entries_in l (a ++ b) ≡ entries_in l a ++ entries_in (held_after l a) b
+entries_join = pieces.entries_join
+
+pub held_join : (l a b : List ℕ) → held_after l (a ++ b) ≡ held_after (held_after l a) b
+held_join = pieces.held_join
+
+-- The entries that end in the bytes of a whole log, and the one that is left at its end, are those of the log.
+pub entries_whole : (log : List ℕ) → entries_in [] log ++ entry_left (held_after [] log) ≡ entries log
+entries_whole = pieces.entries_whole

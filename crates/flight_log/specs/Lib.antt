@@ -1,1 +1,2 @@
 pub mod Log
+pub mod Pieces

@@ -1,12 +1,19 @@
-// The lines of a flight log (document 02, L1): which call a line says.
+// The lines of a flight log (document 02, L1): which call a line says, and the line being read of a log that comes in pieces.
 #![tactic(auto)]
 
 ghost use Rattle.std.specs.Prelude.{◌≡◌};
 ghost use Rattle.text.specs.Text.{line_of};
 ghost use Rattle.flight_log.specs.Log.{entry_of};
+ghost use Rattle.flight_log.specs.Pieces.{HeldLine};
 
 use model::Call;
 use text::matches;
+
+// How many bytes of a line are held: more than a line of the grammar has.
+pub const HELD: usize = 64;
+
+// How many bytes of a log are taken as a piece at most.
+pub const PIECE: usize = 4096;
 
 // The numbers of a log are below 2^64: the greatest of them.
 const GREATEST: u64 = u64::MAX;
@@ -24,4 +31,16 @@ pub fn read_entry(text: &[u8]) -> Option<Call>
     }
     let (f, _) = matches(text, 0, b"end E", GREATEST, &mut n)?;
     (!f.over).then_some(Call::End(n[0]))
+}
+
+// Holds a further byte of the line being read, if there is room, and gives how many are held.
+pub fn hold(line: &mut [u8], held: usize, b: u8) -> usize
+    ensures { HeldLine line.old held b line.new result }
+{
+    if held < line.len() {
+        line[held] = b;
+        held + 1
+    } else {
+        line.len()
+    }
 }

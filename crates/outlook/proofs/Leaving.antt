@@ -25,7 +25,8 @@ use Rattle.place.proofs.Views.{turned_suc}
 use Rattle.place.proofs.Suffixes.{suffix_headed, suffix_before, suffix_past, suffix_skip, suffix_first, first_own, first_flat, first_then, first_else}
 use Rattle.outlook.specs.declared.Quiet.{Quiet}
 use Rattle.outlook.specs.Quiets.{IsQuiet, still, QuietForms, PricedForms, priced_forms}
-use Rattle.outlook.specs.Private.{Low, beyond, mute_beyond, QuietParts, QuietBehind}
+use Rattle.outlook.specs.Quiets.{Low, beyond, mute_beyond}
+use Rattle.outlook.specs.Private.{QuietParts, QuietBehind}
 use Rattle.outlook.proofs.Quieting.{hush_as, hush_shut, low_of}
 use Rattle.outlook.proofs.Walking.{total_step, parts_if, priced_then, priced_else, priced_after}
 
@@ -85,21 +86,32 @@ module _ {c : PricedCode} {i e : ℕ} (lt : i < e) (h : PricedForms c i e) (p : 
   pub within_flat : (p ≡ i → ⊥) → (kind_at w i ≡ 3 → ⊥) → QuietBehind None k (first_form (priced_forms h)) p
   within_flat ne three = first_flat w h.piece.level i e here G p h.piece.part.rep lt ne three
 
-  pub within_then : {mid : ℕ} (r : RustOption Quiet) (ne : p ≡ i → ⊥) (three : kind_at w i ≡ 3) (hm : mid ≡ other_at w i) → p < mid →
-      ((x : PricedForms c (i + 1) mid) → QuietBehind r k (priced_forms x) p) → QuietBehind r k (first_form (priced_forms h)) p
+  -- In a part of the form.
+  pub then_part : {mid : ℕ} (ne : p ≡ i → ⊥) (three : kind_at w i ≡ 3) (hm : mid ≡ other_at w i) → p < mid →
+      (suffix (first_form (priced_forms h)) p ≡ suffix (priced_forms (priced_then lt h three hm).0) p) ×
+      (total k (priced_forms (priced_then lt h three hm).0) ≤ total k (first_form (priced_forms h)))
   unfolding priced_then
-  within_then r ne three hm lo u =
+  then_part ne three hm lo =
       let f = cond_at lt h.piece three in
       let z = suffix_before w h.piece.level (other_at w i) (after_at w i) f.else.lines G p f.else.rep (omega arith) in
-      behind_part k _ _ p r (first_then G p here _ _ _ _ f.shape ne z) (omega (arith, (parts_if k G here _ _ _ _ f.shape).2)) (u (priced_then lt h three hm).0)
+      (first_then G p here _ _ _ _ f.shape ne z, omega (arith, (parts_if k G here _ _ _ _ f.shape).2))
+
+  pub else_part : {mid en : ℕ} (ne : p ≡ i → ⊥) (three : kind_at w i ≡ 3) (hm : mid ≡ other_at w i) (he : en ≡ after_at w i) → mid ≤ p →
+      (suffix (first_form (priced_forms h)) p ≡ suffix (priced_forms (priced_else lt h three hm he).0) p) ×
+      (total k (priced_forms (priced_else lt h three hm he).0) ≤ total k (first_form (priced_forms h)))
+  unfolding priced_else
+  else_part ne three hm he ge =
+      let f = cond_at lt h.piece three in
+      let z = suffix_past w h.piece.level (i + 1) (other_at w i) f.then.lines G p f.then.rep (omega arith) in
+      (first_else G p here _ _ _ _ f.shape ne z, omega (arith, (parts_if k G here _ _ _ _ f.shape).2))
+
+  pub within_then : {mid : ℕ} (r : RustOption Quiet) (ne : p ≡ i → ⊥) (three : kind_at w i ≡ 3) (hm : mid ≡ other_at w i) → p < mid →
+      ((x : PricedForms c (i + 1) mid) → QuietBehind r k (priced_forms x) p) → QuietBehind r k (first_form (priced_forms h)) p
+  within_then r ne three hm lo u = let (z, le) = then_part ne three hm lo in behind_part k _ _ p r z le (u (priced_then lt h three hm).0)
 
   pub within_else : {mid en : ℕ} (r : RustOption Quiet) (ne : p ≡ i → ⊥) (three : kind_at w i ≡ 3) (hm : mid ≡ other_at w i) (he : en ≡ after_at w i) → mid ≤ p →
       ((x : PricedForms c mid en) → QuietBehind r k (priced_forms x) p) → QuietBehind r k (first_form (priced_forms h)) p
-  unfolding priced_else
-  within_else r ne three hm he ge u =
-      let f = cond_at lt h.piece three in
-      let z = suffix_past w h.piece.level (i + 1) (other_at w i) f.then.lines G p f.then.rep (omega arith) in
-      behind_part k _ _ p r (first_else G p here _ _ _ _ f.shape ne z) (omega (arith, (parts_if k G here _ _ _ _ f.shape).2)) (u (priced_else lt h three hm he).0)
+  within_else r ne three hm he ge u = let (z, le) = else_part ne three hm he ge in behind_part k _ _ p r z le (u (priced_else lt h three hm he).0)
 
 -- ALONG THE SIBLINGS
 

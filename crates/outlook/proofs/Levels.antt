@@ -28,7 +28,9 @@ use Rattle.place.proofs.Falling.{Top, top, top_headed, spanned, lower, head, hea
 use Rattle.outlook.specs.declared.Quiet.{Quiet}
 use Rattle.outlook.specs.Loads.{CostColumns}
 use Rattle.outlook.specs.Quiets.{IsQuiet, still, PricedForms, priced_forms}
-use Rattle.outlook.specs.Private.{beyond, mute_beyond, QuietBeyond, QuietBehind, PricedRun}
+use Rattle.outlook.specs.Quiets.{beyond, mute_beyond, QuietBeyond}
+use Rattle.outlook.specs.Loads.{PricedRun}
+use Rattle.outlook.specs.Private.{QuietBehind}
 use Rattle.outlook.proofs.Quieting.{hush_as, hush_shut, stop}
 use Rattle.outlook.proofs.Walking.{between}
 use Rattle.outlook.proofs.Leaving.{beyond-⊕, turned_beyond}
@@ -131,7 +133,7 @@ module _ {c : PricedCode} {leaves : List ℕ} {l : ℕ} (q : PricedRun c leaves 
       let le = q.least in
       fall_as (hush_shut z _ _ (l * limit) (λ s. (_, refl)) (λ d. ap (λ x. x && no_more (below at_top.under)) d) (omega arith) u)
 
-  bottom : (ks : Levels) → length ks ≡ 0 → ((s : ℕ) → still k (below ks) s ≡ s) × (no_more (below ks) ≡ true)
+  pub bottom : (ks : Levels) → length ks ≡ 0 → ((s : ℕ) → still k (below ks) s ≡ s) × (no_more (below ks) ≡ true)
   unfolding below still no_more
   bottom [] z = ((λ s. refl), refl)
   bottom (g ∷ ks) z = absurd (omega arith)
@@ -165,13 +167,13 @@ module _ {c : PricedCode} {leaves : List ℕ} {l : ℕ} (q : PricedRun c leaves 
   abbrev under : Levels
   under = (at_top q).under
 
-  looping : head_kind ≡ 2 → ((s : ℕ) → still cost (below under) s ≡ 0) × (no_more (below under) ≡ false)
+  pub looping : head_kind ≡ 2 → ((s : ℕ) → still cost (below under) s ≡ 0) × (no_more (below under) ≡ false)
   looping two =
       let t = head q.running q.least h in
       let (m, body, r, y) = head_loop q.running q.least h two in
       rw t.same (back_loop cost _ m body r t.place t.under y (head_point q.running q.least h))
 
-  calling : (head_kind ≡ 2 → ⊥) → ((s : ℕ) → still cost (below under) s ≡ beyond cost (whole under) s) × (no_more (below under) ≡ mute_beyond (whole under))
+  pub calling : (head_kind ≡ 2 → ⊥) → ((s : ℕ) → still cost (below under) s ≡ beyond cost (whole under) s) × (no_more (below under) ≡ mute_beyond (whole under))
   calling nay =
       let t = head q.running q.least h in
       let (fun, r, y) = head_call q.running q.least h nay in

@@ -171,7 +171,7 @@ module _ {c : PricedCode} {p : Plan} (a : Accepted p) (q : PlanPriced c p) where
   rounds_here f h = q.loads.rounds f h
 
   below_here : (f : ℕ) → f < count → Below count (get_or p.functions f close)
-  below_here f h = let s = table.each f h in rules_below s.piece.heights 62 1 count (get_or p.functions f close) s.few s.piece.part.rules
+  below_here f h = let s = table.each f h in rules_below s.piece.heights 62 1 count (get_or p.functions f close) (omega (arith, s.few)) s.piece.part.rules
 
   loads_here : Loads c funs (get_or starts count 0)
   loads_here = loads_of c count funs (λ f. get_or p.functions f close) q.lies.first (λ f h. function_in q.lies f h) rounds_here below_here totals
@@ -183,7 +183,7 @@ module _ {c : PricedCode} {p : Plan} (a : Accepted p) (q : PlanPriced c p) where
         count = omega (arith, q.functions_are, table.count);
         fits = omega (arith, q.functions_are, table.fits);
         funs = funs;
-        each = λ f h. let s = table.each f (omega (arith, q.functions_are)) in record { piece = s.piece; few = omega (arith, q.functions_are, s.few); same = s.same; room = s.room };
+        each = λ f h. let s = table.each f (omega (arith, q.functions_are)) in record { piece = s.piece; few = s.few; same = s.same; room = s.room };
         low = rw q.functions_are table.low;
         traceable = rw q.functions_are table.traceable;
       }
@@ -229,6 +229,15 @@ module _ {c : PricedCode} {p : Plan} (a : Accepted p) (q : PlanPriced c p) where
           };
           columns = columns_here;
         }
+
+    -- Its levels are these, and its records those of the plan.
+    pub place_levels : place_priced.decoded.levels ≡ ls
+    unfolding place_priced
+    place_levels = refl
+
+    pub place_records : place_priced.columns.records ≡ get_or starts count 0
+    unfolding place_priced columns_here
+    place_records = refl
 
     -- `at_report`: what lies ahead of what is left to run.
     pub at_report_is : (r : Ahead) → ((s : PlacePriced c x) → r ≡ ahead_at (cost_in c.cost) (whole s.decoded.levels)) → r ≡ ahead_at (cost_in c.cost) (whole ls)

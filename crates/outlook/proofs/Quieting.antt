@@ -7,7 +7,7 @@ use Rattle.std.specs.Prelude.{Some, None}
 use Rattle.std.specs.Prelude.{Option as RustOption}
 use Rattle.outlook.specs.declared.Quiet.{Quiet}
 use Rattle.outlook.specs.Quiets.{through, quiet_sum, IsQuiet}
-use Rattle.outlook.specs.Private.{roof, Low}
+use Rattle.outlook.specs.Quiets.{roof, Low}
 
 -- The same function, and a higher bound.
 pub hush_as : {q : Quiet} {f : ℕ → ℕ} {i : Bool} {m : ℕ} (g : ℕ → ℕ) {j : Bool} {n : ℕ} → IsQuiet q f i m → ((s : ℕ) → f s ≡ g s) → i ≡ j → m ≤ n → IsQuiet q g j n

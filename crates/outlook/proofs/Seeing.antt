@@ -33,7 +33,9 @@ use Rattle.place.proofs.Decode.{stands_traceable}
 use Rattle.outlook.specs.declared.Quiet.{Quiet}
 use Rattle.outlook.specs.Loads.{CodePriced, PlacePriced}
 use Rattle.outlook.specs.Quiets.{quiet_sum, IsQuiet, still, QuietForms, PricedForms, priced_forms}
-use Rattle.outlook.specs.Private.{Low, beyond, mute_beyond, QuietBeyond, HeadPriced, PricedRun, Sees}
+use Rattle.outlook.specs.Quiets.{Low, beyond, mute_beyond, QuietBeyond}
+use Rattle.outlook.specs.Loads.{PricedRun}
+use Rattle.outlook.specs.Private.{HeadPriced, Sees}
 use Rattle.outlook.proofs.Quieting.{low_of, stop}
 use Rattle.outlook.proofs.Stilling.{silence_still, Shown, shown_leaf, shown_cond, shown_call, shown_spent, shown_loop}
 use Rattle.outlook.proofs.Growing.{grows_still, grows_visit, ends_is}
@@ -74,7 +76,7 @@ inner_end w starts n leaves l m one h =
     let i : l + 1 - 1 ≡ l = omega arith in
     rw (o, i) at h
 
-open_loop : (m : ℕ) (body r : Forms) (b : Block) (g : Forms) → g ≡ loop b m body r → (m ≡ 0 → ⊥) → inside_of g ≡ some body
+pub open_loop : (m : ℕ) (body r : Forms) (b : Block) (g : Forms) → g ≡ loop b m body r → (m ≡ 0 → ⊥) → inside_of g ≡ some body
 unfolding inside_of
 open_loop zero body r b g z n = absurd (n refl)
 open_loop (suc m) body r b g z n = ap inside_of z
@@ -123,11 +125,11 @@ module _ {c : PricedCode} {x : Place} (q : PlacePriced c x) where
   abbrev left_over : Forms
   left_over = whole q.decoded.levels
 
-  left_as : (g : Forms) → front.place ≡ g → left_over ≡ g ⊕ below front.under
+  pub left_as : (g : Forms) → front.place ≡ g → left_over ≡ g ⊕ below front.under
   unfolding whole
   left_as g z = ap whole front.same ∙ ap (λ g. g ⊕ below front.under) z
 
-  left_traceable : Traceable left_over
+  pub left_traceable : Traceable left_over
   left_traceable = stands_traceable (main_forms q.decoded.table) x.leaves x.earlier q.decoded.levels (omega (arith, spot.stack.depth)) spot.stack.stands q.decoded.table.traceable
 
   -- The cost of the visit itself.
@@ -149,7 +151,7 @@ module _ {c : PricedCode} {x : Place} (q : PlacePriced c x) where
   falls_low u = let most = q.most in low_of u (omega arith)
 
   -- What is inside the form of the place.
-  inner_priced : (f : Forms) → inside_of front.place ≡ some f → Spanned w G c.code.functions (inner_from w c.code.bounds.now here) (inner_to w c.code.bounds.now here) f →
+  pub inner_priced : (f : Forms) → inside_of front.place ≡ some f → Spanned w G c.code.functions (inner_from w c.code.bounds.now here) (inner_to w c.code.bounds.now here) f →
       (inner_to w c.code.bounds.now here ≤ q.columns.records) × (total cost f ≤ limit)
   unfolding ground
   inner_priced f z sp =

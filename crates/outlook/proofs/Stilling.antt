@@ -11,7 +11,7 @@ use Rattle.model.specs.Stretch.{unless, silence, rounds_silence, visit_stretch}
 use Rattle.model.proofs.NoPoints.{silence_all, rounds_silence_point, rounds_silence_silent}
 use Rattle.model.proofs.Final.{no_more-⊕}
 use Rattle.outlook.specs.Quiets.{still}
-use Rattle.outlook.specs.Private.{beyond, mute_beyond}
+use Rattle.outlook.specs.Quiets.{beyond, mute_beyond}
 
 unless_pick : (p : Bool) (x y : ℕ) → (p ≡ false → x ≡ y) → unless p x ≡ pick p 0 y
 unless_pick true x y h = refl

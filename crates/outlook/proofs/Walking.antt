@@ -21,7 +21,8 @@ use Rattle.place.specs.Spans.{first_form}
 use Rattle.place.proofs.Shape.{cond_at, piece_after}
 use Rattle.outlook.specs.declared.Quiet.{Quiet}
 use Rattle.outlook.specs.Quiets.{IsQuiet, still, QuietForms, PricedForms, priced_forms}
-use Rattle.outlook.specs.Private.{Low, own, beyond, mute_beyond, QuietParts}
+use Rattle.outlook.specs.Quiets.{Low, beyond, mute_beyond}
+use Rattle.outlook.specs.Private.{own, QuietParts}
 use Rattle.outlook.proofs.Quieting.{hush_as, nothing, stop}
 
 point_of : {b c : Block} → b ≡ c → b.point ≡ c.point

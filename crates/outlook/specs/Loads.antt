@@ -9,6 +9,7 @@ use Rattle.rows.specs.Rows.{kind_at, detail_at, after_at, block_at, Piece}
 use Rattle.place.specs.declared.Place.{Place}
 use Rattle.place.specs.Stack.{Decoded}
 use Rattle.place.specs.Lent.{CodeTable, main_forms}
+use Rattle.place.specs.Spans.{Running}
 
 -- Where calls run the functions G: of each call among the first m records the total of the called function stands in the totals, and of each loop the sum of
 -- one round, condition and body, in the turns.
@@ -37,3 +38,10 @@ pub record PlacePriced (c : PricedCode) (p : Place) : Type 0 where
   pub most : p.level ≤ 32
   pub decoded : Decoded (numbers c.code.row.now) c.code.bounds.now c.code.functions p.leaves p.earlier p.level
   pub columns : CostColumns c decoded.table
+
+-- A run of the code stands at the leaf numbers, at level l, one of the 32, with the columns of one cost.
+pub record PricedRun (c : PricedCode) (leaves : List ℕ) (l : ℕ) : Type 0 where
+  pub least : 1 ≤ l
+  pub most : l ≤ 32
+  pub running : Running (numbers c.code.row.now) c.code.bounds.now c.code.functions leaves l
+  pub columns : CostColumns c running.table

@@ -1,6 +1,7 @@
--- How quiet forms are: their largest sum up to a point, as a function of what follows them; and forms of a code in their records.
+-- How quiet forms are: their largest sum up to a point, as a function of what follows them, the same behind the visit that they open with; and forms of a code
+-- in their records.
 -- Assumes nothing: these are definitions.
-use Rattle.std.specs.Prelude.{Some, None, Bool, false, List, ◌≡◌, ℕ, ◌+◌, ◌*◌, ◌≤◌, max, length}
+use Rattle.std.specs.Prelude.{Some, None, Bool, true, false, ◌&&◌, List, ◌≡◌, ℕ, ◌+◌, ◌*◌, ◌≤◌, max, length}
 use Rattle.std.specs.Prelude.{Option as RustOption}
 use Rattle.model.specs.Plan.{Block}
 use Rattle.model.specs.Forms.{Forms, done, leaf, call, loop, cond, forms}
@@ -56,3 +57,32 @@ pub record PricedForms (c : PricedCode) (i e : ℕ) : Type 0 where
 -- The forms that these records are.
 abbrev pub priced_forms : {c : PricedCode} {i e : ℕ} → PricedForms c i e → Forms
 priced_forms h = forms h.functions h.piece.part.lines
+
+-- 2^50: no sum over the levels of a place comes near it.
+abbrev pub roof : ℕ
+roof = 1125899906842624
+
+-- No sum of q is over the roof.
+pub record Low (q : Quiet) : Type 0 where
+  pub hit : q.hit ≤ roof
+  pub pass : (x : ℕ) → q.pass ≡ Some x → x ≤ roof
+
+-- The largest sum up to the next point or the end behind the visit that the forms open with, where a loop is left, a call is passed, and e follows the forms.
+unfoldable pub beyond : (Block → ℕ) → Forms → ℕ → ℕ
+beyond k done e = e
+beyond k (leaf b r) e = still k r e
+beyond k (call b fun r) e = still k r e
+beyond k (loop b n body r) e = still k r e
+beyond k (cond b t s r) e = max (still k t (still k r e)) (still k s (still k r e))
+
+-- No run meets a point behind that visit.
+unfoldable pub mute_beyond : Forms → Bool
+mute_beyond done = true
+mute_beyond (leaf b r) = no_more r
+mute_beyond (call b fun r) = no_more r
+mute_beyond (loop b n body r) = no_more r
+mute_beyond (cond b t s r) = (no_more t && no_more s) && no_more r
+
+-- q is the silence of the forms f behind the visit that they open with, and no sum of q is over m.
+abbrev pub QuietBeyond : Quiet → (Block → ℕ) → Forms → ℕ → Type 0
+QuietBeyond q k f m = IsQuiet q (λ s. beyond k f s) (mute_beyond f) m

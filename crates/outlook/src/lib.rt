@@ -12,9 +12,11 @@ ghost use Rattle.place.specs.Spans.{HeadEnterable, first_form};
 ghost use Rattle.outlook.specs.Loads.{CodePriced, PlacePriced};
 ghost use Rattle.outlook.specs.Ahead.{ahead_of, ahead_at};
 ghost use Rattle.outlook.specs.Quiets.{quiet_sum, IsQuiet, QuietForms};
-ghost use Rattle.outlook.specs.Private.{Low, own, QuietParts, QuietBeyond, QuietBehind};
+ghost use Rattle.outlook.specs.Quiets.{roof, Low, QuietBeyond};
+ghost use Rattle.outlook.specs.Private.{own, QuietParts, QuietBehind};
 ghost use Rattle.outlook.specs.Quiets.{PricedForms, priced_forms};
-ghost use Rattle.outlook.specs.Private.{HeadPriced, PricedRun, Sees};
+ghost use Rattle.outlook.specs.Loads.{PricedRun};
+ghost use Rattle.outlook.specs.Private.{HeadPriced, Sees};
 
 use place::{ByLevel, Place};
 use rows::{Kind, PricedCode};
@@ -88,6 +90,18 @@ impl Quiet {
             pass: self.pass.max(other.pass),
             mute: self.mute && other.mute,
         }
+    }
+
+    // The largest sum where what follows has the sum e.
+    pub fn sum(self, e: u64) -> u64
+        requires { Low self × (e ≤ roof) }
+        ensures { result ≡ quiet_sum self e }
+    {
+        let through = match self.pass {
+            Some(pass) => pass + e,
+            None => 0,
+        };
+        self.hit.max(through)
     }
 
     // What lies ahead where this follows a visit that costs m, down to the end.
@@ -219,7 +233,7 @@ fn enclosed(priced: &PricedCode, head: usize) -> Quiet
 }
 
 // How quiet it is once the form of the leaf at level l is left, level by level down to the end. (An open loop comes back to its condition, which is a point.)
-fn downward(priced: &PricedCode, leaves: &ByLevel, l: usize) -> Quiet
+pub fn downward(priced: &PricedCode, leaves: &ByLevel, l: usize) -> Quiet
     requires { PricedRun priced.now leaves.now l }
     ensures { (q : PricedRun priced.now leaves.now l)
         → QuietBeyond result (cost_in priced.now.cost) (whole q.running.levels) (l * limit) }

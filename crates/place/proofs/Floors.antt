@@ -42,7 +42,7 @@ module _ {w starts : List ℕ} {n : ℕ} (t : FunctionTable w starts n) {tails t
       record {
         lines = sp.piece.part.lines;
         same = sp.same;
-        calls = rules_below sp.piece.heights 62 sp.piece.level n sp.piece.part.lines sp.few sp.piece.part.rules;
+        calls = rules_below sp.piece.heights 62 sp.piece.level n sp.piece.part.lines (omega (arith, sp.few)) sp.piece.part.rules;
         priced = cs.priced f h;
       }
 

@@ -69,7 +69,8 @@ among_all w starts (l ∷ ls) k x h lo hi =
     ]
 
 module _ {w starts : List ℕ} (p : Plan) (a : Accepted p) (d : PlanIn w starts p) where
-  among_plan : (x : ℕ) → x < get_or starts (length p.functions) 0 → Among (block_at w x) (all_leaves p.functions)
+  -- A record is a leaf of the plan.
+  pub among_plan : (x : ℕ) → x < get_or starts (length p.functions) 0 → Among (block_at w x) (all_leaves p.functions)
   among_plan x h =
       let z : 0 + length p.functions ≡ length p.functions = omega arith in
       among_all w starts p.functions 0 x d.lie (omega (arith, d.first)) (rw z h)

@@ -152,13 +152,17 @@ view_headed (a_call k t r z) = rw z tt
 view_headed (a_loop k q cs le m s r z) = rw z tt
 view_headed (an_if k t s r z) = rw z tt
 
+-- Calls that name one of the first functions name one of more.
+spanned_more : {w : List ℕ} {G : List Forms} {k i e : ℕ} {f : Forms} (m : ℕ) → k ≤ m → Spanned w G k i e f → Spanned w G m i e f
+spanned_more m le s = record { piece = s.piece; few = omega (arith, s.few); same = s.same; room = s.room }
+
 -- Inside the loop or call that a level opens with.
 module _ {w starts : List ℕ} {n : ℕ} (pr : FunctionTable w starts n) where
   pub open_call : (p e : ℕ) → kind_at w p ≡ 1 → detail_at w p < n → p < e → e * 8 ≤ length w →
       Spanned w pr.funs n (inner_from w starts p) (inner_to w starts p) (get_or pr.funs (detail_at w p) done) × Enterable w starts p
   open_call p e k t lt room =
       let o : eqb (kind_at w p) 2 ≡ false = ne_eqb (kind_at w p) 2 (λ y. omega arith) in
-      let sp = pr.each (detail_at w p) t in
+      let sp = spanned_more n (omega arith) (pr.each (detail_at w p) t) in
       (rw o sp, record { room = omega arith; target = λ y. omega (arith, pr.fits) })
 
   pub open_loop : (p e : ℕ) → kind_at w p ≡ 2 → (q : Piece w 62 (p + 1) (after_at w p)) → length q.heights ≤ n → after_at w p ≤ e → p < e → e * 8 ≤ length w →
@@ -194,7 +198,7 @@ module _ {w starts : List ℕ} {n : ℕ} (pr : FunctionTable w starts n) where
   pub main_spanned : {i e : ℕ} → i ≡ get_or starts (n - 1) 0 → e ≡ get_or starts n 0 → Spanned w pr.funs n i e (get_or pr.funs (n - 1) done)
   main_spanned hi he =
       let h : n - 1 + 1 ≡ n = omega (arith, pr.count) in
-      let sp = rw h at (pr.each (n - 1) (omega (arith, pr.count))) in
+      let sp = rw h at (spanned_more n (omega arith) (pr.each (n - 1) (omega (arith, pr.count)))) in
       rw (hi, he) sp
 
   pub level_spanned : (leaves counts : List ℕ) (ks : Levels) → Stands (get_or pr.funs (n - 1) done) leaves counts ks → (f : Forms) → ground (get_or pr.funs (n - 1) done) ks ≡ some f →

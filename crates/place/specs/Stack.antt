@@ -17,12 +17,12 @@ Shallow left (call b fun r) = (1 ≤ left) × Shallow (left - 1) fun × Shallow 
 Shallow left (loop b n body r) = (1 ≤ left) × Shallow (left - 1) body × Shallow left r
 Shallow left (cond b t e r) = (1 ≤ left) × Shallow left t × Shallow left e × Shallow left r
 
--- A table: n functions in the row, the last of which is the main one.
+-- A table: n functions in the row, the last of which is the main one; each calls earlier ones alone (rule 6).
 pub record FunctionTable (w starts : List ℕ) (n : ℕ) : Type 0 where
   pub count : 1 ≤ n
   pub fits : n < length starts
   pub funs : List Forms
-  pub each : (f : ℕ) → f < n → Spanned w funs n (get_or starts f 0) (get_or starts (f + 1) 0) (get_or funs f done)
+  pub each : (f : ℕ) → f < n → Spanned w funs f (get_or starts f 0) (get_or starts (f + 1) 0) (get_or funs f done)
   pub low : Shallow 32 (get_or funs (n - 1) done)
   pub traceable : Traceable (get_or funs (n - 1) done)
 

@@ -1,4 +1,4 @@
--- Lines worked through: plan A's listing and answers of 01, one for each case, a refused plan, and the ends of the ranges. Each is a computation.
+-- Lines worked through: plan A's listing and answers of 01, one for each case, a cause, a refused plan, and the ends of the ranges. Each is a computation.
 -- Assumes nothing.
 use Prim.Native.Nat.{◌-◌, ◌^◌}
 use mathlib.Core.Path.{◌≡◌, refl}
@@ -11,7 +11,7 @@ use Rattle.model.specs.declared.Refusal.TheVariants.{Astray}
 use Rattle.model.specs.declared.Word.TheVariants.{Go, Suspend, Stay, Resume}
 use Rattle.model.specs.declared.Ending.TheVariants.{Resumed, Ended}
 use Rattle.model.specs.declared.Answer.TheVariants.{Refused, Decided, Closed}
-use Rattle.print.specs.Lines.{number_field, number_fields, signed_field, late_mark, word_text, ending_text, numbers_line, task_line, point_line}
+use Rattle.print.specs.Lines.{number_field, number_fields, signed_field, late_mark, word_text, ending_text, numbers_line, task_line, point_line, plain_line}
 use Rattle.print.specs.Lines.{refused_plan_line, answer_line}
 
 -- The listing of plan A, and its first line in edition 2, where U is 3, and where it is 0.
@@ -34,6 +34,15 @@ point_a = refl
 point_b : point_line (1 ∷ 1 ∷ 44 ∷ 24 ∷ []) ≡ bytes "point 1 1 44 24\n"
 unfolding numbers_line number_fields flat_map number_field decimal numerals
 point_b = refl
+
+-- The last line of a cause on plan A, and a line of one number.
+cause_a : plain_line 100 (28 ∷ 44 ∷ 4 ∷ []) ≡ bytes "100 28 44 4\n"
+unfolding numbers_line number_fields flat_map number_field decimal numerals
+cause_a = refl
+
+alone : plain_line 0 [] ≡ bytes "0\n"
+unfolding numbers_line number_fields flat_map decimal numerals
+alone = refl
 
 -- A bound of 0 in the fourth line.
 refused_plan : refused_plan_line 3 4 ≡ bytes "refused 3 4\n"

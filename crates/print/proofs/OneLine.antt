@@ -13,7 +13,9 @@ use Rattle.model.specs.declared.Ending.TheVariants.{Resumed, Ended}
 use Rattle.model.specs.declared.Answer.{Answer}
 use Rattle.model.specs.declared.Answer.TheVariants.{Refused, Decided, Closed}
 use Rattle.model.specs.Refusals.{number_of}
+use Rattle.text.specs.Spelling.{decimal}
 use Rattle.print.specs.Lines.{number_field, signed_field, late_mark, word_text, ending_text, answer_line, ticks_line}
+use Rattle.print.proofs.Laws.{two_numbers}
 
 -- Words and fields have no line feed.
 ends_word : (w : Word) (r : List ℕ) → ends (word_text w ++ r) ≡ ends r
@@ -52,9 +54,10 @@ ends_answer (Decided w r m late) =
 ends_answer (Closed e late) = ends_end e late
 
 ends_ticks : (a b c : ℕ) → ends (ticks_line a b c) ≡ true
-unfolding ticks_line ends nothing
+unfolding ends nothing
 ends_ticks a b c =
-    ends_decimal a (number_field b ++ (number_field c ++ (10 ∷ []))) ∙ (ends_field b (number_field c ++ (10 ∷ [])) ∙ ends_field c (10 ∷ []))
+    rw (two_numbers (decimal a) b c)
+    (ends_decimal a (number_field b ++ (number_field c ++ (10 ∷ []))) ∙ (ends_field b (number_field c ++ (10 ∷ [])) ∙ ends_field c (10 ∷ [])))
 
 -- An answer in front of a text is its first line.
 pub lines_answer : (a : Answer) (t : List ℕ) → lines (answer_line a ++ t) ≡ answer_line a ∷ lines t

@@ -1,7 +1,7 @@
--- The lines that the programs print (01, 'Calls' and 'Plans worked through'; 02, L1 and L7).
+-- The lines that the programs print (01, 'Calls' and 'Plans worked through'; 02, L1, L7 and L9).
 -- Assumes nothing: these are definitions.
 use Rattle.std.specs.Prelude.{ℕ, suc, Bool, true, false, ℤ, pos, negsuc}
-use mathlib.Core.List.{List, ◌++◌, flat_map}
+use mathlib.Core.List.{List, [], ◌∷◌, ◌++◌, flat_map}
 use Rattle.text.specs.Text.{bytes}
 use Rattle.text.specs.Spelling.{decimal}
 use Rattle.model.specs.declared.Word.{Word}
@@ -54,6 +54,10 @@ task_line = numbers_line (bytes "task")
 abbrev pub point_line : List ℕ → List ℕ
 point_line = numbers_line (bytes "point")
 
+-- A line of numbers alone, of which the first stands where others have a word.
+abbrev pub plain_line : ℕ → List ℕ → List ℕ
+plain_line first = numbers_line (decimal first)
+
 -- The line of a refused plan: the refusal's number and the plan's line.
 unfoldable pub refused_plan_line : ℕ → ℕ → List ℕ
 refused_plan_line number line = bytes "refused" ++ (number_field number ++ (number_field line ++ bytes "\n"))
@@ -66,5 +70,5 @@ answer_line (Decided w remaining margin late) = word_text w ++ (number_field rem
 answer_line (Closed w late) = ending_text w ++ late_mark late
 
 -- The ticks of a release (02, L1): shared, suspended and their sum.
-unfoldable pub ticks_line : ℕ → ℕ → ℕ → List ℕ
-ticks_line shared suspended sum = decimal shared ++ (number_field suspended ++ (number_field sum ++ bytes "\n"))
+abbrev pub ticks_line : ℕ → ℕ → ℕ → List ℕ
+ticks_line shared suspended sum = plain_line shared (suspended ∷ sum ∷ [])

@@ -1,5 +1,5 @@
-// The lines that the programs print (document 01, 'Calls' and 'Plans worked through'; document 02, L1), each at a place of a lent buffer, as far as it has
-// room.
+// The lines that the programs print (document 01, 'Calls' and 'Plans worked through'; document 02, L1 and L9), each at a place of a lent buffer, as far as it
+// has room.
 // A buffer and a place go in and the next place comes out, with no struct of both: callers carry the place on, and each line would make and undo it.
 // No `Display`: what is written is cut at the end of a lent buffer, and a writer that cuts would be this crate again, with `write!` around it.
 #![tactic(auto)]
@@ -8,7 +8,7 @@ ghost use Rattle.std.specs.Prelude.{◌≡◌, [], ◌∷◌, ◌+◌, ◌*◌, 
 ghost use Rattle.text.specs.Spelling.{decimal};
 ghost use Rattle.print.specs.Printed.{Printed, PrintedWithin};
 ghost use Rattle.print.specs.Lines.{number_field, signed_field, late_mark, word_text, ending_text, number_fields};
-ghost use Rattle.print.specs.Lines.{numbers_line, refused_plan_line, ticks_line, answer_line};
+ghost use Rattle.print.specs.Lines.{numbers_line, plain_line, refused_plan_line, ticks_line, answer_line};
 
 use model::{Answer, Ending, Word};
 use text::TEN;
@@ -129,13 +129,20 @@ pub fn refused_plan_line(out: &mut [u8], at: usize, number: u64, line: u64) -> u
     numbers_line(out, at, b"refused", &[number, line])
 }
 
+// Writes a line of numbers alone at a place, and gives the place after it.
+pub fn plain_line(out: &mut [u8], at: usize, first: u64, others: &[u64]) -> usize
+    ensures { PrintedWithin (20 + (length others.now * 21 + 1)) out.old at (plain_line first others.now) out.new result }
+{
+    let start = put_number(out, at, first);
+    let end = put_fields(out, start, others);
+    put_byte(out, end, b'\n')
+}
+
 // Writes the ticks of a release at a place: shared, suspended and their sum; and gives the place after them.
 pub fn ticks_line(out: &mut [u8], at: usize, shared: u64, suspended: u64, sum: u64) -> usize
     ensures { PrintedWithin 63 out.old at (ticks_line shared suspended sum) out.new result }
 {
-    let first = put_number(out, at, shared);
-    let end = put_fields(out, first, &[suspended, sum]);
-    put_byte(out, end, b'\n')
+    plain_line(out, at, shared, &[suspended, sum])
 }
 
 // Writes the line of an answer at a place, and gives the place after it.

@@ -5,12 +5,13 @@
 ghost use Rattle.std.specs.Prelude.{◌≤◌, length};
 
 use files::{NAME, Opened};
+use flight_log::PIECE;
 use print::{SIZE, refused_plan_line};
 use reader::{RefusedAt, TEXT};
 use rows::{Leaf, MAX_LEAVES};
 use std::io::Read;
 use table::{Head, read};
-use transcript::{ANSWERS, PIECE, Replay, close, feed, start};
+use transcript::{ANSWERS, Replay, close, feed, start};
 
 // The argument that names the plan.
 const PLAN: usize = 1;

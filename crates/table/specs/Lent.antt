@@ -1,10 +1,13 @@
 -- The row of leaf records that the caller lends (01: 'The table is a row of at most 512 leaf records lent by the caller, with the deadline, costs and
 -- function bounds beside it'): the table that a row and a head stand for, the leaves of a table, and the row once a plan was read.
 -- Assumes nothing: these are definitions.
-use Rattle.std.specs.Prelude.{List, [], ◌∷◌, ◌++◌, ℕ, zero, suc, ◌+◌, get_or, drop}
+use Rattle.std.specs.Prelude.{◌≡◌, List, [], ◌∷◌, ◌++◌, ℕ, zero, suc, ◌+◌, get_or, drop}
 use Rattle.model.specs.Acceptance.{sizes}
 use Rattle.reader.specs.Outcome.{Outcome, plan, refused}
 use Rattle.rows.specs.declared.Leaf.{Leaf}
+use Rattle.rows.specs.declared.Code.{Code}
+use Rattle.rows.specs.declared.Cost.TheVariants.{MaxLoad}
+use Rattle.rows.specs.declared.PricedCode.{PricedCode}
 use Rattle.rows.specs.Rows.{kind_at, point_at, isolated_at, max_load_at, detail_at, other_at, after_at, level_at}
 use Rattle.rows.specs.Leaves.{numbers, lent_turns, lent_tails, lent_max_load_turns}
 use Rattle.table.specs.declared.Head.{Head}
@@ -41,3 +44,9 @@ leaves_from t i (suc n) = leaf_of t i ∷ leaves_from t (i + 1) n
 abbrev pub row_after : Outcome → List Leaf → List Leaf
 row_after (plan p) ls = leaves_from (table_of p) 0 (sizes p.functions) ++ drop (sizes p.functions) ls
 row_after (refused k j) ls = ls
+
+-- The code of a table beside its head, at the max-load cost.
+pub record AtMaxLoad (h : Head) (code : Code) (c : PricedCode) : Type 0 where
+  pub code_is : c.code ≡ code
+  pub cost_is : c.cost ≡ MaxLoad
+  pub totals_are : c.totals.now ≡ h.max_load_totals

@@ -7,7 +7,7 @@ ghost use Rattle.model.specs.Acceptance.{sizes};
 ghost use Rattle.rows.specs.Answers.{Says};
 ghost use Rattle.structure.specs.Plans.{CodeStructured};
 ghost use Rattle.table.specs.Table.{edition_of, zero_head, good};
-ghost use Rattle.table.specs.Lent.{table_with, row_after};
+ghost use Rattle.table.specs.Lent.{table_with, row_after, AtMaxLoad};
 ghost use Rattle.table.specs.Reading.{judged, verdict, result_of, RawOf, ColumnsWritten};
 ghost use Rattle.table.specs.Private.{HeadRanged, Derives, Agrees, headed, filled};
 
@@ -61,6 +61,17 @@ impl Head {
             row: &row[..self.leaves],
             bounds: &self.bounds,
             functions: self.functions,
+        }
+    }
+
+    // The code of this table at the max-load cost, which is what a stretch sums.
+    pub fn at_max_load<'a>(&'a self, code: Code<'a>) -> PricedCode<'a>
+        ensures { AtMaxLoad self.now code.entry result }
+    {
+        PricedCode {
+            code,
+            cost: Cost::MaxLoad,
+            totals: &self.max_load_totals,
         }
     }
 }
@@ -188,11 +199,7 @@ fn agrees(code: &Code, head: &Head) -> bool
         → sizes p.functions ≡ head.now.leaves → Says result (Agrees p code.now.row.now head.now) }
 {
     let last = code.functions - 1;
-    let priced = PricedCode {
-        code: *code,
-        cost: Cost::MaxLoad,
-        totals: &head.max_load_totals,
-    };
+    let priced = head.at_max_load(*code);
     tails_agree(code, &head.totals)
         && sums_agree(&priced)
         && stands(head, head.totals[last], head.max_load_totals[last])

@@ -1,7 +1,7 @@
 -- Plan A's worst case (01, 'Plans worked through'), replayed: the others run up to the third visit of the loop, at 57, and are suspended from there to the
 -- end, at 81. The same with U 3 (02, L7): they resume at the fourth visit, at 73, and run from there to the end, at 88. Logs and texts are worked out by
 -- hand. Assumes nothing.
-use mathlib.Core.List.{List, []}
+use mathlib.Core.List.{List, [], flat_map}
 use mathlib.Core.Path.{◌≡◌, refl, sym, ap, ◌∙◌}
 use Prim.Native.Nat.{ℕ}
 use native.Mathlib.Omega.{arith}
@@ -15,7 +15,7 @@ use Rattle.reader.specs.Outcome.{plan}
 use Rattle.reader.specs.Print.{print}
 use Rattle.table.specs.Table.{table_of}
 use Rattle.table.proofs.Theorems.{read_as_plan}
-use Rattle.print.specs.Lines.{number_field, signed_field, late_mark, word_text, ending_text, answer_line, ticks_line}
+use Rattle.print.specs.Lines.{number_field, number_fields, signed_field, late_mark, word_text, ending_text, numbers_line, answer_line}
 use Rattle.flight_log.specs.Log.{call_text, log_text, AllSmall}
 use Rattle.control.specs.State.{fresh}
 use Rattle.control.specs.Calls.{controller_of}
@@ -44,7 +44,7 @@ unfolding worst_of_A log_text call_text decimal numerals
 says_worst = refl
 
 prints_worst : answers_told [] worst_of_A ≡ worst_text
-unfolding worst_of_A answers_told shared suspended answer_line ticks_line number_field signed_field late_mark word_text ending_text decimal numerals
+unfolding worst_of_A answers_told shared suspended answer_line numbers_line number_fields flat_map number_field signed_field late_mark word_text ending_text decimal numerals
 prints_worst = refl
 
 worst_small : AllSmall (calls_of worst_of_A)
@@ -70,7 +70,7 @@ unfolding worst_of_returning_A log_text call_text decimal numerals
 says_return = refl
 
 prints_return : answers_told [] worst_of_returning_A ≡ return_text
-unfolding worst_of_returning_A answers_told shared suspended answer_line ticks_line number_field signed_field late_mark word_text ending_text decimal numerals
+unfolding worst_of_returning_A answers_told shared suspended answer_line numbers_line number_fields flat_map number_field signed_field late_mark word_text ending_text decimal numerals
 prints_return = refl
 
 return_small : AllSmall (calls_of worst_of_returning_A)

@@ -2,7 +2,6 @@
 use Prim.Native.Nat.{ℕ, ◌+◌}
 use mathlib.Core.Path.{◌≡◌, refl, sym, ap, ◌∙◌}
 use mathlib.Core.List.{List, [], ◌∷◌, ◌++◌, append_assoc, append-nil}
-use native.Mathlib.Omega.{arith}
 use lib.ListN.{length, take}
 use lib.Seq.{take_all}
 use Rattle.text.specs.Text.{lines}
@@ -19,32 +18,33 @@ use Rattle.table.specs.Table.{Table, head_of}
 use Rattle.table.specs.Reading.{verdict, head_after}
 use Rattle.table.specs.Lent.{table_with, row_after}
 use Rattle.table.proofs.Theorems.{read_back}
-use Rattle.print.specs.Printed.{PrintedWithin}
 use Rattle.print.specs.Lines.{answer_line, refused_plan_line}
-use Rattle.print.proofs.Laws.{all_of}
 use Rattle.print.proofs.OneLine.{lines_answer, lines_ticks}
-use Rattle.print.proofs.Theorems.{begins}
+use Rattle.print.proofs.Theorems.{handed}
 use Rattle.model.specs.declared.Call.{Call}
 use Rattle.std.specs.Prelude.{Option}
-use Rattle.transcript.specs.Transcript.{reply_to, shared, suspended, ticks, after_end, Progress, next_progress, told, at_first}
+use Rattle.flight_log.specs.Pieces.{entries_in, held_after, whole_log}
+use Rattle.flight_log.proofs.Theorems.{entries_join, held_join}
+use Rattle.transcript.specs.Transcript.{reply_to, shared, suspended, ticks, after_end, Progress, next_progress, told}
 use Rattle.transcript.specs.Transcript.{transcript, replayed, replay}
-use Rattle.transcript.specs.Pieces.{Carried, begin, piece_told, piece_after, close_told, PrintedOf, ended, piece, whole_log}
+use Rattle.transcript.specs.Pieces.{Carried, begin, entries_told, ticked_after, piece_told, piece_after, close_told, PrintedOf, ended, piece}
 use Rattle.transcript.proofs.Feeding.{told_join, after_join}
 use Rattle.transcript.proofs.Replaying.{spoken}
 
 -- PIECES
 
--- The bytes that are handed over are the text that was written.
-handed : {old text new : List ℕ} {n : ℕ} → length old ≡ 524288 → PrintedWithin 524288 old 0 text new n → take n new ≡ text
-handed {old} {text} {new} {n} room p =
-    let (stored, (size, fits)) = all_of {most = 524288} (omega arith) room p in
-    ap (λ m. take m new) size ∙ (ap (take (length text)) stored ∙ begins text old (omega arith))
+-- Two pieces, one behind the other, are answered as one, and what is carried on is the same.
+pieces_told : (t : Table) (c : Carried) (a b : List ℕ) → piece_told t c (a ++ b) ≡ piece_told t c a ++ piece_told t (piece_after t c a) b
+pieces_told t c a b = ap (entries_told t c.before) (entries_join c.line a b) ∙ told_join t c.before (entries_in c.line a) _
+
+pieces_after : (t : Table) (c : Carried) (a b : List ℕ) → piece_after t c (a ++ b) ≡ piece_after t (piece_after t c a) b
+pieces_after t c a b = rw (held_join c.line a b, entries_join c.line a b, after_join t c.before (entries_in c.line a) (entries_in (held_after c.line a) b)) refl
 
 -- What is printed of pieces is what is printed of the log that they are of.
 pub of_whole : {t : Table} {c : Carried} {ps : List (List ℕ)} {out : List ℕ} → PrintedOf t c ps out →
     out ≡ piece_told t c (whole_log ps) ++ close_told (piece_after t c (whole_log ps))
 unfolding whole_log
-of_whole (ended room h) = unfold piece_told piece_after in handed room h.told
+of_whole (ended room h) = unfold entries_in held_after entries_told ticked_after in handed room h.told
 of_whole {t} {c} (piece {p} {new} {f} {ps} {text} short room h rest) =
     let log = whole_log ps in
     let all : take 4096 p ≡ p = take_all 4096 p short in
@@ -56,13 +56,13 @@ of_whole {t} {c} (piece {p} {new} {f} {ps} {text} short room h rest) =
     ap (λ (l : List ℕ). l ++ text) first ∙
     (ap (λ (l : List ℕ). piece_told t c p ++ l) behind ∙
     (sym (append_assoc (piece_told t c p) (piece_told t on log) (close_told (piece_after t on log))) ∙
-    (ap (λ (l : List ℕ). l ++ close_told (piece_after t on log)) (sym (told_join t c p log)) ∙
-    ap (λ k. piece_told t c (p ++ log) ++ close_told k) (sym (after_join t c p log)))))
+    (ap (λ (l : List ℕ). l ++ close_told (piece_after t on log)) (sym (pieces_told t c p log)) ∙
+    ap (λ k. piece_told t c (p ++ log) ++ close_told k) (sym (pieces_after t c p log)))))
 
 -- It is the replay on that table.
 pub printed_transcript : (t : Table) (ps : List (List ℕ)) (out : List ℕ) → PrintedOf t begin ps out → out ≡ transcript t (whole_log ps)
 unfolding transcript
-printed_transcript t ps out p = of_whole p ∙ spoken t (whole_log ps) [] at_first.state at_first.accepted 0 tt tt
+printed_transcript t ps out p = of_whole p ∙ spoken t (whole_log ps)
 
 -- THE TABLE OF A PLAN THAT WAS READ
 

@@ -34,9 +34,10 @@ use Rattle.control.specs.Calls.{controller_of}
 use Rattle.print.specs.Lines.{answer_line, refused_plan_line}
 use Rattle.std.specs.Prelude.{Option, Some}
 use Rattle.flight_log.specs.Log.{entry_of, call_text, Small, log_text, AllSmall}
+use Rattle.flight_log.specs.Pieces.{whole_log}
 use Rattle.transcript.specs.Transcript.{reply_to, shares, gap, shared, suspended, ticks, after_end, Progress, next_progress, progress_after}
 use Rattle.transcript.specs.Transcript.{told, at_first, transcript, replay, answers_told}
-use Rattle.transcript.specs.Pieces.{begin, PrintedOf, whole_log}
+use Rattle.transcript.specs.Pieces.{begin, PrintedOf}
 use Rattle.transcript.proofs.Counting as counting
 use Rattle.transcript.proofs.Printing as printing
 use Rattle.transcript.proofs.Said as said

@@ -1,9 +1,7 @@
--- The replay of a log that comes in pieces: what the code answers and carries on, byte by byte. The theorems say that it is the replay of the whole log.
+-- The replay of a log that comes in pieces: what the code answers and carries on, piece by piece. The theorems say that it is the replay of the whole log.
 -- Assumes nothing: these are definitions.
-use Rattle.std.specs.Prelude.{ℕ, ◌+◌, ◌-◌, ◌≤◌, ◌≡◌, List, [], ◌∷◌, ◌++◌, length, take, eqb}
-use Rattle.text.specs.Text.{line_of}
+use Rattle.std.specs.Prelude.{ℕ, ◌+◌, ◌-◌, ◌≤◌, ◌≡◌, List, [], ◌∷◌, ◌++◌, length, take}
 use Rattle.model.specs.declared.Refusal.TheVariants.{Garbled}
-use Rattle.model.specs.Places.{pick}
 use Rattle.model.specs.declared.Call.{Call}
 use Rattle.model.specs.declared.Call.TheVariants.{Release, Report, End}
 use Rattle.model.specs.declared.Answer.{Answer}
@@ -17,23 +15,27 @@ use Rattle.control.specs.State.{fresh}
 use Rattle.print.specs.Lines.{answer_line, ticks_line}
 use Rattle.print.specs.Printed.{PrintedWithin}
 use Rattle.std.specs.Prelude.{Option, Some, None}
-use Rattle.flight_log.specs.Log.{entry_of}
+use Rattle.flight_log.specs.Pieces.{entries_in, held_after}
 use Rattle.transcript.specs.declared.Replay.{Replay}
 use Rattle.transcript.specs.declared.Fed.{Fed}
 use Rattle.transcript.specs.Transcript.{reply_to, reading_of}
 
--- What is carried from byte to byte: the first bytes of the line being read, the state, and the ticks shared since the release.
-pub record Carried : Type 0 where
-  pub line : List ℕ
+-- What the lines so far came to: the state, and the ticks shared since the release.
+pub record Ticked : Type 0 where
   pub state : State
   pub shared : ℕ
 
+-- What is carried from piece to piece: the bytes held of the line being read, and what the lines before it came to.
+pub record Carried : Type 0 where
+  pub line : List ℕ
+  pub before : Ticked
+
 abbrev pub carried_of : Replay → Carried
-carried_of r = record { line = take r.held r.line; state = r.state; shared = r.shared }
+carried_of r = record { line = take r.held r.line; before = record { state = r.state; shared = r.shared } }
 
 -- Before the first byte.
 abbrev pub begin : Carried
-begin = record { line = []; state = fresh; shared = 0 }
+begin = record { line = []; before = record { state = fresh; shared = 0 } }
 
 -- The ticks shared up to a reading: all but those that were suspended up to the last one, or, where the others are suspended, as many as before.
 abbrev pub shared_to : Others → ℕ → ℕ → ℕ → ℕ
@@ -79,33 +81,24 @@ entry_ticks t s shared None = []
 abbrev pub entry_told : Table → State → ℕ → Option Call → List ℕ
 entry_told t s shared e = answer_line (reply_to t s e).answer ++ entry_ticks t s shared e
 
-abbrev pub entry_after : Table → State → ℕ → Option Call → Carried
-entry_after t s shared e = record { line = []; state = (reply_to t s e).state; shared = entry_shared t s shared e }
+abbrev pub next_ticked : Table → Ticked → Option Call → Ticked
+next_ticked t x e = record { state = (reply_to t x.state e).state; shared = entry_shared t x.state x.shared e }
 
--- A byte more of the line: 64 bytes of it are held, more than a line of the grammar has.
-abbrev pub held_with : List ℕ → ℕ → List ℕ
-held_with l b = take 64 (l ++ (b ∷ []))
+-- Some lines more.
+unfoldable pub entries_told : Table → Ticked → List (Option Call) → List ℕ
+entries_told t x [] = []
+entries_told t x (e ∷ es) = entry_told t x.state x.shared e ++ entries_told t (next_ticked t x e) es
 
--- A byte more: a line feed ends the line.
-abbrev pub ended_entry : Carried → ℕ → Option Call
-ended_entry c b = entry_of (line_of (held_with c.line b))
+unfoldable pub ticked_after : Table → Ticked → List (Option Call) → Ticked
+ticked_after t x [] = x
+ticked_after t x (e ∷ es) = ticked_after t (next_ticked t x e) es
 
-abbrev pub byte_told : Table → Carried → ℕ → List ℕ
-byte_told t c b = pick (eqb b 10) (entry_told t c.state c.shared (ended_entry c b)) []
+-- A piece more: the lines that end in it.
+abbrev pub piece_told : Table → Carried → List ℕ → List ℕ
+piece_told t c bs = entries_told t c.before (entries_in c.line bs)
 
-abbrev pub byte_after : Table → Carried → ℕ → Carried
-byte_after t c b =
-    pick (eqb b 10) (entry_after t c.state c.shared (ended_entry c b))
-    (record { line = held_with c.line b; state = c.state; shared = c.shared })
-
--- A piece more.
-unfoldable pub piece_told : Table → Carried → List ℕ → List ℕ
-piece_told t c [] = []
-piece_told t c (b ∷ bs) = byte_told t c b ++ piece_told t (byte_after t c b) bs
-
-unfoldable pub piece_after : Table → Carried → List ℕ → Carried
-piece_after t c [] = c
-piece_after t c (b ∷ bs) = piece_after t (byte_after t c b) bs
+abbrev pub piece_after : Table → Carried → List ℕ → Carried
+piece_after t c bs = record { line = held_after c.line bs; before = ticked_after t c.before (entries_in c.line bs) }
 
 -- The end of the log: a line that was begun has no line feed, and is refused by 18.
 abbrev pub cut_told : List ℕ → List ℕ
@@ -136,8 +129,3 @@ pub data PrintedOf (t : Table) : Carried → List (List ℕ) → List ℕ → Ty
   ended : {c : Carried} {old new : List ℕ} {n : ℕ} → length old ≡ 524288 → ClosedLog old c new n → PrintedOf t c [] (take n new)
   piece : {c : Carried} {p old new : List ℕ} {f : Fed} {ps : List (List ℕ)} {text : List ℕ} → length p ≤ 4096 → length old ≡ 524288 →
       FedPiece old t c p new f → PrintedOf t (carried_of f.replay) ps text → PrintedOf t c (p ∷ ps) (take f.size new ++ text)
-
--- The log that the pieces are of.
-unfoldable pub whole_log : List (List ℕ) → List ℕ
-whole_log [] = []
-whole_log (p ∷ ps) = p ++ whole_log ps

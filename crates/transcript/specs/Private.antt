@@ -1,6 +1,6 @@
 -- What only the private functions promise. Nothing of this stands in the contracts of `start`, `feed` and `close`.
 -- Assumes nothing: these are definitions.
-use Rattle.std.specs.Prelude.{ℕ, ◌≤◌, ◌≡◌, List, [], ◌∷◌, ◌++◌, length, take}
+use Rattle.std.specs.Prelude.{ℕ, ◌≡◌, List}
 use Rattle.table.specs.Table.{Table}
 use Rattle.model.specs.declared.Call.{Call}
 use Rattle.std.specs.Prelude.{Option}
@@ -9,12 +9,6 @@ use Rattle.transcript.specs.declared.Told.{Told}
 use Rattle.transcript.specs.declared.Fed.{Fed}
 use Rattle.transcript.specs.Transcript.{reply_to}
 use Rattle.transcript.specs.Pieces.{entry_told, entry_shared}
-
--- A byte was held behind the first bytes of a line, if there was room, and so many are held then.
-pub record HeldLine (old : List ℕ) (held b : ℕ) (new : List ℕ) (more : ℕ) : Type 0 where
-  pub bytes_are : take more new ≡ take (length old) (take held old ++ (b ∷ []))
-  pub long : length new ≡ length old
-  pub few : more ≤ length old
 
 -- A line was answered: what is printed of it stands behind the others, and state and ticks moved on.
 pub record Tells (old : List ℕ) (t : Table) (x : Told) (e : Option Call) (new : List ℕ) (r : Told) : Type 0 where

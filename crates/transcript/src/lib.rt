@@ -8,10 +8,10 @@ ghost use Rattle.print.specs.Printed.{PrintedWithin};
 ghost use Rattle.print.specs.Lines.{answer_line};
 ghost use Rattle.transcript.specs.Transcript.{reading_of};
 ghost use Rattle.transcript.specs.Pieces.{carried_of, begin, shared_to, shared_on, shared_by, shared_after, ticks_to, ticks_after, FedPiece, ClosedLog};
-ghost use Rattle.transcript.specs.Private.{HeldLine, Tells, fed_of};
+ghost use Rattle.transcript.specs.Private.{Tells, fed_of};
 
 use control::{State, checked_call};
-use flight_log::read_entry;
+use flight_log::{HELD, PIECE, hold, read_entry};
 use model::{Answer, Call, Others, Refusal};
 use print::{answer_line, ticks_line};
 use rows::Leaf;
@@ -42,12 +42,6 @@ struct Told {
     shared: u64,
 }
 
-// How many bytes of a line are held: more than a line of the grammar has.
-const HELD: usize = 64;
-
-// How many bytes of a piece are taken at most.
-pub const PIECE: usize = 4096;
-
 // How many bytes are printed of a line at most: an answer, and the ticks after that of an end.
 const PRINTED: usize = 128;
 
@@ -63,18 +57,6 @@ pub fn start() -> Replay
         held: 0,
         state: State::Idle,
         shared: 0,
-    }
-}
-
-// Holds a further byte of the line being read, if there is room, and gives how many are held.
-fn hold(line: &mut [u8], held: usize, b: u8) -> usize
-    ensures { HeldLine line.old held b line.new result }
-{
-    if held < line.len() {
-        line[held] = b;
-        held + 1
-    } else {
-        line.len()
     }
 }
 

@@ -8,7 +8,7 @@ use reference::listed::Listed;
 use reference::numbers::Numbers;
 use reference::plan::{text, Kind, Plan};
 
-use super::small::{each_plan, PLANS};
+use super::small::{each_plan, longer, PLANS};
 use super::tally::Tally;
 
 /// How often each kind of decision is to be met, with a point ahead and without, and
@@ -65,14 +65,8 @@ impl Both<'_> {
         if let Some(leaf) = leaf {
             self.visits.entry(leaf).or_default()[usize::from(is_final)] = true;
         }
-        for leaf in next {
-            let longer = listed
-                .report(history, leaf)
-                .expect("a point that comes next");
-            let next = composed
-                .report(place, leaf)
-                .expect("a point that comes next");
-            self.compare(tally, met, &longer, &next);
+        for (history, place) in longer(listed, composed, history, place) {
+            self.compare(tally, met, &history, &place);
         }
     }
 }

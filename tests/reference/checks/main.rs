@@ -1,8 +1,9 @@
 //! The reference's own checks: the worked plans, sheets and logs, the readings taken,
 //! the aimed texts, tables that one rule refuses, the two ways of finding the numbers,
 //! the final decisions and the stretches of visits against each other, timed runs, worst
-//! cases and faster runs.
+//! cases, faster runs and what held the others back.
 
+mod cause;
 mod compare;
 mod faster;
 mod finals;
@@ -26,7 +27,7 @@ use tally::Tally;
 
 fn main() {
     let mut tally = Tally::new();
-    let parts: [(&str, fn(&mut Tally)); 14] = [
+    let parts: [(&str, fn(&mut Tally)); 15] = [
         ("worked plans", worked::check),
         ("sheets", sheet::check),
         ("readings of texts", readings_of_texts::check),
@@ -41,6 +42,7 @@ fn main() {
         ("timed runs", timed::check),
         ("worst cases", worst::check),
         ("faster runs", faster::check),
+        ("causes", cause::check),
     ];
     for (name, check) in parts {
         let before = tally.passed + tally.failed;

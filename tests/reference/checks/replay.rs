@@ -4,7 +4,7 @@ use reference::calls::Call;
 use reference::composed::Composed;
 use reference::plan;
 use reference::replay::{answers, call_of, printed};
-use reference::worked_logs::CASES;
+use reference::worked_logs::{Case, CASES};
 
 use super::tally::Tally;
 
@@ -12,13 +12,18 @@ const LARGEST: u64 = u64::MAX;
 
 /// Each worked log as a whole; on an accepted plan also by composed numbers, since
 /// the runs of such small plans are listed.
-fn worked(tally: &mut Tally) {
-    for case in CASES.iter().copied().flatten() {
+pub fn worked(
+    tally: &mut Tally,
+    cases: &[&[Case]],
+    printed: fn(&[u8], &[u8]) -> String,
+    composed: fn(&Composed, &[u8]) -> String,
+) {
+    for case in cases.iter().copied().flatten() {
         let (text, log) = (case.plan.as_bytes(), case.log.as_bytes());
         let found = printed(text, log);
         tally.equal(found.as_str(), case.printed, || case.name.to_string());
         if let Ok(plan) = plan::read(text, 512) {
-            let found = answers(&Composed::new(&plan), log);
+            let found = composed(&Composed::new(&plan), log);
             tally.equal(found.as_str(), case.printed, || {
                 format!("{}, composed", case.name)
             });
@@ -91,7 +96,9 @@ fn other_forms(tally: &mut Tally) {
 }
 
 pub fn check(tally: &mut Tally) {
-    worked(tally);
+    worked(tally, CASES, printed, |composed, log| {
+        answers(composed, log)
+    });
     forms(tally);
     other_forms(tally);
 }

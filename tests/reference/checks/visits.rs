@@ -14,7 +14,7 @@ use reference::numbers::Numbers;
 use reference::plan::{text, Form, Kind, Plan};
 use reference::rules;
 
-use super::small::{each_plan, PLANS};
+use super::small::{each_plan, longer, PLANS};
 use super::tally::Tally;
 
 /// Random histories of small and of large plans, and the longest that is played.
@@ -155,14 +155,8 @@ impl Both<'_> {
             }),
             Some(&leaf) => self.visited(tally, met, leaf, history, place),
         }
-        for leaf in listed.next_points(history) {
-            let longer = listed
-                .report(history, leaf)
-                .expect("a point that comes next");
-            let next = composed
-                .report(place, leaf)
-                .expect("a point that comes next");
-            self.compare(tally, met, &longer, &next);
+        for (history, place) in longer(listed, composed, history, place) {
+            self.compare(tally, met, &history, &place);
         }
     }
 

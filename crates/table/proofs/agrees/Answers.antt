@@ -15,8 +15,9 @@ returns-then-sums_agree c =
     let loads-long : length h.max_load_totals ≡ 16 = search rules in
     elim c.if-tails_agree.branch [
       | then-tails_agree w ↦ λ p q same few.
+          let m = c.at_max_load-priced.ensures in
           let x = said_true c.tails_agree.result w.if-tails_agree.true (c.tails_agree.ensures q.plan) in
-          let y = said_true w.sums_agree.result (sym w.value-is ∙ c.if-sums_agree.true) (w.sums_agree.ensures q.plan) in
+          let y = said_true w.sums_agree.result (sym w.value-is ∙ c.if-sums_agree.true) ((rw (m.code_is, m.cost_is, m.totals_are) at w.sums_agree.ensures) q.plan) in
           same_answer c.stands.result (agreement q p same row h few totals-long loads-long x y) (agree_totals q p same row h few) c.stands.ensures
       | else-tails_agree w ↦ let z = sym w.if-tails_agree.false ∙ (sym w.value-is ∙ c.if-sums_agree.true) in cc
     ]
@@ -26,6 +27,9 @@ returns-else-sums_agree c =
     let row = c.args.code.now.row.now in
     let h = c.args.head.now in
     rw c.if-sums_agree.false (λ p q same few g. elim c.if-tails_agree.branch [
-      | then-tails_agree w ↦ said_false w.sums_agree.result (sym w.value-is ∙ c.if-sums_agree.false) (w.sums_agree.ensures q.plan) (agree_sums q p same row h few g)
+      | then-tails_agree w ↦
+          let m = c.at_max_load-priced.ensures in
+          said_false w.sums_agree.result (sym w.value-is ∙ c.if-sums_agree.false) ((rw (m.code_is, m.cost_is, m.totals_are) at w.sums_agree.ensures) q.plan)
+          (agree_sums q p same row h few g)
       | else-tails_agree w ↦ said_false c.tails_agree.result w.if-tails_agree.false (c.tails_agree.ensures q.plan) (agree_tails q p same row h few g)
     ])

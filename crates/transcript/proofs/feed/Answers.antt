@@ -3,7 +3,6 @@
 use borrow.Author.Rules.{rules}
 use borrow.Author.Tests.{eq-eqb, ne_eqb}
 use native.Mathlib.Omega.{arith}
-use Prim.Native.Nat.{◌<◌}
 use mathlib.Core.Path.{refl}
 use lib.ListN.{length-take}
 use Rattle.transcript.proofs.Feeding.{feeding_none, feeding_byte, feeding_line, fed_all}
@@ -18,10 +17,9 @@ loop-b-preserved c =
     let l = c.loop-b in
     let h = c.hold-held.ensures in
     let inside = c.loop-b-test.true in
-    let room : l.b-index < 4096 = omega (arith, inside, length-take c.min.result c.args.piece.now, c.min.ensures) in
     elim c.if-b-eq10.branch [
-      | then-b-eq10 w ↦ rw (w.out-is, w.held-is, w.told-is) (feeding_line l.invariant inside room h (eq-eqb _ 10 w.if-b-eq10.true) w.read_entry-entry.ensures w.tell-told.ensures)
-      | else-b-eq10 w ↦ rw (w.out-is, w.held-is, w.told-is) (feeding_byte l.invariant inside room h (ne_eqb _ 10 w.if-b-eq10.false))
+      | then-b-eq10 w ↦ rw (w.out-is, w.held-is, w.told-is) (feeding_line l.invariant inside h (eq-eqb _ 10 w.if-b-eq10.true) w.read_entry-entry.ensures w.tell-told.ensures)
+      | else-b-eq10 w ↦ rw (w.out-is, w.held-is, w.told-is) (feeding_byte l.invariant inside h (ne_eqb _ 10 w.if-b-eq10.false))
     ]
 
 pub returns : goal.returns

@@ -1,0 +1,13 @@
+pub mod Valuing
+pub mod Composing
+pub mod Summing
+pub mod Worths
+pub mod Noting
+pub mod Scanned
+pub mod Leaving
+pub mod Descending
+pub mod Seeing
+pub mod Counting
+pub mod Walking
+pub mod Running
+pub mod Meaning

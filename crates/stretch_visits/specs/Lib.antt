@@ -1,0 +1,3 @@
+pub mod Worth
+pub mod Counts
+pub mod Private
