@@ -4,27 +4,12 @@
 #![tactic(auto)]
 
 use explanation::{EXPLANATION, Followed, explain, follow, start};
-use files::{NAME, Opened};
+use files::{NAME, OTHER, Opened, PLAN};
 use flight_log::PIECE;
-use print::{SIZE, refused_plan_line};
-use reader::{RefusedAt, TEXT};
+use reader::TEXT;
 use rows::{Leaf, MAX_LEAVES};
 use std::io::Read;
 use table::{Head, read};
-
-// The argument that names the plan.
-const PLAN: usize = 1;
-
-// The argument that names the log.
-const LOG: usize = 2;
-
-// Prints the refusal of a plan, as the table program does.
-fn refuse(rt: &HostRuntime, refused: RefusedAt) {
-    let mut out = [0; SIZE];
-    let number = u64::from(refused.refusal);
-    let n = refused_plan_line(&mut out, 0, number, refused.line as u64);
-    let _ = files::print(rt, &out[..n]);
-}
 
 // Follows a log to its end, piece by piece, unless a read fails. A proved loop has to end, and nothing says that a file does; so the pieces are counted up to a
 // number that no log comes to, since each has a byte at least.
@@ -50,7 +35,7 @@ fn follow_all<R: Read>(
 // Explains the last report of the log that the second argument names.
 fn explain_log(rt: &HostRuntime, row: &[Leaf], head: &Head) {
     let mut name = [0u8; NAME];
-    let Ok(Opened { mut file, size }) = files::open(rt, LOG, &mut name) else {
+    let Ok(Opened { mut file, size }) = files::open(rt, OTHER, &mut name) else {
         return;
     };
     if let Some(followed) = follow_all(rt, &mut file, &name[..size], row, head) {
@@ -65,7 +50,7 @@ fn explain_plan(rt: &HostRuntime, text: &[u8]) {
     let mut row = [Leaf::default(); MAX_LEAVES];
     match read(text, &mut row) {
         Ok(head) => explain_log(rt, &row, &head),
-        Err(refused) => refuse(rt, refused),
+        Err(refused) => files::refuse(rt, refused),
     }
 }
 

@@ -6,6 +6,8 @@ ghost use Rattle.std.specs.Counts.{IsPrefixLen};
 ghost use Rattle.std.specs.Prelude.{IfOk};
 ghost use Rattle.std.specs.Io.{ReadsAtMost};
 
+use print::{SIZE, refused_plan_line};
+use reader::RefusedAt;
 use std::env::{Env, FillError};
 use std::fs::File;
 use std::io::{Error, ErrorKind, Print, Read, Write};
@@ -21,6 +23,11 @@ pub struct Opened {
 // Why there is nothing to give: it was said on standard error.
 #[derive(Clone, Copy, Debug, PartialEq, Eq)]
 pub struct Said;
+
+// The argument that names the plan, and the one that names the text beside it.
+pub const PLAN: usize = 1;
+
+pub const OTHER: usize = 2;
 
 // The longest name of a text, in bytes, and one more.
 pub const NAME: usize = 4096;
@@ -174,6 +181,14 @@ pub fn input(rt: &HostRuntime, buf: &mut [u8]) -> usize
         }
     }
     n
+}
+
+// Prints the refusal of a plan, as the table program does.
+pub fn refuse(rt: &HostRuntime, refused: RefusedAt) {
+    let mut out = [0; SIZE];
+    let number = u64::from(refused.refusal);
+    let n = refused_plan_line(&mut out, 0, number, refused.line as u64);
+    let _ = print(rt, &out[..n]);
 }
 
 // Prints bytes; or says why it cannot.

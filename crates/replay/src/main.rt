@@ -4,34 +4,19 @@
 
 ghost use Rattle.std.specs.Prelude.{◌≤◌, length};
 
-use files::{NAME, Opened};
+use files::{NAME, OTHER, Opened, PLAN};
 use flight_log::PIECE;
-use print::{SIZE, refused_plan_line};
-use reader::{RefusedAt, TEXT};
+use reader::TEXT;
 use rows::{Leaf, MAX_LEAVES};
 use std::io::Read;
 use table::{Head, read};
 use transcript::{ANSWERS, Replay, close, feed, start};
-
-// The argument that names the plan.
-const PLAN: usize = 1;
-
-// The argument that names the log.
-const LOG: usize = 2;
 
 // Prints the first so many bytes of a buffer, and says whether they were written.
 fn show(rt: &HostRuntime, out: &[u8], size: usize) -> bool
     requires { size ≤ length out.now }
 {
     files::print(rt, &out[..size]).is_ok()
-}
-
-// Prints the refusal of a plan, as the table program does.
-fn refuse(rt: &HostRuntime, refused: RefusedAt) {
-    let mut out = [0; SIZE];
-    let number = u64::from(refused.refusal);
-    let n = refused_plan_line(&mut out, 0, number, refused.line as u64);
-    show(rt, &out, n);
 }
 
 // Reads a piece of the log and prints the answers to the lines that end in it; at the end of the log, what is answered there. What
@@ -76,7 +61,7 @@ fn play<R: Read>(rt: &HostRuntime, file: &mut R, name: &[u8], row: &[Leaf], head
 // Replays the log that the second argument names.
 fn replay_log(rt: &HostRuntime, row: &[Leaf], head: &Head) {
     let mut name = [0u8; NAME];
-    if let Ok(Opened { mut file, size }) = files::open(rt, LOG, &mut name) {
+    if let Ok(Opened { mut file, size }) = files::open(rt, OTHER, &mut name) {
         play(rt, &mut file, &name[..size], row, head);
     }
 }
@@ -86,7 +71,7 @@ fn replay_plan(rt: &HostRuntime, text: &[u8]) {
     let mut row = [Leaf::default(); MAX_LEAVES];
     match read(text, &mut row) {
         Ok(head) => replay_log(rt, &row, &head),
-        Err(refused) => refuse(rt, refused),
+        Err(refused) => files::refuse(rt, refused),
     }
 }
 
