@@ -1,7 +1,7 @@
 //! Measures the delivered calls beside a reference in Rust that makes the same checks on the same memory.
-//! `check` compares both sides, and the replay programs; `count` is to be run under callgrind; `table TITLE [COUNTS]` measures times and prints the tables of
-//! the calls; `replays` measures the replay programs and prints their tables, with instructions where TUNABLES are given, those of glibc under callgrind.
-//! PROVED and REFERENCE are the replay programs, and FOLDER is for the plans and logs that they read.
+//! `check` compares both sides, and the programs; `count` is to be run under callgrind; `table TITLE [COUNTS]` measures times and prints the tables of
+//! the calls; `replays` and `runs` measure the programs that replay a log and that print all short runs, and print their tables, with instructions where
+//! TUNABLES are given, those of glibc under callgrind. PROVED and REFERENCE are the folders of the programs, and TEXTS that of the plans and logs they read.
 
 mod agree;
 mod delivered;
@@ -16,6 +16,7 @@ mod random;
 #[forbid(unsafe_code)]
 mod reference;
 mod replays;
+mod short_runs;
 mod sides;
 mod tables;
 
@@ -25,14 +26,15 @@ use std::process::ExitCode;
 
 use jobs::Job;
 use plans::Plan;
-use programs::Programs;
+use programs::{Folders, Programs};
 
-const USAGE: &str = "bench check PROVED REFERENCE FOLDER | count | table TITLE [COUNTS] \
-    | replays PROVED REFERENCE FOLDER [TUNABLES]";
+const USAGE: &str = "bench check PROVED REFERENCE TEXTS | count | table TITLE [COUNTS] \
+    | replays PROVED REFERENCE TEXTS [TUNABLES] | runs PROVED REFERENCE TEXTS [TUNABLES]";
 
-fn check(plans: &[Plan], programs: &Programs) -> io::Result<ExitCode> {
+fn check(plans: &[Plan], folders: Folders) -> io::Result<ExitCode> {
     let mut tally = agree::agree(plans);
-    replays::agree(&mut tally, programs)?;
+    replays::agree(&mut tally, &Programs::replays(folders))?;
+    short_runs::agree(&mut tally, &Programs::runs(folders))?;
     println!("{} passed, {} failed", tally.passed, tally.failed);
     Ok(ExitCode::from(u8::from(tally.failed > 0)))
 }
@@ -69,17 +71,25 @@ fn run(arguments: &[&str]) -> io::Result<ExitCode> {
     let plans = plans::plans();
     let jobs: Vec<Job> = plans.iter().flat_map(jobs::jobs).collect();
     match *arguments {
-        ["check", proved, reference, folder] => {
-            return check(&plans, &Programs::new(proved, reference, folder));
-        }
         ["count"] => measure::count(&jobs),
         ["table", title] => table(title, None, &jobs)?,
         ["table", title, counts] => table(title, Some(&fs::read_to_string(counts)?), &jobs)?,
-        ["replays", proved, reference, folder] => {
-            replays::print_tables(&Programs::new(proved, reference, folder), None)?
-        }
-        ["replays", proved, reference, folder, tunables] => {
-            replays::print_tables(&Programs::new(proved, reference, folder), Some(tunables))?
+        [what, proved, reference, texts, ref tunables @ ..] => {
+            let folders = Folders {
+                proved,
+                reference,
+                texts,
+            };
+            match (what, tunables) {
+                ("check", []) => return check(&plans, folders),
+                ("replays", [] | [_]) => {
+                    replays::print_tables(&Programs::replays(folders), tunables.first().copied())?
+                }
+                ("runs", [] | [_]) => {
+                    short_runs::print_tables(&Programs::runs(folders), tunables.first().copied())?
+                }
+                _ => return Err(io::Error::other(USAGE)),
+            }
         }
         _ => return Err(io::Error::other(USAGE)),
     }

@@ -70,7 +70,7 @@ fn compared() -> Vec<(String, Plan, String)> {
 /// Holds what the reference prints to what the proved program does.
 fn compare(tally: &mut Tally, programs: &Programs, what: &str) -> io::Result<Vec<u8>> {
     let proved = programs.printed(Program::Proved)?;
-    for program in [Program::Reference, Program::ReferenceOnce] {
+    for program in [Program::Reference, Program::ReferenceOtherwise] {
         let alike = programs.printed(program)? == proved;
         tally.note(alike, || format!("replay of {what}"));
     }

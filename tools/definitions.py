@@ -165,7 +165,7 @@ def load_rust(path):
             source.imports.setdefault(name, (f"Rattle.{modules[0]}.specs.declared.{'.'.join([*modules[1:], last])}", last))
     for above, kind, name, body in TYPE.findall(text):
         lines = [line.strip() for line in body.splitlines()]
-        members = [re.findall(r"[A-Za-z_](?:\w|::)*", line.removeprefix("pub ")) for line in lines if not line.startswith("//")]
+        members = [re.findall(r"(?<!')\b[A-Za-z_](?:\w|::)*", line.removeprefix("pub ")) for line in lines if not line.startswith("//")]
         inside = [["{", "}"], *([" ".join([*words[:1], ":", *words[1:]])] for words in members)]
         comments = above.count("\n") + len(lines) - len(members)
         source.definitions.append(Definition(source, name, RUST_KINDS[kind], comments, [[" ".join(members[0])]] if kind in ("type", "const") else inside))

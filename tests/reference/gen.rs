@@ -405,6 +405,26 @@ pub fn tied_plan(random: &mut Random, edition: Edition) -> Plan {
     plan
 }
 
+/// A plan of few choices whose runs make about 64 visits: long rows, or a loop of many
+/// rounds.
+pub fn long_plan(random: &mut Random, edition: Edition) -> Plan {
+    let mut shape = small_shape(random);
+    let (leaves, bound) = random.pick(&[(100, 1), (70, 1), (50, 3), (20, 30), (10, 70)]);
+    (shape.leaves, shape.bound) = (1 + random.index(leaves), bound);
+    shape.depth = 1 + random.index(2);
+    (shape.calls, shape.loops, shape.ifs) = (random.pick(&[2, 10]), 5, 5);
+    valid_plan(random, shape, edition)
+}
+
+/// A plan of many leaves, most of them in parts of ifs, so that runs are short.
+pub fn wide_plan(random: &mut Random, edition: Edition) -> Plan {
+    let mut shape = large_shape(random);
+    (shape.functions, shape.depth) = (1 + random.index(4), 4 + random.index(8));
+    (shape.calls, shape.loops) = (random.pick(&[2, 10]), random.pick(&[0, 5, 20]));
+    shape.ifs = 60;
+    valid_plan(random, shape, edition)
+}
+
 pub fn large_plan(random: &mut Random, edition: Edition) -> Plan {
     let shape = large_shape(random);
     valid_plan(random, shape, edition)

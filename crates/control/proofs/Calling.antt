@@ -1,33 +1,30 @@
 -- The calls on lent memory, by whether it is the table of an accepted plan and whether a release is open. Assumes nothing.
-use mathlib.Core.Bool.{true, false}
+use mathlib.Core.Bool.{false}
 use mathlib.Core.List.{List}
 use mathlib.Core.Option.{Option, none, some}
 use mathlib.Core.Path.{◌≡◌, refl, ap, sym, ◌∙◌}
-use Prim.Native.Nat.{ℕ, ◌*◌, ◌≤◌}
+use Prim.Native.Nat.{ℕ}
 use native.Mathlib.Omega.{arith}
-use lib.ListN.{length, take, length-take}
+use lib.ListN.{take}
 use Rattle.std.proofs.lemmas.List.{take-map}
 use Rattle.model.specs.declared.Refusal.TheVariants.{Broken}
 use Rattle.model.specs.Calls.{refuse}
 use Rattle.model.specs.Plan.{Plan}
-use Rattle.model.specs.Acceptance.{Accepted}
 use Rattle.model.specs.Stack.{Levels}
 use Rattle.model.specs.declared.Call.{Call}
 use Rattle.rows.specs.declared.Code.{Code}
 use Rattle.rows.specs.declared.Leaf.{Leaf}
-use Rattle.rows.specs.Leaves.{numbers, lent_turns, lent_tails, lent_max_load_turns}
-use Rattle.rows.proofs.Leaves.{numbers_length, numbers_take}
-use Rattle.rows.proofs.Records.{records_all_length}
+use Rattle.rows.specs.Leaves.{lent_turns, lent_tails, lent_max_load_turns}
 use Rattle.table.specs.declared.Head.{Head}
 use Rattle.table.specs.Table.{Table, table_of, plan_of, found, good}
 use Rattle.table.specs.Lent.{table_with}
-use Rattle.table.proofs.Plans.{plan_of_exactly}
 use Rattle.control.specs.declared.LentPlan.{LentPlan}
 use Rattle.control.specs.declared.OpenRelease.{OpenRelease}
 use Rattle.control.specs.declared.State.{State}
 use Rattle.control.specs.State.{standing}
 use Rattle.control.specs.Calls.{read_state, on_state, on_plan, call_on}
-use Rattle.control.specs.Private.{CodeOf, WholeTable, GoodState}
+use Rattle.table.proofs.Codes.{Owned, lent_code}
+use Rattle.control.specs.Private.{WholeTable, GoodState}
 
 -- A release that does not stand anywhere stands at no levels.
 pub not_standing : (p : Plan) (o : OpenRelease) → (GoodState p o → ⊥) → standing p o ≡ none
@@ -50,43 +47,9 @@ module _ (row : List Leaf) (h : Head) where
       by none z e = refl
       by (some p) z e = absurd (let y : ◌≡◌ {A = ℕ} 0 1 = cc in omega arith)
 
-  -- One that it finds good: the first leaves, as many as the head says, are the table of an accepted plan.
-  pub record Owned : Type 0 where
-    pub plan : Plan
-    pub accepted : Accepted plan
-    pub table_is : table_with row h ≡ table_of plan
-    pub found_is : plan_of (table_with row h) ≡ some plan
-
-  pub good_table : good t ≡ true → Owned
-  good_table e = by (plan_of t) refl e
-    where
-      by : (o : Option Plan) → plan_of t ≡ o → found o ≡ true → Owned
-      by none z e = absurd (let y : ◌≡◌ {A = ℕ} 0 1 = cc in omega arith)
-      by (some p) z e = let (a, i) = (plan_of_exactly t p).0 z in record { plan = p; accepted = a; table_is = i; found_is = z }
-
 module _ {row : List Leaf} {h : Head} (o : Owned row h) where
-  pub leaves_held : h.leaves ≤ length row
-  leaves_held =
-      omega (
-        arith,
-        ap (λ (u : Table). u.head.leaves) o.table_is,
-        ap (λ (u : Table). length u.row) o.table_is,
-        records_all_length 0 o.plan.functions,
-        length-take (h.leaves * 8) (numbers row),
-        numbers_length row,
-      )
-
   -- Its code, and the max-load turns in it.
   module _ (c : Code) (r : c.row.now ≡ take h.leaves row) where
-    abbrev pub lent_code : c.bounds.now ≡ h.bounds → c.functions ≡ h.functions → CodeOf o.plan c
-    lent_code b n =
-        let i = o.table_is in
-        record {
-          row_is = ap numbers r ∙ (numbers_take h.leaves row ∙ ap (λ (u : Table). u.row) i);
-          bounds_are = b ∙ ap (λ (u : Table). u.head.bounds) i;
-          functions_are = n ∙ ap (λ (u : Table). u.head.functions) i;
-        }
-
     pub lent_loads : lent_max_load_turns c.row.now ≡ (table_of o.plan).max_load_turns
     lent_loads =
         ap lent_max_load_turns r ∙
@@ -100,7 +63,7 @@ module _ {row : List Leaf} {h : Head} (o : Owned row h) where
         costed = record {
           rowed = record {
             head = record { plan = o.plan; accepted = o.accepted; is = e ∙ ap (λ (u : Table). u.head) i };
-            code_is = lent_code l.code r b n;
+            code_is = lent_code o l.code r b n;
           };
           turns_are = ap lent_turns r ∙ (sym (take-map (λ (f : Leaf). f.turn) h.leaves row) ∙ ap (λ (u : Table). u.turns) i);
           tails_are = ap lent_tails r ∙ (sym (take-map (λ (f : Leaf). f.tail) h.leaves row) ∙ ap (λ (u : Table). u.tails) i);

@@ -5,12 +5,11 @@ use mathlib.Core.List.{[]}
 use mathlib.Core.Option.{some}
 use mathlib.Core.Path.{◌≡◌, refl, ap, sym, ◌∙◌, subst}
 use Prim.Native.Nat.{ℕ, ◌≤◌, ◌<◌}
-use native.Mathlib.Omega.{arith}
 use lib.ListN.{length, get_or}
 use Rattle.model.specs.Plan.{C, M, Plan}
 use Rattle.model.specs.Forms.{main}
 use Rattle.model.specs.Total.{total}
-use Rattle.model.specs.Acceptance.{sizes, Accepted}
+use Rattle.model.specs.Acceptance.{Accepted}
 use Rattle.model.specs.Stack.{Levels, whole, decode}
 use Rattle.model.proofs.Points.{AllPoints}
 use Rattle.rows.specs.declared.Code.{Code}
@@ -19,9 +18,6 @@ use Rattle.rows.specs.declared.PricedCode.{PricedCode}
 use Rattle.rows.specs.Costs.{cost_in}
 use Rattle.rows.specs.Answers.{Says}
 use Rattle.rows.specs.Leaves.{numbers, lent_turns, lent_tails, lent_max_load_turns}
-use Rattle.rows.specs.Plans.{PlanIn}
-use Rattle.rows.proofs.Leaves.{numbers_length}
-use Rattle.rows.proofs.Records.{records_all_length}
 use Rattle.place.specs.Lent.{CodeTable, main_forms, PlaceDecodes, PlaceCosted}
 use Rattle.place.specs.Plans.{PlanColumns}
 use Rattle.place.specs.Stack.{frames}
@@ -35,26 +31,17 @@ use Rattle.outlook.specs.Plans.{PlanPriced}
 use Rattle.outlook.proofs.Meaning.{code_priced, at_release_is, place_priced, at_report_is}
 use Rattle.table.specs.declared.Head.{Head}
 use Rattle.table.specs.Table.{head_of, table_of as its_table}
-use Rattle.table.specs.Lent.{AtMaxLoad}
+use Rattle.table.specs.Lent.{AtMaxLoad, CodeOf, Coded}
 use Rattle.control.specs.declared.LentPlan.{LentPlan}
 use Rattle.control.specs.declared.OpenRelease.{OpenRelease}
-use Rattle.control.specs.Private.{CodeOf, Coded, Rowed, Costed, WholeTable, GoodState}
-use Rattle.control.proofs.Tabled.{laid, filled, filled_loads}
+use Rattle.table.proofs.Codes.{laid_here, count_here}
+use Rattle.control.specs.Private.{Rowed, Costed, WholeTable, GoodState}
+use Rattle.control.proofs.Tabled.{filled, filled_loads}
 use Rattle.control.proofs.Judging.{Located, release_wrong, release_right, above_wrong, place_right, place_wrong, costed_at, times_judged}
 
 module _ {c : Code} (q : Coded c) where
-  pub laid_here : PlanIn (numbers c.row.now) c.bounds.now q.plan
-  laid_here = rw (q.is.row_is, q.is.bounds_are) (laid q.plan q.accepted)
-
-  pub count_here : c.functions ≡ length q.plan.functions
-  count_here = q.is.functions_are
-
-  -- The code has a record for each leaf.
-  pub row_size : length c.row.now ≡ sizes q.plan.functions
-  row_size = omega (arith, numbers_length c.row.now, ap length q.is.row_is ∙ records_all_length 0 q.plan.functions)
-
   pub table_here : CodeTable c
-  table_here = rw count_here (table_of q.plan q.accepted laid_here)
+  table_here = rw (count_here q) (table_of q.plan q.accepted (laid_here q))
 
 module _ {l : LentPlan} (q : Rowed l) where
   abbrev p : Plan

@@ -44,14 +44,16 @@ use Rattle.control.specs.declared.Step.{Step}
 use Rattle.control.specs.declared.Weighing.{Weighing}
 use Rattle.control.specs.State.{stack_of, standing, put, open_at_report}
 use Rattle.control.specs.Calls.{place_of, running_at, reply, as_step}
-use Rattle.control.specs.Private.{Coded, GoodOnCode, WholeTable, Arriving, moved_to, weighing, arrived}
+use Rattle.control.specs.Private.{GoodOnCode, WholeTable, Arriving, moved_to, weighing, arrived}
 use Rattle.control.proofs.Tabled.{marked_point, point_marked}
 use Rattle.control.proofs.Arrays.{put_at, put_is}
 use Rattle.control.proofs.Places.{Moved}
 use Rattle.control.proofs.Alike.{next_moves, stack_moved}
 use Rattle.control.proofs.Good.{stands_times}
 use Rattle.control.proofs.Judging.{stands_depth, stands_few, stands_decode}
-use Rattle.control.proofs.Lending.{laid_here, count_here, row_size, coded, filled_here}
+use Rattle.table.specs.Lent.{Coded}
+use Rattle.table.proofs.Codes.{laid_here, count_here, row_size}
+use Rattle.control.proofs.Lending.{coded, filled_here}
 
 -- THE POINT
 

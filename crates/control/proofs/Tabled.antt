@@ -15,9 +15,8 @@ use Rattle.model.proofs.Leaves.{row_range, spans_all_row}
 use Rattle.model.proofs.Blocks.{is_point_of, point_of_is}
 use Rattle.rows.specs.Records.{row_of, bounds_of}
 use Rattle.reader.specs.Raw.{padded}
-use Rattle.reader.proofs.Tasks.{length_padded, padded_same}
+use Rattle.reader.proofs.Tasks.{padded_same}
 use Rattle.rows.specs.Rows.{point_at}
-use Rattle.rows.specs.Plans.{PlanIn}
 use Rattle.place.specs.Plans.{PlanColumns}
 use Rattle.outlook.specs.Plans.{PlanLoads}
 use Rattle.place.proofs.Points.{mark_point, point_mark}
@@ -27,6 +26,7 @@ use Rattle.table.proofs.Bridge.{formed_plan}
 use Rattle.table.proofs.Deriving.{tallies_length}
 use Rattle.table.proofs.Holding.{leaves_size}
 use Rattle.table.proofs.Written.{turns_size, tails_size}
+use Rattle.table.proofs.Codes.{laid}
 use Rattle.control.proofs.Columns.{holds_self, priced_all, priced_same, rounds_all, rounds_same}
 
 -- A plan has as many leaves as its lines have in all.
@@ -36,12 +36,6 @@ all_size [] = refl
 all_size (l ∷ ls) = omega (arith, length-append (leaves l) (all_leaves ls), leaves_size l, all_size ls)
 
 module _ (p : Plan) (a : Accepted p) where
-  -- The functions lie in the row between the bounds.
-  pub laid : PlanIn (row_of p) (padded 17 (bounds_of p)) p
-  laid =
-      let q = (formed_plan p a.formed).0 in
-      record { fits = omega (arith, length_padded 17 (bounds_of p), a.formed.few_functions); first = q.bounds.first; lie = q.lie; held = q.bounds.held }
-
   -- The last bound is the number of leaves.
   end_bound : get_or (padded 17 (bounds_of p)) (length p.functions) 0 ≡ sizes p.functions
   end_bound = plan_leaves (formed_plan p a.formed).0
@@ -77,11 +71,11 @@ module _ (p : Plan) (a : Accepted p) where
 
   -- A number is that of a point exactly where its record is there and is marked.
   pub marked_point : (n : ℕ) → n < sizes p.functions → point_at (row_of p) n ≡ 1 → is_point (all_leaves p.functions) n ≡ true
-  marked_point n h m = point_of_is p n (mark_point p a laid n (omega (arith, h, end_bound)) m)
+  marked_point n h m = point_of_is p n (mark_point p a (laid p a) n (omega (arith, h, end_bound)) m)
 
   pub point_marked : (n : ℕ) → is_point (all_leaves p.functions) n ≡ true → (n < sizes p.functions) × (point_at (row_of p) n ≡ 1)
   point_marked n e =
       let (b, i, j, k) = is_point_of p n e in
       let r = row_range 0 (all_leaves p.functions) (spans_all_row p.functions 0 (plan_spans p a.formed)) b i in
       let h : n < sizes p.functions = omega (arith, r, k, all_size p.functions) in
-      (h, point_mark p a laid n (omega (arith, h, end_bound)) (b, i, j, k))
+      (h, point_mark p a (laid p a) n (omega (arith, h, end_bound)) (b, i, j, k))

@@ -19,11 +19,11 @@ use Rattle.model.specs.Controller.{next_levels, decided}
 use Rattle.model.specs.Stack.{Levels}
 use Rattle.rows.specs.declared.Code.{Code}
 use Rattle.rows.specs.Leaves.{numbers, lent_turns, lent_tails, lent_max_load_turns}
-use Rattle.rows.specs.Records.{row_of}
 use Rattle.place.specs.Stack.{Stacked}
 use Rattle.place.specs.declared.Place.{Place}
 use Rattle.table.specs.declared.Head.{Head}
 use Rattle.table.specs.Table.{table_of, head_of}
+use Rattle.table.specs.Lent.{CodeOf, Coded}
 use Rattle.control.specs.declared.LentPlan.{LentPlan}
 use Rattle.control.specs.declared.OpenRelease.{OpenRelease}
 use Rattle.control.specs.declared.State.{State}
@@ -65,18 +65,6 @@ pub record Headed (h : Head) : Type 0 where
   pub plan : Plan
   pub accepted : Accepted plan
   pub is : h ≡ head_of plan
-
--- The code is that of this plan: its row, its bounds, and how many functions it has.
-pub record CodeOf (p : Plan) (c : Code) : Type 0 where
-  pub row_is : numbers c.row.now ≡ row_of p
-  pub bounds_are : c.bounds.now ≡ (head_of p).bounds
-  pub functions_are : c.functions ≡ (head_of p).functions
-
--- The code is that of an accepted plan.
-pub record Coded (c : Code) : Type 0 where
-  pub plan : Plan
-  pub accepted : Accepted plan
-  pub is : CodeOf plan c
 
 -- Head and code are those of an accepted plan.
 pub record Rowed (l : LentPlan) : Type 0 where

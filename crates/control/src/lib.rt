@@ -15,11 +15,11 @@ ghost use Rattle.rows.specs.Leaves.{numbers};
 ghost use Rattle.rows.specs.Answers.{Says};
 ghost use Rattle.place.specs.Lent.{NextPlace};
 ghost use Rattle.table.specs.Table.{good};
-ghost use Rattle.table.specs.Lent.{table_with};
+ghost use Rattle.table.specs.Lent.{table_with, Coded};
 ghost use Rattle.control.specs.declared.State.TheVariants.{Idle, Open};
 ghost use Rattle.control.specs.State.{standing};
 ghost use Rattle.control.specs.Calls.{place_of, running_at, read_state, reply, on_state, call_on, as_step};
-ghost use Rattle.control.specs.Private.{terms, rule_met, weighing, opened, arrived, stepped, closing, Headed, Coded, Costed, WholeTable};
+ghost use Rattle.control.specs.Private.{terms, rule_met, weighing, opened, arrived, stepped, closing, Headed, Costed, WholeTable};
 ghost use Rattle.control.specs.Private.{GoodState, GoodOnCode, GoodOnTable, Arriving, moved_to};
 
 use model::{Answer, Call, Edition, Ending, Others, Outlook, Refusal, Word};

@@ -43,15 +43,15 @@ use Rattle.stretch_visits.specs.Counts.{CountsOf, PlaceFew}
 use Rattle.stretch_visits.proofs.Meaning.{place_counted, counts_are}
 use Rattle.table.specs.declared.Head.{Head}
 use Rattle.table.specs.Table.{head_of}
-use Rattle.table.specs.Lent.{table_with, AtMaxLoad}
+use Rattle.table.specs.Lent.{table_with, AtMaxLoad, CodeOf, Coded}
 use Rattle.table.proofs.Plans.{plan_of_exactly}
+use Rattle.table.proofs.Codes.{Owned, leaves_held, lent_code, laid_here, row_size}
 use Rattle.control.specs.declared.OpenRelease.{OpenRelease}
 use Rattle.control.specs.State.{stack_of}
-use Rattle.control.specs.Private.{CodeOf, Coded}
-use Rattle.control.proofs.Calling.{Owned, leaves_held, lent_code, lent_loads}
+use Rattle.control.proofs.Calling.{lent_loads}
 use Rattle.control.proofs.Good.{stands_times}
 use Rattle.control.proofs.Judging.{stands_depth, stands_few, stands_decode}
-use Rattle.control.proofs.Lending.{laid_here, row_size, priced}
+use Rattle.control.proofs.Lending.{priced}
 use Rattle.control.proofs.Reporting.{top_time}
 use Rattle.control.proofs.Tabled.{all_size}
 use Rattle.explanation.specs.Explanation.{counted_line}

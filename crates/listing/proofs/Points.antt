@@ -3,7 +3,6 @@
 -- Assumes nothing.
 use mathlib.Core.Bool.{Bool, true, false}
 use mathlib.Core.List.{List, [], ◌∷◌, ◌++◌, map, map-append}
-use mathlib.Core.Option.{some}
 use mathlib.Core.Path.{◌≡◌, refl, sym, ap, ◌∙◌, subst}
 use Prim.Native.Nat.{ℕ, zero, suc, ◌+◌, ◌≤◌, ◌<◌}
 use native.Mathlib.Omega.{arith}
@@ -19,7 +18,7 @@ use Rattle.model.specs.Total.{total, tallies}
 use Rattle.model.specs.Stretch.{stretch_of}
 use Rattle.model.specs.Tail.{tail}
 use Rattle.model.specs.Levels.{Leveled, own_levels, blocks}
-use Rattle.model.specs.Acceptance.{size, sizes, Formed, Accepted}
+use Rattle.model.specs.Acceptance.{size, sizes, Formed}
 use Rattle.model.specs.Places.{pick, bit}
 use Rattle.model.proofs.Among.{among_left, among_right}
 use Rattle.reader.specs.Outcome.{Outcome, plan, refused}
@@ -28,14 +27,15 @@ use Rattle.rows.specs.declared.Leaf.{Leaf}
 use Rattle.reader.specs.Records.{leveled_leaves, no_leaf}
 use Rattle.reader.proofs.Theorems.{row_leaf}
 use Rattle.table.specs.declared.Head.{Head}
-use Rattle.table.specs.Table.{Table, table_of, head_of, edition_of, all_tails, plan_of}
-use Rattle.table.specs.Reading.{verdict, result_of}
-use Rattle.table.specs.Lent.{table_with, leaf_of, leaves_from, row_after}
+use Rattle.table.specs.Table.{Table, table_of, edition_of, all_tails}
+use Rattle.table.specs.Reading.{verdict}
+use Rattle.table.specs.Lent.{leaf_of, leaves_from, row_after}
 use Rattle.table.proofs.Holding.{leaves_size}
 use Rattle.table.proofs.Lent.{length_leaves}
 use Rattle.table.proofs.Plans.{edition_said}
 use Rattle.std.specs.Prelude.{Ok}
-use Rattle.table.proofs.Theorems.{read_as_plan, plan_of_table, read_back}
+use Rattle.table.proofs.Heads.{Read}
+use Rattle.table.proofs.Theorems.{read_as_plan}
 use Rattle.listing.specs.PlanListing.{resume_numbers, task_numbers, point_numbers, points_of, all_points, points, outcome_points}
 use Rattle.listing.specs.Summary.{summary_of}
 use Rattle.listing.specs.Private.{leaf_points, leaves_points, Collected}
@@ -248,30 +248,8 @@ module _ (p : Plan) (f : Formed p) (c : List ℕ) (stretched : take (sizes p.fun
       let n = sizes p.functions in
       ap (leaves_points c 0) (take_at (leaves_from (table_of p) 0 n) (drop n row) n (length_leaves (table_of p) 0 n)) ∙ all_from p c p.functions 0 plan_shown
 
--- A head is that of a plan, which is accepted.
-pub record Read (text : List ℕ) (h : Head) : Type 0 where
-  pub of : Plan
-  pub is : verdict 512 text ≡ plan of
-  pub accepted : Accepted of
-  pub head : h ≡ head_of of
-  pub few : h.leaves ≤ 512
-
-pub head_read : (text : List ℕ) {h : Head} → Ok h ≡ result_of (verdict 512 text) → Read text h
-head_read text {h} e = by (verdict 512 text) refl e
-  where
-    by : (o : Outcome) → verdict 512 text ≡ o → Ok h ≡ result_of o → Read text h
-    by (plan p) o e =
-        let a = ((read_as_plan 512 text p).0 o).1 in
-        let z : h ≡ head_of p = cc in
-        record { of = p; is = o; accepted = a; head = z; few = omega (arith, ap (λ (y : Head). y.leaves) z, a.formed.few_leaves) }
-    by (refused k j) o e = cc
-
 -- Consider the row as `read` leaves it.
 module _ {text : List ℕ} {h : Head} (r : Read text h) (row : List Leaf) {read : List Leaf} (left : read ≡ row_after (verdict 512 text) row) where
-  -- Row and head hold the table of the plan.
-  pub planned : plan_of (table_with read h) ≡ some r.of
-  planned = (plan_of_table (table_with read h) r.of).1 (r.accepted, rw (left, r.is, r.head) (read_back r.of row))
-
   -- The numbers that were collected there, with a column that begins with the stretches of the plan's leaves, are those of the plan.
   module _ (c : List ℕ) (stretched : take (sizes r.of.functions) c ≡ map (stretch_of r.of) (all_leaves r.of.functions)) {l m : List (List ℕ)} {count : ℕ}
       (g : Collected l (leaves_points c 0 (take h.leaves read)) m count)

@@ -11,4 +11,6 @@ pub mod Lent
 pub mod Checking
 pub mod Judging
 pub mod Writing
+pub mod Codes
 pub mod Theorems
+pub mod Heads

@@ -2,7 +2,8 @@
 -- function bounds beside it'): the table that a row and a head stand for, the leaves of a table, and the row once a plan was read.
 -- Assumes nothing: these are definitions.
 use Rattle.std.specs.Prelude.{◌≡◌, List, [], ◌∷◌, ◌++◌, ℕ, zero, suc, ◌+◌, get_or, drop}
-use Rattle.model.specs.Acceptance.{sizes}
+use Rattle.model.specs.Plan.{Plan}
+use Rattle.model.specs.Acceptance.{sizes, Accepted}
 use Rattle.reader.specs.Outcome.{Outcome, plan, refused}
 use Rattle.rows.specs.declared.Leaf.{Leaf}
 use Rattle.rows.specs.declared.Code.{Code}
@@ -10,8 +11,9 @@ use Rattle.rows.specs.declared.Cost.TheVariants.{MaxLoad}
 use Rattle.rows.specs.declared.PricedCode.{PricedCode}
 use Rattle.rows.specs.Rows.{kind_at, point_at, isolated_at, max_load_at, detail_at, other_at, after_at, level_at}
 use Rattle.rows.specs.Leaves.{numbers, lent_turns, lent_tails, lent_max_load_turns}
+use Rattle.rows.specs.Records.{row_of}
 use Rattle.table.specs.declared.Head.{Head}
-use Rattle.table.specs.Table.{Table, table_of, table_at}
+use Rattle.table.specs.Table.{Table, head_of, table_of, table_at}
 
 -- The table that these leaves and this head stand for.
 abbrev pub table_with : List Leaf → Head → Table
@@ -50,3 +52,15 @@ pub record AtMaxLoad (h : Head) (code : Code) (c : PricedCode) : Type 0 where
   pub code_is : c.code ≡ code
   pub cost_is : c.cost ≡ MaxLoad
   pub totals_are : c.totals.now ≡ h.max_load_totals
+
+-- The code is that of this plan: its row, its bounds, and how many functions it has.
+pub record CodeOf (p : Plan) (c : Code) : Type 0 where
+  pub row_is : numbers c.row.now ≡ row_of p
+  pub bounds_are : c.bounds.now ≡ (head_of p).bounds
+  pub functions_are : c.functions ≡ (head_of p).functions
+
+-- The code is that of an accepted plan.
+pub record Coded (c : Code) : Type 0 where
+  pub plan : Plan
+  pub accepted : Accepted plan
+  pub is : CodeOf plan c

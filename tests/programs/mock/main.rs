@@ -2,47 +2,18 @@
 //! made of the reference, with a difference planted on demand. It shows that the
 //! comparison finds them.
 
+mod input;
 mod planted;
 mod sheet;
 
-use std::io::{Read, Write};
+use std::io::Write;
 
 use reference::composed::Composed;
-use reference::damage::silenced;
 use reference::numbers::{figures, Figures, Numbers};
-use reference::plan::{self, Form, Kind, Plan, Refusal, MOST_BYTES, MOST_LEAVES};
+use reference::plan::{Form, Kind, Plan};
 
+use input::{input, read, refused};
 use planted::planted;
-
-fn input() -> Vec<u8> {
-    let mut text = Vec::new();
-    if planted("first-piece-only") {
-        text = vec![0; MOST_BYTES + 1];
-        let length = std::io::stdin().read(&mut text).unwrap_or(0);
-        text.truncate(length);
-    } else {
-        let most = (MOST_BYTES + 1) as u64;
-        let whole = std::io::stdin().take(most).read_to_end(&mut text);
-        whole.expect("the input is read");
-    }
-    if planted("cut-at-65536") {
-        text.truncate(MOST_BYTES);
-    }
-    text
-}
-
-/// A plan as the reference reads it, with what is planted in the refusals; a point that
-/// costs nothing may be silent.
-fn read(text: &[u8]) -> Result<Plan, Refusal> {
-    match plan::read(text, MOST_LEAVES) {
-        _ if planted("oversize-from-65536") && text.len() == MOST_BYTES => Err((1, 0)),
-        Err((1, _)) if planted("oversize-with-line") => Err((1, 1)),
-        Err((19, line)) if planted("costless-listed") => {
-            plan::read(&silenced(text, line), MOST_LEAVES)
-        }
-        answer => answer,
-    }
-}
 
 /// The stretch of one visit of a point in place of the largest of all, where that is
 /// planted: of a loop of the main function the last one, of a point elsewhere that of the
@@ -106,14 +77,6 @@ fn change_resume(task: &mut Vec<u64>) {
         Some(_) if planted("resume-before-switch") => task.swap(3, 4),
         None if planted("resume-in-edition-1") => task.push(0),
         _ => {}
-    }
-}
-
-/// The answer to a refused plan.
-fn refused((number, line): Refusal) -> String {
-    match planted("line-left-out") {
-        true => format!("refused {number}\n"),
-        false => format!("refused {number} {line}\n"),
     }
 }
 

@@ -1,7 +1,7 @@
 //! The reference's own checks: the worked plans, sheets and logs, the readings taken,
 //! the aimed texts, tables that one rule refuses, the two ways of finding the numbers,
 //! the final decisions and the stretches of visits against each other, timed runs, worst
-//! cases, faster runs and what held the others back.
+//! cases, faster runs, what held the others back and all short runs.
 
 mod cause;
 mod compare;
@@ -12,6 +12,7 @@ mod readings_of_calls;
 mod readings_of_texts;
 mod replay;
 mod sheet;
+mod short_runs;
 mod small;
 mod tables;
 mod tally;
@@ -27,7 +28,7 @@ use tally::Tally;
 
 fn main() {
     let mut tally = Tally::new();
-    let parts: [(&str, fn(&mut Tally)); 15] = [
+    let parts: [(&str, fn(&mut Tally)); 16] = [
         ("worked plans", worked::check),
         ("sheets", sheet::check),
         ("readings of texts", readings_of_texts::check),
@@ -43,6 +44,7 @@ fn main() {
         ("worst cases", worst::check),
         ("faster runs", faster::check),
         ("causes", cause::check),
+        ("short runs", short_runs::check),
     ];
     for (name, check) in parts {
         let before = tally.passed + tally.failed;

@@ -1,6 +1,7 @@
 -- `control::answer_to` meets its contract. Assumes nothing.
 use mathlib.Core.Path.{refl, ap, sym, ◌∙◌}
-use Rattle.control.proofs.Calling.{bad_table, good_table, leaves_held, lent_whole, on_owned}
+use Rattle.table.proofs.Codes.{good_table, leaves_held}
+use Rattle.control.proofs.Calling.{bad_table, lent_whole, on_owned}
 use Rattle.control.specs.Calls.{as_step}
 use Rattle.control.proofs.answer_to.Goals as goal
 

@@ -2,7 +2,8 @@
 use mathlib.Core.Path.{sym}
 use native.Mathlib.Omega.{arith}
 use lib.Seq.{length-take-le}
-use Rattle.listing.proofs.Points.{head_read, planned, collected_summary, collected_points}
+use Rattle.table.proofs.Heads.{head_read, planned}
+use Rattle.listing.proofs.Points.{collected_summary, collected_points}
 use Rattle.listing.proofs.collect.Goals as goal
 
 pub slice_bounds-row-end : goal.slice_bounds-row-end

@@ -1,0 +1,10 @@
+pub mod Summing
+pub mod Lining
+pub mod Ranks
+pub mod Costing
+pub mod Coding
+pub mod Enumerating
+pub mod Showing
+pub mod Reading
+pub mod Examples
+pub mod Theorems

@@ -1,0 +1,3 @@
+pub mod Enumeration
+pub mod Showing
+pub mod Private

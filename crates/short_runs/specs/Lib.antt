@@ -1,0 +1,3 @@
+pub mod ShortRuns
+pub mod Listing
+pub mod Told

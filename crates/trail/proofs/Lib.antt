@@ -1,0 +1,9 @@
+pub mod Moving
+pub mod Heads
+pub mod Resting
+pub mod Running
+pub mod Choosing
+pub mod Descending
+pub mod Turning
+pub mod Starting
+pub mod Visited
