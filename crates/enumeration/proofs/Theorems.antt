@@ -28,8 +28,8 @@ lines_are_all_runs = reading.lines_are_all_runs
 
 -- So what `enumerate` promises of the text, in whatever way lines are shown, is that the lines of these runs are shown one after the other.
 pub runs_shown_in_turn : (text : List ℕ) (p : Plan) → verdict 512 text ≡ plan p → (ws : List (List Block)) → AllShortRuns p ws →
-    {F : Type 0} (step : F → List ℕ → Bool → F → Type 0) (f : F) → ShownInTurn step f (enumeration text) → ShownInTurn step f (map run_line ws)
-runs_shown_in_turn text p e ws all step f = subst (ShownInTurn step f) (lines_are_all_runs text p e ws all)
+    {F : Type 0} (step : F → List ℕ → Bool → F → Type 0) (f g : F) → ShownInTurn step f (enumeration text) g → ShownInTurn step f (map run_line ws) g
+runs_shown_in_turn text p e ws all step f g = subst (λ l. ShownInTurn step f l g) (lines_are_all_runs text p e ws all)
 
 -- The one line of a refused text is that of its refusal.
 pub refused_plan_enumerated : (text : List ℕ) (k : Refusal) (j : ℕ) → verdict 512 text ≡ refused k j → enumeration text ≡ refused_plan_line (number_of k) j ∷ []

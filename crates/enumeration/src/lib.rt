@@ -71,52 +71,55 @@ fn show_from<F: FnMut(&[u8]) -> bool>(
     code: &Code,
     leasts: &[u64; MAX_LEAVES],
     start: Trail,
-)
+) -> F
     requires callable { F.IsAlwaysCallable show }
     requires stands { Enumerates code.now leasts.now start }
     ensures { (q : Enumerates code.now leasts.now start)
-        → ShownInTurn (λ f line said g. (x : _) × (x.now ≡ line) × F.step f x said g) show (map run_line q.runs) }
+        → ShownInTurn (λ f line said g. (x : _) × (x.now ≡ line) × F.step f x said g) show (map run_line q.runs) result }
 {
     let mut trail = start;
     let mut out = [0; LINE];
     loop {
         let n = put_run(&mut out, code.row, &trail);
         if !show(&out[..n]) || !next(code, leasts, &mut trail) {
-            return;
+            return show;
         }
     }
 }
 
 // Shows the lines of the plan whose table this row and this head hold.
-fn show_plan<F: FnMut(&[u8]) -> bool>(show: F, row: &[Leaf], head: &Head)
+fn show_plan<F: FnMut(&[u8]) -> bool>(show: F, row: &[Leaf], head: &Head) -> F
     requires callable { F.IsAlwaysCallable show }
     requires table { (p : Plan) × (plan_of (table_with row.now head.now) ≡ some p) }
     ensures { (p : Plan) → plan_of (table_with row.now head.now) ≡ some p
-        → ShownInTurn (λ f line said g. (x : _) × (x.now ≡ line) × F.step f x said g) show (plan_lines p) }
+        → ShownInTurn (λ f line said g. (x : _) × (x.now ≡ line) × F.step f x said g) show (plan_lines p) result }
 {
     let code = head.code(row);
     let leasts = least_visits(&code);
-    if let Some(trail) = first(&code, &leasts) {
-        show_from(show, &code, &leasts, trail);
+    match first(&code, &leasts) {
+        Some(trail) => show_from(show, &code, &leasts, trail),
+        None => show,
     }
 }
 
 // Shows the line of a refused plan.
-fn show_refusal<F: FnMut(&[u8]) -> bool>(mut show: F, refused: RefusedAt)
+fn show_refusal<F: FnMut(&[u8]) -> bool>(mut show: F, refused: RefusedAt) -> F
     requires { F.IsAlwaysCallable show }
     ensures { ShownInTurn (λ f line said g. (x : _) × (x.now ≡ line) × F.step f x said g) show
-        (refused_plan_line (number_of refused.refusal) refused.line ∷ []) }
+        (refused_plan_line (number_of refused.refusal) refused.line ∷ []) result }
 {
     let mut out = [0; SIZE];
     let number = u64::from(refused.refusal);
     let n = refused_plan_line(&mut out, 0, number, refused.line as u64);
     show(&out[..n]);
+    show
 }
 
-// Reads a plan text and shows the line of each of its short runs, one after the other, until a call answers false; of a refused text, the line of its refusal.
-pub fn enumerate<F: FnMut(&[u8]) -> bool>(show: F, text: &[u8])
+// Reads a plan text and shows the line of each of its short runs, one after the other, until a call answers false; of a refused text, the
+// line of its refusal. Gives back what shows a line, as the calls left it: so nothing else is shown.
+pub fn enumerate<F: FnMut(&[u8]) -> bool>(show: F, text: &[u8]) -> F
     requires { F.IsAlwaysCallable show }
-    ensures { ShownInTurn (λ f line said g. (x : _) × (x.now ≡ line) × F.step f x said g) show (enumeration text.now) }
+    ensures { ShownInTurn (λ f line said g. (x : _) × (x.now ≡ line) × F.step f x said g) show (enumeration text.now) result }
 {
     let mut row = [Leaf::default(); MAX_LEAVES];
     match read(text, &mut row) {

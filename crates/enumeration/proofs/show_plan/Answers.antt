@@ -1,7 +1,7 @@
 -- `enumeration::show_plan` meets its contract: the code of the table is that of its plan. Assumes nothing.
-use mathlib.Core.Path.{subst}
 use Rattle.table.proofs.Codes.{leaves_held}
-use Rattle.enumeration.specs.Showing.{ShownInTurn, all_shown}
+use Rattle.enumeration.specs.Showing.{all_shown}
+use Rattle.enumeration.proofs.Showing.{same_lines}
 use Rattle.enumeration.proofs.Coding.{owned, planned_code, table_here, few_functions, few_records, short_runs_on, first_enumerates, first_lines, no_lines}
 use Rattle.enumeration.proofs.show_plan.Goals as goal
 
@@ -47,13 +47,13 @@ returns-in-Some g c =
     let q = planned_code c.args.row.now c.args.head.now p e c.code-code.result k.row k.bounds k.functions in
     let b = rw c.in-Some.is at c.first.ensures in
     let l = c.least_visits-leasts in
-    subst (ShownInTurn _ c.args.show) (first_lines q l.result l.ensures c.in-Some.trail b)
+    same_lines (first_lines q l.result l.ensures c.in-Some.trail b)
     (c.show_from.ensures (first_enumerates q l.result l.ensures c.in-Some.trail b))
 
-pub returns-in_default : goal.returns-in_default
-returns-in_default g c =
+pub returns-in-None : goal.returns-in-None
+returns-in-None g c =
     let k = c.code-code.ensures in
     λ p e.
     let q = planned_code c.args.row.now c.args.head.now p e c.code-code.result k.row k.bounds k.functions in
     let l = c.least_visits-leasts in
-    rw (no_lines q l.result l.ensures (rw c.in_default.is at c.first.ensures)) all_shown
+    rw (no_lines q l.result l.ensures (rw c.in-None.is at c.first.ensures)) all_shown
