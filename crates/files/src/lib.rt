@@ -3,7 +3,7 @@
 #![tactic(auto)]
 
 ghost use Rattle.std.specs.Counts.{IsPrefixLen};
-ghost use Rattle.std.specs.Prelude.{IfOk};
+ghost use Rattle.std.specs.Prelude.{◌≡◌, IfOk, IfErr};
 ghost use Rattle.std.specs.Io.{ReadsAtMost};
 
 use print::{SIZE, refused_plan_line};
@@ -20,9 +20,11 @@ pub struct Opened {
     pub size: usize,
 }
 
-// Why there is nothing to give: it was said on standard error.
+// Why there is nothing to give was said on standard error. This is how many bytes are at the start of the lent buffer all the same: 0 where none is lent.
 #[derive(Clone, Copy, Debug, PartialEq, Eq)]
-pub struct Said;
+pub struct Said {
+    pub size: usize,
+}
 
 // The argument that names the plan, and the one that names the text beside it.
 pub const PLAN: usize = 1;
@@ -63,7 +65,9 @@ fn words(text: &[u8]) -> usize
 }
 
 // Says on standard error, in one line, what cannot be had and why.
-fn complain(rt: &HostRuntime, what: &[u8], error: Error) -> Said {
+fn complain(rt: &HostRuntime, what: &[u8], error: Error) -> Said
+    ensures { result.size ≡ 0 }
+{
     let mut reason = [0u8; REASON];
     let mut room = &mut reason[..];
     let _ = write!(room, "{error}");
@@ -73,7 +77,7 @@ fn complain(rt: &HostRuntime, what: &[u8], error: Error) -> Said {
     let _ = Print::write_all(&errors, b": ");
     let _ = Print::write_all(&errors, &reason[..n]);
     let _ = Print::write_all(&errors, b"\n");
-    Said
+    Said { size: 0 }
 }
 
 // Says whether the program was started with the names of two texts; if not, the usage goes to standard error.
@@ -91,15 +95,17 @@ fn has_argument(rt: &HostRuntime, argument: usize, name: &mut [u8]) -> bool {
     !matches!(rt.arg(argument, name), Err(FillError::NotPresent))
 }
 
-// Opens the text that an argument names, and puts the name into the buffer, as far as it fits; or says why it cannot.
+// Opens the text that an argument names, and puts the name into the buffer, as far as it fits; or says why it cannot, and how long the name is that cannot be
+// opened.
 pub fn open(rt: &HostRuntime, argument: usize, name: &mut [u8]) -> Result<Opened, Said>
-    ensures { IfOk result (λ opened. IsPrefixLen opened.size name.new) }
+    ensures opened { IfOk result (λ opened. IsPrefixLen opened.size name.new) }
+    ensures failed { IfErr result (λ said. IsPrefixLen said.size name.new) }
 {
     match rt.arg(argument, name) {
-        Ok(size) => {
-            let file = open_named(rt, &name[..size])?;
-            Ok(Opened { file, size })
-        }
+        Ok(size) => match open_named(rt, &name[..size]) {
+            Ok(file) => Ok(Opened { file, size }),
+            Err(_) => Err(Said { size }),
+        },
         Err(FillError::TooLong) => Err(complain(rt, name, Error::from_raw_os_error(TOO_LONG))),
         Err(FillError::NotPresent) => Err(complain(rt, name, Error::from_raw_os_error(MISSING))),
     }
@@ -131,39 +137,47 @@ fn is_interrupted(got: &io::Result<usize>) -> bool {
     matches!(got, Err(error) if error.kind() == ErrorKind::Interrupted)
 }
 
-// Reads once, and gives how many bytes: at least one, or none at the end of the text; or says why it cannot.
+// Reads once, and gives how many bytes: at least one, or none at the end of the text; or says why it cannot, and that none were read.
 pub fn piece<R: Read>(
     rt: &HostRuntime,
     file: &mut R,
     name: &[u8],
     buf: &mut [u8],
 ) -> Result<usize, Said>
-    ensures { IfOk result (λ size. IsPrefixLen size buf.new) }
+    ensures read { IfOk result (λ size. IsPrefixLen size buf.new) }
+    ensures failed { IfErr result (λ said. IsPrefixLen said.size buf.new) }
 {
     read(file, buf).map_err(|error| complain(rt, name, error))
 }
 
-// Reads until the buffer is full or the text is at its end, and gives how many bytes are at the start of the buffer; or says why it cannot.
+// Reads until the buffer is full or the text is at its end, and gives how many bytes are at the start of the buffer; or says why it cannot, and how many are
+// there from before.
 fn fill<R: Read>(rt: &HostRuntime, file: &mut R, name: &[u8], buf: &mut [u8]) -> Result<usize, Said>
-    ensures { IfOk result (λ size. IsPrefixLen size buf.new) }
+    ensures read { IfOk result (λ size. IsPrefixLen size buf.new) }
+    ensures failed { IfErr result (λ said. IsPrefixLen said.size buf.new) }
 {
     let mut n = 0;
     // A `while`: each read says how far it came, so no range has these steps.
     while n < buf.len() {
-        match piece(rt, file, name, &mut buf[n..])? {
-            0 => return Ok(n),
-            got => n += got,
+        match piece(rt, file, name, &mut buf[n..]) {
+            Ok(0) => return Ok(n),
+            Ok(got) => n += got,
+            Err(_) => return Err(Said { size: n }),
         }
     }
     Ok(n)
 }
 
-// Reads the text that an argument names into the buffer, as far as there is room, and gives how many bytes; or says why it cannot.
+// Reads the text that an argument names into the buffer, as far as there is room, and gives how many bytes; or says why it cannot, and how many were read before
+// that.
 pub fn text(rt: &HostRuntime, argument: usize, buf: &mut [u8]) -> Result<usize, Said>
-    ensures { IfOk result (λ size. IsPrefixLen size buf.new) }
+    ensures read { IfOk result (λ size. IsPrefixLen size buf.new) }
+    ensures failed { IfErr result (λ said. IsPrefixLen said.size buf.new) }
 {
     let mut name = [0u8; NAME];
-    let Opened { mut file, size } = open(rt, argument, &mut name)?;
+    let Ok(Opened { mut file, size }) = open(rt, argument, &mut name) else {
+        return Err(Said { size: 0 });
+    };
     fill(rt, &mut file, &name[..size], buf)
 }
 
@@ -191,7 +205,7 @@ pub fn refuse(rt: &HostRuntime, refused: RefusedAt) {
     let _ = print(rt, &out[..n]);
 }
 
-// Prints bytes; or says why it cannot.
+// Prints bytes; or says why it cannot. No buffer is lent, so what is said has the size 0.
 pub fn print(rt: &HostRuntime, bytes: &[u8]) -> Result<(), Said> {
     Print::write_all(rt, bytes).map_err(|error| complain(rt, b"standard output", error))
 }

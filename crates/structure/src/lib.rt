@@ -1,7 +1,7 @@
 // Whether a row of leaf records, with the bounds of its functions, is that of a plan that keeps rules 3 to 9 and 19.
 #![tactic(auto)]
 
-ghost use Rattle.std.specs.Prelude.{◌≡◌, List, [], length, get_or, take, is_some, IfSome};
+ghost use Rattle.std.specs.Prelude.{◌≡◌, List, [], length, get_or, take, is_some, is_ok, IfSome, IfOk, IfErr};
 ghost use Prim.Native.Nat.{ℕ, ◌≤◌, ◌<◌};
 ghost use Rattle.model.specs.Acceptance.{Called, Seen, SeenAll};
 ghost use Rattle.model.specs.Forms.{Forms, forms};
@@ -291,12 +291,22 @@ pub fn seen_all(code: &Code) -> bool
     true
 }
 
-// The heights of the functions of a code that is that of a plan that keeps rules 3 to 9 and 19, or none.
-pub fn structured(code: &Code) -> Option<[u64; MAX_FUNCTIONS]>
+// The heights of the functions of a code that is that of a plan that keeps rules 3 to 9 and 19; as an error those of a code that keeps rules 3 to 7 and 19
+// alone, or none.
+pub fn structured(code: &Code) -> Result<[u64; MAX_FUNCTIONS], Option<[u64; MAX_FUNCTIONS]>>
     requires all_bounds { length code.now.bounds.now ≡ 17 }
-    ensures says { Says (is_some result) (CodeStructured code.now) }
-    ensures tall { IfSome result (λ hs. (p : CodePlan code.now) → take code.now.functions hs ≡ heights [] p.functions) }
+    ensures says { Says (is_ok result) (CodeStructured code.now) }
+    ensures tall { IfOk result (λ hs. (p : CodePlan code.now) → take code.now.functions hs ≡ heights [] p.functions) }
+    ensures formed { IfErr result (λ found. Says (is_some found) (CodePlan code.now)) }
+    ensures formed_tall { IfErr result (λ found. IfSome found (λ hs. (p : CodePlan code.now)
+        → take code.now.functions hs ≡ heights [] p.functions)) }
 {
-    let hs = formed(code)?;
-    (seen_all(code) && called(code)).then_some(hs)
+    let Some(hs) = formed(code) else {
+        return Err(None);
+    };
+    if seen_all(code) && called(code) {
+        Ok(hs)
+    } else {
+        Err(Some(hs))
+    }
 }

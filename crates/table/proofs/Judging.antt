@@ -6,7 +6,7 @@ use mathlib.Core.Path.{◌≡◌, refl, ap, sym, ◌∙◌, subst}
 use Prim.Native.Nat.{ℕ, ◌-◌, ◌*◌, ◌≤◌}
 use native.Mathlib.Omega.{arith}
 use lib.ListN.{length, take, length-take}
-use Rattle.std.specs.Prelude.{Ok, Err}
+use Rattle.std.specs.Prelude.{Result, Ok, Err}
 use Rattle.model.specs.declared.Refusal.{Refusal}
 use Rattle.model.specs.declared.Refusal.TheVariants.{Unseen, Uncalled, Long}
 use Rattle.model.specs.Plan.{Lines, resume_cost, Plan}
@@ -27,7 +27,7 @@ use Rattle.table.specs.declared.Head.{Head}
 use Rattle.table.specs.declared.Derived.{Derived}
 use Rattle.table.specs.Accepting.{seen_all?, called_from?, short?}
 use Rattle.table.specs.Table.{table_of, head_of}
-use Rattle.table.specs.Reading.{judged, result_of, RawOf, ColumnsWritten}
+use Rattle.table.specs.Reading.{judged, after_lines, result_of, RawOf, ColumnsWritten}
 use Rattle.table.specs.Private.{DerivedNumbers, headed}
 use Rattle.table.proofs.Accepting.{seen_all_exactly, called_exactly}
 use Rattle.table.proofs.Plans.{head_whole}
@@ -67,20 +67,26 @@ pub raw_numbers : (p : Plan) {raw : Raw} → Ok raw ≡ raw_of (plan p) →
     raw ≡ raw_with p.deadline p.switch p.edition (sizes p.functions) (length p.functions) (padded 17 (bounds_of p)) (padded 16 (heights_of p))
 raw_numbers p e = cc
 
-pub given : {p : Plan} {raw : Raw} {row : List Leaf} → RawOf p raw row → Given p raw row
+pub given : {p : Plan} {raw : Raw} {row : List Leaf} → RawOf (plan p) (Ok raw) row → Given p raw row
 given {p} {raw} {row} c =
     let e = raw_numbers p c.raw_is in
     let n = ap (λ (r : Raw). r.leaves) e in
-    let w : numbers (take raw.leaves row) ≡ row_of p = numbers_take raw.leaves row ∙ (ap (λ (k : ℕ). take (k * 8) (numbers row)) n ∙ c.row_is) in
-    let q = formed_plan p c.formed in
+    let w : numbers (take raw.leaves row) ≡ row_of p = numbers_take raw.leaves row ∙ (ap (λ (k : ℕ). take (k * 8) (numbers row)) n ∙ c.row_is p refl) in
+    let q = formed_plan p (c.formed p refl) in
     let read : (q : PlanOf (numbers (take raw.leaves row)) raw.bounds raw.functions) × (q.functions ≡ p.functions) =
     rw (w, ap (λ (r : Raw). r.bounds) e, ap (λ (r : Raw). r.functions) e) q in
     record {
       read = read.0;
       same = sym read.1;
       count = n;
-      held = omega (arith, n, ap length c.row_is, row_length p, length-take (sizes p.functions * 8) (numbers row), numbers_length row);
+      held = omega (arith, n, ap length (c.row_is p refl), row_length p, length-take (sizes p.functions * 8) (numbers row), numbers_length row);
     }
+
+-- Lines that gave raw numbers gave those of a plan.
+pub of_plan : (o : Outcome) {lines : Result Raw RefusedAt} {raw : Raw} {row : List Leaf} → lines ≡ Ok raw → RawOf o lines row
+    → (p : Plan) × (after_lines o ≡ judged p) × RawOf (plan p) (Ok raw) row
+of_plan (plan p) i k = (p, refl, rw i at k)
+of_plan (refused x j) i k = let e = k.raw_is in cc
 
 -- The rules that a structured row keeps are kept by the plan that was read.
 pub plan_seen : {p : Plan} {raw : Raw} {row : List Leaf} (g : Given p raw row) → SeenAll [] g.read.functions → SeenAll [] p.functions
@@ -118,13 +124,13 @@ head_given p raw d c n =
       (ap (λ (r : Raw). r.bounds) e, n.totals, n.max_load_totals),
     )
 
-pub accepts : {p : Plan} {raw : Raw} {row : List Leaf} (c : RawOf p raw row) (k : Head) {d : Derived} {t u v : List ℕ} → judged p ≡ plan p
-    → DerivedNumbers p d t u v → k ≡ headed raw d → Ok k ≡ result_of (judged p)
-accepts {p} {raw} c k {d} e n x = ap (λ (y : Head). Ok y) (x ∙ head_given p raw d c.raw_is n) ∙ ap (λ (y : Outcome). result_of y) (sym e)
+pub accepts : {o : Outcome} {p : Plan} {raw : Raw} {row : List Leaf} (c : RawOf (plan p) (Ok raw) row) (k : Head) {d : Derived} {t u v : List ℕ} → o ≡ plan p
+    → DerivedNumbers p d t u v → k ≡ headed raw d → Ok k ≡ result_of o
+accepts {p = p} {raw} c k {d} e n x = ap (λ (y : Head). Ok y) (x ∙ head_given p raw d c.raw_is n) ∙ ap (λ (y : Outcome). result_of y) (sym e)
 
 -- and its columns are filled.
-pub accepts_filled : {p : Plan} {d : Derived} {t u v : List ℕ} → judged p ≡ plan p → DerivedNumbers p d t u v → ColumnsWritten (judged p) t u v
-accepts_filled {p} {d} {t} {u} {v} e n =
+pub accepts_filled : {o : Outcome} {p : Plan} {d : Derived} {t u v : List ℕ} → o ≡ plan p → DerivedNumbers p d t u v → ColumnsWritten o t u v
+accepts_filled {o} {p} {d} {t} {u} {v} e n =
     record {
       turns_are = λ q x. subst (λ (y : Plan). take (sizes y.functions) t ≡ (table_of y).turns) (one_plan (sym e ∙ x)) n.turns_are;
       tails_are = λ q x. subst (λ (y : Plan). take (sizes y.functions) u ≡ (table_of y).tails) (one_plan (sym e ∙ x)) n.tails_are;

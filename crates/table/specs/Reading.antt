@@ -46,11 +46,11 @@ head_after (refused k j) h = h
 
 -- BEHIND THE LINES
 
--- The lines of a text were read as the plan p: the raw numbers are its, it keeps rules 3 to 7 and 19, and it begins the row.
-pub record RawOf (p : Plan) (raw : Raw) (row : List Leaf) : Type 0 where
-  pub raw_is : Ok raw ≡ raw_of (plan p)
-  pub formed : Formed p
-  pub row_is : take (sizes p.functions * 8) (numbers row) ≡ row_of p
+-- The lines of a text were read with the outcome o: they gave its raw numbers or its refusal, and a plan keeps rules 3 to 7 and 19 and begins the row.
+pub record RawOf (o : Outcome) (lines : Result Raw RefusedAt) (row : List Leaf) : Type 0 where
+  pub raw_is : lines ≡ raw_of o
+  pub formed : (p : Plan) → o ≡ plan p → Formed p
+  pub row_is : (p : Plan) → o ≡ plan p → take (sizes p.functions * 8) (numbers row) ≡ row_of p
 
 -- The columns of an accepted plan begin these lists.
 pub record ColumnsWritten (o : Outcome) (turns tails max_load_turns : List ℕ) : Type 0 where

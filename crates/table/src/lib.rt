@@ -4,11 +4,12 @@
 ghost use Rattle.std.specs.Prelude.{◌≡◌, ◌≤◌, length, take};
 ghost use Rattle.model.specs.Plan.{resume_cost, Plan};
 ghost use Rattle.model.specs.Acceptance.{sizes};
+ghost use Rattle.reader.specs.Outcome.{Outcome};
 ghost use Rattle.rows.specs.Answers.{Says};
 ghost use Rattle.structure.specs.Plans.{CodeStructured};
 ghost use Rattle.table.specs.Table.{edition_of, zero_head, good};
 ghost use Rattle.table.specs.Lent.{table_with, row_after, AtMaxLoad};
-ghost use Rattle.table.specs.Reading.{judged, verdict, result_of, RawOf, ColumnsWritten};
+ghost use Rattle.table.specs.Reading.{after_lines, verdict, result_of, RawOf, ColumnsWritten};
 ghost use Rattle.table.specs.Private.{HeadRanged, Derives, Agrees, headed, filled};
 
 use columns::{measure, sums_agree, tails_agree};
@@ -213,7 +214,7 @@ pub fn check(row: &[Leaf], head: &Head) -> bool
         return false;
     }
     let code = head.code(row);
-    structured(&code).is_some()
+    structured(&code).is_ok()
         && head.bounds[head.functions] as usize == head.leaves
         && agrees(&code, head)
 }
@@ -244,14 +245,22 @@ fn head_from(raw: &Raw, d: &Derived) -> Head
     }
 }
 
-// What to say of a plan whose lines gave these raw numbers and this row: rules 8 to 10. The columns are written; of a refused plan nothing is said of
-// them. (A text that the lines refuse has no raw numbers: `read_lines` gives its refusal, and `?` hands it on.)
-pub fn judge(raw: &Raw, row: &[Leaf], columns: &mut Columns) -> Result<Head, RefusedAt>
-    requires { (p : Plan) × RawOf p raw.now row.now }
-    ensures value { (p : Plan) → RawOf p raw.now row.now → result ≡ result_of (judged p) }
-    ensures columns_written { (p : Plan) → RawOf p raw.now row.now
-        → ColumnsWritten (judged p) columns.new.turns columns.new.tails columns.new.max_load_turns }
+// What to say of a text whose lines gave these raw numbers and this row, or this refusal, which stands: rules 8 to 10. The columns are written; of a refused
+// text nothing is said of them.
+pub fn judge(
+    lines: &Result<Raw, RefusedAt>,
+    row: &[Leaf],
+    columns: &mut Columns,
+) -> Result<Head, RefusedAt>
+    requires { (o : Outcome) × RawOf o lines.now row.now }
+    ensures value { (o : Outcome) → RawOf o lines.now row.now → result ≡ result_of (after_lines o) }
+    ensures columns_written { (o : Outcome) → RawOf o lines.now row.now
+        → ColumnsWritten (after_lines o) columns.new.turns columns.new.tails columns.new.max_load_turns }
 {
+    let raw = match lines {
+        Ok(raw) => raw,
+        Err(refused) => return Err(*refused),
+    };
     let code = Code {
         row: &row[..raw.leaves],
         bounds: &raw.bounds,
@@ -276,11 +285,10 @@ pub fn read(text: &[u8], row: &mut [Leaf]) -> Result<Head, RefusedAt>
     let mut own = [Leaf::default(); MAX_LEAVES];
     let mut columns = Columns::default();
     let room = MAX_LEAVES.min(row.len());
-    let raw = read_lines(text, &mut own[..room])?;
-    let n = raw.leaves;
-    let head = judge(&raw, &own, &mut columns)?;
-    let leaves = &mut own[..n];
+    let lines = read_lines(text, &mut own[..room]);
+    let head = judge(&lines, &own, &mut columns)?;
+    let leaves = &mut own[..head.leaves];
     columns.fill(leaves);
-    row[..n].copy_from_slice(leaves);
+    row[..head.leaves].copy_from_slice(leaves);
     Ok(head)
 }

@@ -8,7 +8,7 @@ use Rattle.structure.specs.Plans.{Structured}
 use Rattle.rows.proofs.Answers.{said_true, said_false}
 use Rattle.table.specs.Lent.{table_with}
 use Rattle.table.proofs.Checking.{good_exactly, plan_ranged, plan_structured, plan_end, tested}
-use Rattle.table.proofs.check.Goals.{then-is_some, else-is_some}
+use Rattle.table.proofs.check.Goals.{then-is_ok, else-is_ok}
 use Rattle.table.proofs.check.Goals as goal
 
 pub returns-then-not-ranged : goal.returns-then-not-ranged
@@ -23,13 +23,13 @@ returns-then-head c =
     let h = c.args.head.now in
     let k = c.code-code.ensures in
     let bounds-long : length h.bounds ≡ 17 = search rules in
-    elim c.if-is_some.branch [
-      | then-is_some w ↦
+    elim c.if-is_ok.branch [
+      | then-is_ok w ↦
           let q : Structured (numbers (take h.leaves ls)) h.bounds h.functions =
-          rw (k.row, k.bounds, k.functions) at (said_true _ (sym w.if-is_some.ensures) c.structured.ensures.says) in
+          rw (k.row, k.bounds, k.functions) at (said_true _ (sym w.if-is_ok.ensures.value) c.structured.ensures.says) in
           let end : get_or h.bounds h.functions 0 ≡ h.leaves = eqb-true _ _ (sym w.value-is ∙ c.if-head.true) in
           tested ls h q c.if-not-ranged.ensures bounds-long end (rw (k.row, k.bounds, k.functions) at c.agrees.ensures)
-      | else-is_some w ↦ let z = sym w.if-is_some.false ∙ (sym w.value-is ∙ c.if-head.true) in cc
+      | else-is_ok w ↦ let z = sym w.if-is_ok.false ∙ (sym w.value-is ∙ c.if-head.true) in cc
     ]
 
 pub returns-else-head : goal.returns-else-head
@@ -37,7 +37,7 @@ returns-else-head c =
     let ls = c.args.row.now in
     let h = c.args.head.now in
     let k = c.code-code.ensures in
-    good_exactly _ (table_with ls h) (rw c.if-head.false (λ t. elim c.if-is_some.branch [
-      | then-is_some w ↦ eqb-false _ _ (sym w.value-is ∙ c.if-head.false) (plan_end ls h t)
-      | else-is_some w ↦ said_false _ (sym w.if-is_some.ensures) c.structured.ensures.says (rw (k.row, k.bounds, k.functions) (plan_structured ls h t).0)
+    good_exactly _ (table_with ls h) (rw c.if-head.false (λ t. elim c.if-is_ok.branch [
+      | then-is_ok w ↦ eqb-false _ _ (sym w.value-is ∙ c.if-head.false) (plan_end ls h t)
+      | else-is_ok w ↦ said_false _ (sym w.if-is_ok.ensures.value) c.structured.ensures.says (rw (k.row, k.bounds, k.functions) (plan_structured ls h t).0)
     ]))
