@@ -22,7 +22,7 @@ use Rattle.rows.specs.Rows.{kind_at, point_at, detail_at, block_at, Piece}
 use Rattle.place.specs.Pieces.{Spanned}
 use Rattle.place.specs.declared.Sight.{Sight}
 use Rattle.place.specs.Spans.{Level, Stands, Running, ground, Enterable, base_from, base_to}
-use Rattle.place.specs.Private.{Nonempty, there, sight_beyond, sight_behind, next_beyond, quits, return_at, fall_at, Lands}
+use Rattle.place.specs.Private.{Nonempty, there, sight_by, sight_beyond, sight_behind, next_beyond, quits, return_at, fall_at, Lands}
 use Rattle.place.proofs.Suffixes.{truth, next_suffix}
 use Rattle.place.proofs.Sights.{met, unmet, free_as}
 use Rattle.place.proofs.Views.{View, a_leaf, a_call, a_loop, an_if, view, view_headed, turned_suc, level_spanned}
@@ -36,7 +36,7 @@ turned_next (suc v) s g x e =
     (ap (λ (f : Forms). next_beyond f x) d ∙ sym (ap (λ (f : Forms). next_beyond f x) z), ap quits d ∙ sym (ap quits z))
 
 turned_sight : (v : ℕ) (s g : Forms) (x : ℕ) → turned s v ≡ some g → sight_beyond s x ≡ sight_beyond g x
-turned_sight v s g x e = let q = turned_next v s g x e in λ i. record { free = q.1 i; meets = there (q.0 i) }
+turned_sight v s g x e = let q = turned_next v s g x e in λ i. sight_by (q.1 i) (there (q.0 i))
 
 -- One visit more of a loop.
 pub turned_once : (v : ℕ) (s : Forms) (b : Block) (m : ℕ) (body r : Forms) → turned s v ≡ some (loop b (suc m) body r) → turned s (suc v) ≡ some (loop b m body r)
@@ -213,12 +213,12 @@ module _ {w starts leaves : List ℕ} {n l : ℕ} (q : Running w starts n leaves
   unfolding fall_at
   fall_stuck s m f =
       let a = unmet s m in
-      let b : quits (top q h).place ≡ false = free_as s f in
+      let b : quits (top q h).place ≡ false = free_as s m f in
       whole_lands None (rw (a, b))
 
   down : {v : Sight} → v ≡ sight_beyond (top q h).place x → v.meets ≡ false → v.free ≡ true →
       fall_at ((top q h).place ∷ (top q h).under) x ≡ return_at (top q h).under x
-  down s m f = pass_down (top q h).place (top q h).under x (unmet s m) (free_as s f)
+  down s m f = pass_down (top q h).place (top q h).under x (unmet s m) (free_as s m f)
 
   pub fall_out : {v : Sight} → v ≡ sight_beyond (top q h).place x → v.meets ≡ false → l ≡ 1 →
       Lands (get_or q.table.funs (n - 1) done) leaves q.counts q.levels x None

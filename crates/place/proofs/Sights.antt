@@ -1,6 +1,6 @@
 -- What the ways through forms meet, record by record. Plain mathematics: no code is named here. Assumes nothing.
 use mathlib.Core.Path.{◌≡◌, refl, sym, ap, ◌∙◌}
-use mathlib.Core.Bool.{Bool, true, false, ◌&&◌, ◌||◌, and-true, and-false, or-true, or-false, and_assoc, and-or_distrib_right, true≢false, false≢true}
+use mathlib.Core.Bool.{Bool, true, false, ◌&&◌, ◌||◌, not, and-true, and-false, or-true, or-false, and_assoc, and-or_distrib_right, true≢false, false≢true}
 use mathlib.Core.List.{List}
 use mathlib.Core.Option.{Option, none, some}
 use Prim.Native.Nat.{ℕ, ◌+◌, ◌-◌, ◌≤◌, ◌<◌}
@@ -19,7 +19,7 @@ use Rattle.rows.specs.First.{rest}
 use Rattle.rows.proofs.Shape.{no_lines, then_in, else_in}
 use Rattle.place.specs.declared.Sight.{Sight}
 use Rattle.place.specs.Spans.{first_form}
-use Rattle.place.specs.Private.{Nonempty, there, sight_of, nothing, sight_at, series, either, sight_beyond, sight_behind, next_beyond, quits}
+use Rattle.place.specs.Private.{Nonempty, there, sight_by, sight_of, nothing, sight_at, series, either, sight_beyond, sight_behind, next_beyond, quits}
 use Rattle.place.proofs.Shape.{cond_at, piece_after}
 use Rattle.place.proofs.Suffixes.{suffix_headed, suffix_before, suffix_past, suffix_skip, suffix_first, first_own, first_flat, first_then, first_else}
 
@@ -61,8 +61,11 @@ module _ {v : Sight} {o : Option Forms} {s : Bool} (e : v ≡ record { free = s;
   pub unmet : v.meets ≡ false → o ≡ none
   unmet m = none_there o (ap (λ (y : Sight). y.meets) (sym e) ∙ m)
 
-pub free_as : {v : Sight} {m s t : Bool} → v ≡ record { free = s; meets = m } → v.free ≡ t → s ≡ t
-free_as e f = ap (λ (y : Sight). y.free) (sym e) ∙ f
+-- Where it is not met, whether some way meets no point.
+pub free_as : {v : Sight} {m s t : Bool} → v ≡ sight_by s m → v.meets ≡ false → v.free ≡ t → s ≡ t
+free_as {v} {m} {s} e n f =
+    let k : m ≡ false = ap (λ (y : Sight). y.meets) (sym e) ∙ n in
+    sym (ap (λ (k : Bool). s && not k) k ∙ and-true s) ∙ ap (λ (y : Sight). y.free) (sym e) ∙ f
 
 -- ONE BEHIND THE OTHER
 
@@ -107,8 +110,13 @@ meets_join f g x =
     ap there (seek-⊕ f g x) ∙ there_or (seek f x ⊕? g) (when (passes f) (seek g x)) ∙ ap (λ (k : Bool). k || there (when (passes f) (seek g x))) (there_joined (seek f x) g) ∙
     ap (λ (k : Bool). there (seek f x) || k) (there_when (passes f) (seek g x))
 
+series_by : (s k t m : Bool) → series (sight_by s k) (sight_by t m) ≡ sight_by (s && t) (k || (s && m))
+series_by true true t m = λ i. record { free = sym (and-false t) i; meets = true }
+series_by true false t m = refl
+series_by false k t m = refl
+
 sight-⊕ : (f g : Forms) (x : ℕ) → sight_of (f ⊕ g) x ≡ series (sight_of f x) (sight_of g x)
-sight-⊕ f g x = λ i. record { free = passes_join f g i; meets = meets_join f g x i }
+sight-⊕ f g x = (λ i. sight_by (passes_join f g i) (meets_join f g x i)) ∙ sym (series_by (passes f) (there (seek f x)) (passes g) (there (seek g x)))
 
 -- One part or the other, and then the same.
 or_met : (j a k b m : Bool) → ((j || (a && m)) || (k || (b && m))) ≡ ((j || k) || ((a || b) && m))
@@ -116,17 +124,25 @@ or_met true a k b m = refl
 or_met false a true b m = or-true (a && m)
 or_met false a false b m = sym (and-or_distrib_right a b m)
 
-either_series : (x y z : Sight) → either (series x z) (series y z) ≡ series (either x y) z
-either_series x y z = λ i. record { free = sym (and-or_distrib_right x.free y.free z.free) i; meets = or_met x.meets x.free y.meets y.free z.meets i }
+either_by : (s k t m : Bool) → either (sight_by s k) (sight_by t m) ≡ sight_by (s || t) (k || m)
+either_by s true t m = λ i. record { free = (and-false ((s && false) || (t && not m)) ∙ sym (and-false (s || t))) i; meets = true }
+either_by s false t true = λ i. record { free = (and-false ((s && true) || (t && false)) ∙ sym (and-false (s || t))) i; meets = true }
+either_by s false t false = λ i. record { free = (and-true s i || and-true t i) && true; meets = false }
+
+parts_by : (s k t m u n : Bool) → series (either (sight_by s k) (sight_by t m)) (sight_by u n) ≡ sight_by ((s || t) && u) ((k || m) || ((s || t) && n))
+parts_by s k t m u n = ap (λ (y : Sight). series y (sight_by u n)) (either_by s k t m) ∙ series_by (s || t) (k || m) u n
 
 -- Behind the condition of an if: its parts, and then the rest.
 beyond_if : (b : Block) (t e r : Forms) (x : ℕ) → sight_beyond (cond b t e r) x ≡ series (either (sight_of t x) (sight_of e x)) (sight_of r x)
 unfolding next_beyond quits
 beyond_if b t e r x =
-    let T = sight_of t x in
-    let R = sight_of r x in
-    ap (λ (m : Bool). record { free = passes (t ⊕ r) || passes (e ⊕ r); meets = m }) (there_or (seek (t ⊕ r) x) (seek (e ⊕ r) x)) ∙
-    ap (λ (y : Sight). either y (sight_of (e ⊕ r) x)) (sight-⊕ t r x) ∙ ap (either (series T R)) (sight-⊕ e r x) ∙ either_series T (sight_of e x) R
+    let j = there (seek t x) in
+    let k = there (seek e x) in
+    let m = there (seek r x) in
+    ap (sight_by (passes (t ⊕ r) || passes (e ⊕ r))) (there_or (seek (t ⊕ r) x) (seek (e ⊕ r) x)) ∙
+    (λ i. sight_by (passes_join t r i || passes_join e r i) (meets_join t r x i || meets_join e r x i)) ∙
+    (λ i. sight_by (sym (and-or_distrib_right (passes t) (passes e) (passes r)) i) (or_met j (passes t) k (passes e) m i)) ∙
+    sym (parts_by (passes t) j (passes e) k (passes r) m)
 
 beyond-⊕ : (f g : Forms) (x : ℕ) → Nonempty f → sight_beyond (f ⊕ g) x ≡ series (sight_beyond f x) (sight_of g x)
 unfolding next_beyond quits ◌⊕◌
@@ -150,13 +166,13 @@ abbrev at_mark : Block → ℕ → Sight → Sight
 at_mark b x s = pick b.point (sight_at b.number x) s
 
 mark : (b : Block) (x : ℕ) (f k j : Bool) → j ≡ pick b.point (eqb b.number x) k →
-    ◌≡◌ {A = Sight} (record { free = pick b.point false f; meets = j }) (at_mark b x (record { free = f; meets = k }))
+    sight_by (pick b.point false f) j ≡ at_mark b x (sight_by f k)
 mark b x f k j e = go b.point e
   where
     go : (p : Bool) → j ≡ pick p (eqb b.number x) k →
-        ◌≡◌ {A = Sight} (record { free = pick p false f; meets = j }) (pick p (sight_at b.number x) (record { free = f; meets = k }))
-    go true e = λ i. record { free = false; meets = e i }
-    go false e = λ i. record { free = f; meets = e i }
+        sight_by (pick p false f) j ≡ pick p (sight_at b.number x) (sight_by f k)
+    go true e = λ i. sight_by false (e i)
+    go false e = λ i. sight_by f (e i)
 
 parts_there : (u v z : Option Forms) (s : Bool) (r : Forms) → there (u ⊕? r or v ⊕? r or when s z) ≡ ((there u || there v) || (s && there z))
 parts_there (some u) v z s r = refl
@@ -178,9 +194,11 @@ sight_loop b m body r x = mark b x (passes r) (there (seek r x)) (there (seek (l
 sight_cond : (b : Block) (t e r : Forms) (x : ℕ) → sight_of (cond b t e r) x ≡ at_mark b x (series (either (sight_of t x) (sight_of e x)) (sight_of r x))
 unfolding passes seek
 sight_cond b t e r x =
-    let s = series (either (sight_of t x) (sight_of e x)) (sight_of r x) in
-    mark b x s.free s.meets (there (seek (cond b t e r) x))
-    (there_at b x (cond b t e r) _ ∙ ap (λ (k : Bool). pick b.point (eqb b.number x) k) (parts_there (seek t x) (seek e x) (seek r x) (passes t || passes e) r))
+    let s = passes t || passes e in
+    let m = (there (seek t x) || there (seek e x)) || (s && there (seek r x)) in
+    mark b x (s && passes r) m (there (seek (cond b t e r) x))
+    (there_at b x (cond b t e r) _ ∙ ap (λ (k : Bool). pick b.point (eqb b.number x) k) (parts_there (seek t x) (seek e x) (seek r x) s r)) ∙
+    ap (at_mark b x) (sym (parts_by (passes t) (there (seek t x)) (passes e) (there (seek e x)) (passes r) (there (seek r x))))
 
 sight_step : (w : List ℕ) (lv i e : ℕ) (l : Lines) (G : List Forms) (x : ℕ) → Rep w lv i e l → i < e →
     sight_of (forms G l) x ≡ at_mark (block_at w i) x (series (sight_beyond (first_form (forms G l)) x) (sight_of (forms G (rest l)) x))

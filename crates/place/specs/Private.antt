@@ -1,6 +1,6 @@
 -- What only the private functions promise. Nothing of this stands in the contract of a public one.
 -- Assumes nothing: these are definitions.
-use Rattle.std.specs.Prelude.{Some, None, ℕ, ◌+◌, ◌-◌, ◌*◌, ◌≤◌, ◌<◌, Bool, true, false, ◌||◌, ◌&&◌, eqb, ◌≡◌, List, [], ◌∷◌, ◌⊎◌, length, get_or}
+use Rattle.std.specs.Prelude.{Some, None, ℕ, ◌+◌, ◌-◌, ◌*◌, ◌≤◌, ◌<◌, Bool, true, false, ◌||◌, ◌&&◌, not, eqb, ◌≡◌, List, [], ◌∷◌, ◌⊎◌, length, get_or}
 use Rattle.std.specs.Prelude.{Option as RustOption}
 use Rattle.std.proofs.Math.Option.{Option, none, some}
 use Rattle.model.specs.Forms.{Forms, done, leaf, call, loop, cond, ◌⊕◌}
@@ -55,9 +55,13 @@ abbrev pub there : Option Forms → Bool
 there none = false
 there (some f) = true
 
--- What the ways through forms meet: whether some way meets no point, and whether some way comes in silence to x, the point sought.
+-- What ways meet, where s says whether some way meets no point, and m whether some way comes in silence to the point sought: once that is met, none leads on.
+abbrev pub sight_by : Bool → Bool → Sight
+sight_by s m = record { free = s && not m; meets = m }
+
+-- What the ways through forms meet, where x is the point sought.
 abbrev pub sight_of : Forms → ℕ → Sight
-sight_of f x = record { free = passes f; meets = there (seek f x) }
+sight_of f x = sight_by (passes f) (there (seek f x))
 
 -- Nothing; a point; one behind the other; one or the other.
 abbrev pub nothing : Sight
@@ -70,7 +74,7 @@ abbrev pub series : Sight → Sight → Sight
 series x y = record { free = x.free && y.free; meets = x.meets || (x.free && y.meets) }
 
 abbrev pub either : Sight → Sight → Sight
-either x y = record { free = x.free || y.free; meets = x.meets || y.meets }
+either x y = sight_by (x.free || y.free) (x.meets || y.meets)
 
 -- What is left to run when forms come to x behind the visit that they open with, a loop left and a call passed.
 unfoldable pub next_beyond : Forms → ℕ → Option Forms
@@ -90,7 +94,7 @@ quits (cond b t e r) = passes (t ⊕ r) || passes (e ⊕ r)
 
 -- What the ways through meet behind the visit that the forms open with, a loop left and a call passed.
 abbrev pub sight_beyond : Forms → ℕ → Sight
-sight_beyond f x = record { free = quits f; meets = there (next_beyond f x) }
+sight_beyond f x = sight_by (quits f) (there (next_beyond f x))
 
 -- The same behind a leaf, if it is there.
 unfoldable pub sight_behind : Option Forms → ℕ → RustOption Sight

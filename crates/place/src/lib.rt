@@ -39,7 +39,7 @@ pub struct Place {
     pub earlier: ByLevel,
 }
 
-// What the ways through some forms meet: `free`, some way meets no point; `meets`, some way comes in silence to the point sought.
+// What the ways through some forms meet: `meets`, some way comes in silence to the point sought; `free`, none does, and some way meets no point.
 #[derive(Clone, Copy)]
 struct Sight {
     free: bool,
@@ -77,13 +77,14 @@ impl Sight {
         }
     }
 
-    // This or the other.
+    // This or the other: where either comes to the point sought, no way leads on.
     fn or(self, other: Sight) -> Sight
         ensures { result ≡ either self other }
     {
+        let meets = self.meets || other.meets;
         Sight {
-            free: self.free || other.free,
-            meets: self.meets || other.meets,
+            free: (self.free || other.free) && !meets,
+            meets,
         }
     }
 }
