@@ -104,6 +104,11 @@ behind {l} {m} {n} {xs} {ys} {at} {i} {e} p q = record {
   after = omega (arith, p.after, q.after, same_size l at xs p.stored, length-append xs ys);
 }
 
+-- A further byte of a text, where those before it were written.
+pub byte_more : (text : List ℕ) (k : ℕ) {l m n : List ℕ} {at i e : ℕ} → k < length text → Printed l at (take k text) m i → Printed m i (get_or text k 0 ∷ []) n e
+    → Printed l at (take (k + 1) text) n e
+byte_more text k h p q = rw (add-one k, take-suc text k 0 h) (behind p q)
+
 -- The same of texts of at most so many bytes.
 pub joined : {a b : ℕ} {l m n xs ys : List ℕ} {at i e : ℕ} → PrintedWithin a l at xs m i → PrintedWithin b m i ys n e
     → PrintedWithin (a + b) l at (xs ++ ys) n e

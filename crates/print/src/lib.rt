@@ -16,16 +16,6 @@ use text::TEN;
 // How many bytes a buffer for one line has: more than that of a refused plan, an answer or the ticks of a release.
 pub const SIZE: usize = 128;
 
-// Writes a text at a place, as far as there is room, and gives the place after it.
-pub fn put_bytes(out: &mut [u8], at: usize, text: &[u8]) -> usize
-    ensures { Printed out.old at text.now out.new result }
-{
-    let start = at.min(out.len());
-    let count = text.len().min(out.len() - start);
-    out[start..start + count].copy_from_slice(&text[..count]);
-    at + count
-}
-
 // Writes one byte at a place, if there is room, and gives the place after it.
 fn put_byte(out: &mut [u8], at: usize, b: u8) -> usize
     ensures { Printed out.old at (b ∷ []) out.new result }
@@ -35,6 +25,26 @@ fn put_byte(out: &mut [u8], at: usize, b: u8) -> usize
     }
     out[at] = b;
     at + 1
+}
+
+// The longest text that is written byte by byte: to copy a slice costs more than that.
+const SHORT: usize = 8;
+
+// Writes a text at a place, as far as there is room, and gives the place after it. What is written is short, mostly one blank.
+pub fn put_bytes(out: &mut [u8], at: usize, text: &[u8]) -> usize
+    ensures { Printed out.old at text.now out.new result }
+{
+    if text.len() <= SHORT {
+        let mut end = at;
+        for b in text {
+            end = put_byte(out, end, *b);
+        }
+        return end;
+    }
+    let start = at.min(out.len());
+    let count = text.len().min(out.len() - start);
+    out[start..start + count].copy_from_slice(&text[..count]);
+    at + count
 }
 
 // Writes a number in decimal at a place, the digits of its tenth, then its last digit, and gives the place after it.
