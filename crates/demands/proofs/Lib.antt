@@ -7,6 +7,7 @@ pub mod Delivered
 pub mod Decisions
 pub mod Reached
 pub mod Cases
+pub mod Returned
 pub mod Worst
 pub mod Faster
 pub mod Theorems

@@ -1,14 +1,16 @@
 -- What is promised of the calls that integrators link: the three demands, rule 11 and the marked cases. Statements alone: each proof names the lemma that
--- shows it. `read_answer` and `after_read` are what the delivered `read` answers and leaves, `delivered` what `release`, `report` and `end` answer and leave
--- (specs/Delivered), each by its contract. docs/BELIEVE.md lists every definition that these statements need.
-use mathlib.Core.List.{List, [], ◌∷◌, ◌++◌}
+-- shows it. `read_answer` and `after_read` are what the delivered `read` answers and leaves, `delivered` what `release`, `report` and `end` answer and leave,
+-- and `read_returned` and `call_returned` the numbers that they return under their C names (specs/Delivered), each by its contract. docs/BELIEVE.md lists every
+-- definition that these statements need.
+use mathlib.Core.List.{List, [], ◌∷◌, ◌++◌, map}
 use mathlib.Core.Logic.{◌⊎◌, ◌↔◌}
-use mathlib.Core.Path.{◌≡◌}
+use mathlib.Core.Path.{◌≡◌, refl}
 use Prim.Native.Nat.{ℕ, ◌≤◌}
 use lib.ListN.{length, drop}
 use Rattle.std.specs.Prelude.{Ok, Err}
 use Rattle.model.specs.declared.Refusal.{Refusal}
 use Rattle.model.specs.declared.Refusal.TheVariants.{Broken}
+use Rattle.model.specs.Refusals.{number_of}
 use Rattle.model.specs.declared.Edition.TheVariants.{First}
 use Rattle.model.specs.Plan.{Block, Plan}
 use Rattle.model.specs.Forms.{main}
@@ -35,12 +37,13 @@ use Rattle.control.specs.Meaning.{StandsSomewhere, HistoryState}
 use Rattle.control.specs.Cases.{worst_of_A, faster_on_A, cases, worst_of_returning_A, two_returns, two_stays}
 use Rattle.rolsipay.specs.declared.State.{State}
 use Rattle.rolsipay.specs.Calling.{zeros, state_of}
-use Rattle.demands.specs.Delivered.{Memory, read_answer, after_read, ReadAs, delivered}
-use Rattle.demands.specs.Rules.{Ruled, TableOf, Refuses}
+use Rattle.rolsipay.proofs.Theorems as rolsipay
+use Rattle.demands.specs.Delivered.{Memory, read_answer, after_read, ReadAs, delivered, read_returned, call_returned}
+use Rattle.demands.specs.Rules.{refusals_in_order, Ruled, TableOf, Refuses}
 use Rattle.demands.specs.Tables.{Numbers}
 use Rattle.demands.specs.Decisions.{Decides, DecidesAsBefore, Closes, ClosesAsBefore}
 use Rattle.demands.specs.Lists.{exchanges, before_end, text_A, text_returning_A}
-use Rattle.demands.specs.Cases.{EachRight}
+use Rattle.demands.specs.Cases.{EachRight, MarkedNumbers}
 use Rattle.demands.proofs.Tables as tables
 use Rattle.demands.proofs.Decisions as decisions
 use Rattle.demands.proofs.Reached as reached
@@ -48,21 +51,48 @@ use Rattle.demands.proofs.Delivered as delivering
 use Rattle.demands.proofs.Worst as worst
 use Rattle.demands.proofs.Faster as faster
 use Rattle.demands.proofs.Cases as marked
+use Rattle.demands.proofs.Returned as returned
 
 -- DEMAND 1: THE RULES' NUMBERS, AND A REFUSAL CHANGES NOTHING
 
--- Consider any text and any lent memory. Reading refuses the text by a number and a line exactly when the rules say this number and line.
+-- The documents number the refusals from 1 to 19 in this order, each by a number of its own.
+pub refusals_numbered : map number_of refusals_in_order ≡ 1 ∷ 2 ∷ 3 ∷ 4 ∷ 5 ∷ 6 ∷ 7 ∷ 8 ∷ 9 ∷ 10 ∷ 11 ∷ 12 ∷ 13 ∷ 14 ∷ 15 ∷ 16 ∷ 17 ∷ 18 ∷ 19 ∷ []
+refusals_numbered = refl
+
+pub number_tells_refusal : (k l : Refusal) → number_of k ≡ number_of l → k ≡ l
+number_tells_refusal = rolsipay.number_tells
+
+-- Consider any text and any lent memory. Reading refuses the text by a refusal and a line exactly when the rules say this refusal and line.
 pub plan_refused_exactly : (text : List ℕ) (m : Memory) (k : Refusal) (j : ℕ) →
     (read_answer text m ≡ Err (record { refusal = k; line = j })) ↔ Ruled (length m.row) text k j
 plan_refused_exactly = tables.text_refused
+
+-- Under its C name reading refuses the text by a number and a line exactly when the rules say this number and line; and number 0 says that it is accepted.
+pub plan_refused_by_number : (text : List ℕ) (m : Memory) (n j : ℕ) → 1 ≤ n →
+    (read_returned text m ≡ record { number = n; line = j }) ↔ ((k : Refusal) × Ruled (length m.row) text k j × (number_of k ≡ n))
+plan_refused_by_number = returned.plan_by_number
+
+pub plan_accepted_by_0 : (text : List ℕ) (m : Memory) → ((read_returned text m).number ≡ 0) ↔ (read_answer text m ≡ Ok tt)
+plan_accepted_by_0 = returned.plan_accepted_by_0
 
 -- A refused plan leaves the lent memory exactly as it was: every record of the row, and the head.
 pub refused_plan_keeps_memory : (text : List ℕ) (m : Memory) (k : Refusal) (j : ℕ) → read_answer text m ≡ Err (record { refusal = k; line = j }) → after_read text m ≡ m
 refused_plan_keeps_memory = tables.refused_leaves
 
--- Consider any lent memory, any lent state and any call. It is refused by a number exactly when the rules refuse it by that number; so by one number only.
+-- Consider any lent memory, any lent state and any call. It is refused by a refusal exactly when the rules refuse it by that one; so by one only.
 pub call_refused_exactly : (m : Memory) (s : State) (c : Call) (k : Refusal) → (((delivered m).respond s c).answer ≡ Refused k) ↔ Refuses m (state_of s) c k
 call_refused_exactly = reached.refused_exactly
+
+-- Under its C name it is refused by a number exactly when the rules refuse it by that number; so by one number only. Number 0 says that it is accepted, and so
+-- does every word but 0.
+pub call_refused_by_number : (m : Memory) (s : State) (c : Call) (n : ℕ) → 1 ≤ n →
+    ((call_returned m s c).number ≡ n) ↔ ((k : Refusal) × Refuses m (state_of s) c k × (number_of k ≡ n))
+call_refused_by_number = returned.call_by_number
+
+pub call_accepted_by_0 : (m : Memory) (s : State) (c : Call) →
+    (((call_returned m s c).number ≡ 0) ↔ Accepts ((delivered m).respond s c).answer) ×
+    ((1 ≤ (call_returned m s c).word) ↔ Accepts ((delivered m).respond s c).answer)
+call_accepted_by_0 = returned.call_accepted_by_0
 
 -- A refused call leaves the lent state exactly as it was, every number of it.
 pub refused_call_keeps_state : (m : Memory) (s : State) (c : Call) (k : Refusal) → ((delivered m).respond s c).answer ≡ Refused k → ((delivered m).respond s c).state ≡ s
@@ -252,6 +282,11 @@ pub table_good_exactly : (m : Memory) (s : State) → state_of s ≡ Idle → (c
     (((delivered m).respond s c).answer ≡ Refused Broken) ↔ ((text : List ℕ) (before : Memory) (p : Plan) → ReadAs text before p → ¬ (after_read text before ≡ m))
 table_good_exactly = reached.broken_exactly
 
+-- Under its C name the call returns number 11 exactly then.
+pub table_good_by_number : (m : Memory) (s : State) → state_of s ≡ Idle → (c : Call) →
+    ((call_returned m s c).number ≡ 11) ↔ ((text : List ℕ) (before : Memory) (p : Plan) → ReadAs text before p → ¬ (after_read text before ≡ m))
+table_good_by_number = returned.table_by_number
+
 -- Rule 11, the state: on the table of an accepted plan every call while a release is open is refused by 11 exactly when the state neither stands at the
 -- release with the times of the release, nor stands where some run of the plan stands, at its last point, open loops and calls with its visit counts, with
 -- that run's 33 remaining times.
@@ -259,6 +294,15 @@ pub state_good_exactly : (p : Plan) (m : Memory) → TableOf p m → (s : State)
     (((delivered m).respond s c).answer ≡ Refused Broken) ↔ ¬ StandsSomewhere p o
 state_good_exactly = reached.nowhere_exactly
 
+-- Under its C name the call returns number 11 exactly then.
+pub state_good_by_number : (p : Plan) (m : Memory) → TableOf p m → (s : State) (o : OpenRelease) → state_of s ≡ Open o → (c : Call) →
+    ((call_returned m s c).number ≡ 11) ↔ ¬ StandsSomewhere p o
+state_good_by_number = returned.state_by_number
+
 -- The marked cases m1 to m12 hold, in one table: in every memory that holds the table of the case's plan.
 pub marked_cases_right : EachRight cases
 marked_cases_right = marked.each_right
+
+-- Those of them that are refused return document 01's numbers: 17 in m4 and m8, 13 in m10.
+pub marked_numbers_right : MarkedNumbers
+marked_numbers_right = returned.marked_numbers

@@ -2,7 +2,7 @@
 -- Assumes nothing: these are definitions.
 use Rattle.std.specs.Prelude.{List, [], ◌∷◌, ◌++◌, ◌⊎◌, ◌≡◌, ℕ, ◌^◌, ◌≤◌, ◌<◌, length}
 use Rattle.model.specs.declared.Refusal.{Refusal}
-use Rattle.model.specs.declared.Refusal.TheVariants.{Oversize, Unseen, Uncalled, Long, Broken, Busy, Unfit, Idle, Stranger, Backward, Astray}
+use Rattle.model.specs.declared.Refusal.TheVariants.{Oversize, Form, Range, Count, Load, Target, Depth, Unseen, Uncalled, Long, Broken, Busy, Unfit, Idle, Stranger, Backward, Astray, Garbled, Costless}
 use Rattle.model.specs.Plan.{C, M, Plan}
 use Rattle.model.specs.Forms.{main}
 use Rattle.model.specs.Runs.{Run, visits, sum}
@@ -21,6 +21,14 @@ use Rattle.control.specs.declared.State.TheVariants as state
 use Rattle.control.specs.State.{stack_of}
 use Rattle.control.specs.Meaning.{StandsSomewhere}
 use Rattle.demands.specs.Delivered.{Memory, after_read}
+
+-- THE REFUSALS
+
+-- The refusals in the order of their numbers, 1 to 17 of 01, 18 and 19 of 02.
+abbrev pub refusals_in_order : List Refusal
+refusals_in_order =
+    Oversize ∷ Form ∷ Range ∷ Count ∷ Load ∷ Target ∷ Depth ∷ Unseen ∷ Uncalled ∷ Long ∷ Broken ∷ Busy ∷ Unfit ∷ Idle ∷ Stranger ∷ Backward ∷ Astray ∷
+    Garbled ∷ Costless ∷ []
 
 -- READING A PLAN: 1; THEN LINE BY LINE, IN A LINE 2, 3, 4, 5, 19, 6, 7; THEN 8, 9, 10
 
