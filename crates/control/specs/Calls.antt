@@ -1,15 +1,17 @@
 -- The calls on a table (01, 'Calls'): from the table, the state and the call alone, the answer and every later field of the state. The plan is read off the
 -- table, the place off the state, the controller over places answers, and the state that it leaves is written down.
 -- Assumes nothing: these are definitions.
-use Rattle.std.specs.Prelude.{[], ◌∷◌, get_or}
+use Rattle.std.specs.Prelude.{[], ◌∷◌, ℕ, eqb, get_or}
 use Rattle.std.proofs.Math.Option.{Option, none, some}
 use Rattle.model.specs.declared.Refusal.TheVariants.{Broken}
 use Rattle.model.specs.Plan.{Plan}
 use Rattle.model.specs.Stack.{Levels}
 use Rattle.model.specs.declared.Call.{Call}
+use Rattle.model.specs.declared.Call.TheVariants.{Release, Report, End}
 use Rattle.model.specs.declared.Answer.{Answer}
 use Rattle.model.specs.declared.Answer.TheVariants.{Refused, Decided, Closed}
 use Rattle.model.specs.Calls.{Reply, Controller, refuse}
+use Rattle.model.specs.Places.{pick}
 use Rattle.model.specs.Decisions.{Place, at_release, at_report}
 use Rattle.model.specs.Controller as places
 use Rattle.model.specs.Controller.{idle, running, respond}
@@ -75,3 +77,7 @@ as_step r = record { answer = r.answer; state = r.state }
 -- The controller of a table.
 abbrev pub controller_of : Table → Controller State
 controller_of t = record { fresh = fresh; respond = call_on t }
+
+-- The call of a number: 0 release, 1 report, else end.
+abbrev pub call_of : ℕ → ℕ → ℕ → Call
+call_of k point reading = pick (eqb k 0) Release (pick (eqb k 1) (Report point reading) (End reading))

@@ -18,7 +18,7 @@ ghost use Rattle.table.specs.Table.{good};
 ghost use Rattle.table.specs.Lent.{table_with, Coded};
 ghost use Rattle.control.specs.declared.State.TheVariants.{Idle, Open};
 ghost use Rattle.control.specs.State.{standing};
-ghost use Rattle.control.specs.Calls.{place_of, running_at, read_state, reply, on_state, call_on, as_step};
+ghost use Rattle.control.specs.Calls.{place_of, running_at, read_state, reply, on_state, call_on, as_step, call_of};
 ghost use Rattle.control.specs.Private.{terms, rule_met, weighing, opened, arrived, stepped, closing, Headed, Costed, WholeTable};
 ghost use Rattle.control.specs.Private.{GoodState, GoodOnCode, GoodOnTable, Arriving, moved_to};
 
@@ -365,4 +365,22 @@ pub fn call(row: &[Leaf], head: &Head, mut state: State, call: Call) -> Step
 {
     let answer = answer_to(check(row, head), row, head, &mut state, call);
     Step { answer, state }
+}
+
+// The calls by number, for callers that hold them as numbers.
+pub const RELEASE: u64 = 0;
+
+pub const REPORT: u64 = 1;
+
+pub const END: u64 = 2;
+
+// The call of a number: a release, a report of a point with a reading, or else an end with a reading.
+pub fn call_from(kind: u64, point: u64, reading: u64) -> Call
+    ensures { result ≡ call_of kind point reading }
+{
+    match kind {
+        RELEASE => Call::Release,
+        REPORT => Call::Report(point, reading),
+        _ => Call::End(reading),
+    }
 }

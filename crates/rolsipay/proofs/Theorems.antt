@@ -194,6 +194,15 @@ refusal_back Astray = refl
 refusal_back Garbled = refl
 refusal_back Costless = refl
 
+-- So no two refusals have one number.
+pub number_tells : (k l : Refusal) → number_of k ≡ number_of l → k ≡ l
+number_tells k l e = sym (refusal_back k) ∙ (ap refusal_in e ∙ refusal_back l)
+
+-- And none has 0.
+pub numbered_from_1 : (k : Refusal) → ¬ (number_of k ≡ 0)
+unfolding refusal_in
+numbered_from_1 k e = let z : number_of k ≡ 19 = ap number_of (sym (refusal_back k) ∙ ap refusal_in e) in omega arith
+
 -- The answer that flat numbers stand for, by whether the call is an end.
 word_in : ℕ → Word
 word_in n = pick (eqb n 1) Go (pick (eqb n 2) Suspend (pick (eqb n 3) Stay Resume))
