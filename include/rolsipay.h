@@ -27,7 +27,7 @@ extern "C" {
 #endif
 
 /* The version of this header, to be compared by #if: 10000 * major + 100 * minor + patch. The library carries none: take both from one dist/. */
-#define ROLSIPAY_VERSION 10500            /* 1.5.0 */
+#define ROLSIPAY_VERSION 10501            /* 1.5.1 */
 
 /* The most stack that a call takes, in bytes, whatever it is given; docs/MEMORY.md tells how it was measured. */
 #define ROLSIPAY_STACK_READ 86016         /* rolsipay_read */

@@ -7,7 +7,7 @@ with System;
 package Rolsipay is
 
    --  The version of this binding. The library carries none: take both from one dist/.
-   Version : constant := 10_500;
+   Version : constant := 10_501;
 
    --  The most stack that a call takes, in bytes: Read; Release, Report and Finish, each.
    Stack_Read : constant := 86_016;
