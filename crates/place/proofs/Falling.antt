@@ -24,7 +24,7 @@ use Rattle.place.specs.declared.Sight.{Sight}
 use Rattle.place.specs.Spans.{Level, Stands, Running, ground, Enterable, base_from, base_to}
 use Rattle.place.specs.Private.{Nonempty, there, sight_by, sight_beyond, sight_behind, next_beyond, quits, return_at, fall_at, Lands}
 use Rattle.place.proofs.Suffixes.{truth, next_suffix}
-use Rattle.place.proofs.Sights.{met, unmet, free_as}
+use Rattle.place.proofs.Sights.{met, unmet, free_unmet}
 use Rattle.place.proofs.Views.{View, a_leaf, a_call, a_loop, an_if, view, view_headed, turned_suc, level_spanned}
 
 -- Visits of a loop do not change what comes when it is left.
@@ -213,12 +213,12 @@ module _ {w starts leaves : List ℕ} {n l : ℕ} (q : Running w starts n leaves
   unfolding fall_at
   fall_stuck s m f =
       let a = unmet s m in
-      let b : quits (top q h).place ≡ false = free_as s m f in
+      let b : quits (top q h).place ≡ false = free_unmet s m f in
       whole_lands None (rw (a, b))
 
   down : {v : Sight} → v ≡ sight_beyond (top q h).place x → v.meets ≡ false → v.free ≡ true →
       fall_at ((top q h).place ∷ (top q h).under) x ≡ return_at (top q h).under x
-  down s m f = pass_down (top q h).place (top q h).under x (unmet s m) (free_as s m f)
+  down s m f = pass_down (top q h).place (top q h).under x (unmet s m) (free_unmet s m f)
 
   pub fall_out : {v : Sight} → v ≡ sight_beyond (top q h).place x → v.meets ≡ false → l ≡ 1 →
       Lands (get_or q.table.funs (n - 1) done) leaves q.counts q.levels x None

@@ -25,7 +25,7 @@ use Rattle.place.specs.Spans.{Stands, Running, ground, Enterable, inner_from, in
 use Rattle.place.specs.Private.{Placed, sight_of, fall_at, Moved, Lands, Finds}
 use Rattle.place.specs.Stack.{FunctionTable}
 use Rattle.place.proofs.Suffixes.{seek_suffix}
-use Rattle.place.proofs.Sights.{met, unmet, free_as}
+use Rattle.place.proofs.Sights.{met, unmet, free_unmet}
 use Rattle.place.proofs.Views.{View, a_leaf, a_call, a_loop, an_if, view, main_spanned, level_spanned, open_call, open_loop, turned_suc}
 use Rattle.place.proofs.Falling.{turned_once, Top, top, top_view}
 use Rattle.place.proofs.Decode.{stands_traceable}
@@ -226,14 +226,14 @@ module _ {w starts : List ℕ} {n : ℕ} {leaves counts : List ℕ} {l : ℕ} (q
     call_pass r mt fr un =
         let s = looked c.spanned x hv in
         let a = unmet s mt in
-        let b = free_as s mt fr in
+        let b = free_unmet s mt fr in
         finds_as x r (whole_onward x (called ∙ rw (a, b)) ∙ whole_fall x) un
 
     pub call_stop : v.meets ≡ false → v.free ≡ false → Answers x None
     call_stop mt fr =
         let s = looked c.spanned x hv in
         let a = unmet s mt in
-        let b = free_as s mt fr in
+        let b = free_unmet s mt fr in
         whole_onward x (called ∙ rw (a, b))
 
   -- a loop that is a point.
@@ -298,13 +298,13 @@ module _ {w starts : List ℕ} {n : ℕ} {leaves counts : List ℕ} {l : ℕ} (q
       pub loop_stop : v.meets ≡ false → v.free ≡ false → Answers x None
       loop_stop mt fr =
           let a = unmet seen mt in
-          let b = free_as seen mt fr in
+          let b = free_unmet seen mt fr in
           turns round.0 round.1 ∙ else_next (fall_at q.stack.levels x) _ un ∙ rw (a, b)
 
       past_body : v.meets ≡ false → v.free ≡ true → onward_at q.stack.levels x ≡ pick (eqb hd x) (some (loop (block_at w hd) round.0 c.body c.later ∷ front.under)) none
       past_body mt fr =
           let a = unmet seen mt in
-          let b = free_as seen mt fr in
+          let b = free_unmet seen mt fr in
           turns round.0 round.1 ∙ else_next (fall_at q.stack.levels x) _ un ∙ passing (front.place ∷ front.under) (seek c.body x) (passes c.body) _ a b
 
       pub loop_other : v.meets ≡ false → v.free ≡ true → (hd ≡ x → ⊥) → Answers x None

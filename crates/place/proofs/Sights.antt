@@ -61,11 +61,15 @@ module _ {v : Sight} {o : Option Forms} {s : Bool} (e : v ≡ record { free = s;
   pub unmet : v.meets ≡ false → o ≡ none
   unmet m = none_there o (ap (λ (y : Sight). y.meets) (sym e) ∙ m)
 
--- Where it is not met, whether some way meets no point.
-pub free_as : {v : Sight} {m s t : Bool} → v ≡ sight_by s m → v.meets ≡ false → v.free ≡ t → s ≡ t
-free_as {v} {m} {s} e n f =
+-- Whether some way meets no point, as a sight says it.
+pub free_as : {v : Sight} {m s t : Bool} → v ≡ record { free = s; meets = m } → v.free ≡ t → s ≡ t
+free_as e f = ap (λ (y : Sight). y.free) (sym e) ∙ f
+
+-- The same where no way leads on once the point is met: it is not met.
+pub free_unmet : {v : Sight} {m s t : Bool} → v ≡ sight_by s m → v.meets ≡ false → v.free ≡ t → s ≡ t
+free_unmet {v} {m} {s} e n f =
     let k : m ≡ false = ap (λ (y : Sight). y.meets) (sym e) ∙ n in
-    sym (ap (λ (k : Bool). s && not k) k ∙ and-true s) ∙ ap (λ (y : Sight). y.free) (sym e) ∙ f
+    sym (ap (λ (k : Bool). s && not k) k ∙ and-true s) ∙ free_as {m = m} {s = s && not m} e f
 
 -- ONE BEHIND THE OTHER
 

@@ -4,7 +4,7 @@ use mathlib.Core.Path.{◌≡◌, refl, ap, sym, ◌∙◌, subst}
 use Prim.Native.Nat.{ℕ, ◌+◌, ◌*◌, ◌≤◌, ◌<◌, min}
 use native.Mathlib.Omega.{arith}
 use lib.ListN.{length, get_or, take, drop, replicate, length-replicate, length-take}
-use lib.Seq.{sets, sets-eq, length-take-le, take_at, get_or-take}
+use lib.Seq.{sets, sets-eq, length-sets, length-take-le, take_at, get_or-take}
 use Rattle.std.proofs.lemmas.List.{append-nil, drop_all}
 use borrow.Rule.Slice.PartMut.{put_mid}
 use Rattle.std.specs.Prelude.{Result, Ok, Err}
@@ -24,10 +24,11 @@ use Rattle.rows.specs.Rows.{field}
 use Rattle.rows.proofs.Leaves.{numbers_length, numbers_take, field_of}
 use Rattle.table.specs.declared.Head.{Head}
 use Rattle.table.specs.Table.{table_of}
-use Rattle.table.specs.Reading.{verdict, result_of, head_after, RawOf, ColumnsWritten}
+use Rattle.table.specs.Reading.{judged, after_lines, verdict, result_of, head_after, RawOf, ColumnsWritten}
 use Rattle.table.specs.Lent.{leaf_of, leaves_from, row_after}
 use Rattle.table.specs.Private.{with_derived, filled}
 use Rattle.table.proofs.Reading.{after_plan}
+use Rattle.table.proofs.Judging.{given}
 use Rattle.table.proofs.Lent.{filled_is}
 
 -- Numbers stored at the beginning stand there.
@@ -35,9 +36,9 @@ pub take_stored : (xs l : List ℕ) (n : ℕ) → length xs ≡ n → n ≤ leng
 take_stored xs l n e h = ap (λ (u : List ℕ). take n u) (sets-eq xs l 0 (omega arith)) ∙ take_at xs (drop (0 + length xs) l) n e
 
 -- What the raw reader gives and leaves in a row of 512 leaves is of the outcome of the text.
-came_whole : (capacity : ℕ) (text : List ℕ) (x : Leaf) (ls : List Leaf) {lines : Result Raw RefusedAt} → lines ≡ raw_of (outcome capacity text)
+lines_came_whole : (capacity : ℕ) (text : List ℕ) (x : Leaf) (ls : List Leaf) {lines : Result Raw RefusedAt} → lines ≡ raw_of (outcome capacity text)
     → Written (outcome capacity text) (numbers (replicate 512 x)) (numbers ls) → RawOf (outcome capacity text) lines ls
-came_whole capacity text x ls e w =
+lines_came_whole capacity text x ls e w =
     let R₀ : List Leaf = replicate 512 x in
     record {
       raw_is = e;
@@ -50,13 +51,62 @@ came_whole capacity text x ls e w =
     }
 
 -- The same where the lines were read into the first k of 512 leaves.
-pub came : (capacity : ℕ) (text : List ℕ) (x : Leaf) (k : ℕ) (ms : List Leaf) → k ≡ min 512 capacity → {lines : Result Raw RefusedAt}
+pub lines_came : (capacity : ℕ) (text : List ℕ) (x : Leaf) (k : ℕ) (ms : List Leaf) → k ≡ min 512 capacity → {lines : Result Raw RefusedAt}
     → lines ≡ raw_of (outcome (length (take k (replicate 512 x))) text)
     → Written (outcome (length (take k (replicate 512 x))) text) (numbers (take k (replicate 512 x))) (numbers ms)
     → RawOf (outcome capacity text) lines (ms ++ drop k (replicate 512 x))
-came capacity text x k ms h e w =
+lines_came capacity text x k ms h e w =
     let said = read_behind text capacity k (replicate 512 x) ms h (omega (arith, h, length-replicate {A = Leaf} 512 x)) e w in
-    came_whole capacity text x (ms ++ drop k (replicate 512 x)) said.0 said.1
+    lines_came_whole capacity text x (ms ++ drop k (replicate 512 x)) said.0 said.1
+
+-- Where the lines gave a plan, accepted or not: it, and of the 512 leaves those in use.
+pub record Came (capacity : ℕ) (text : List ℕ) (ls : List Leaf) (raw : Raw) : Type 0 where
+  pub of : Plan
+  pub is : outcome capacity text ≡ plan of
+  pub left : RawOf (plan of) (Ok raw) ls
+  pub leaves : raw.leaves ≡ sizes of.functions
+  pub few : raw.leaves ≤ 512
+  pub whole : length ls ≡ 512
+  pub room : raw.leaves ≤ length ls
+  pub lent : raw.leaves ≤ capacity
+
+-- Raw numbers are those of a plan.
+plan_of_raw : (o : Outcome) {raw : Raw} → Ok raw ≡ raw_of o → (p : Plan) × (o ≡ plan p)
+plan_of_raw (plan p) e = (p, refl)
+plan_of_raw (refused k j) e = cc
+
+-- Where the lines gave a plan, the row is as long as it was.
+whole_left : (o : Outcome) (x : Leaf) (ls : List Leaf) (p : Plan) → o ≡ plan p → Written o (numbers (replicate 512 x)) (numbers ls) → length ls ≡ 512
+whole_left o x ls p i w =
+    let z : numbers ls ≡ sets (numbers (replicate 512 x)) 0 (row_of p) = subst (λ (y : Outcome). Written y (numbers (replicate 512 x)) (numbers ls)) i w in
+    omega (arith, length-replicate {A = Leaf} 512 x, numbers_length (replicate 512 x), numbers_length ls, ap length z, length-sets (numbers (replicate 512 x)) 0 (row_of p))
+
+pub came : (capacity : ℕ) (text : List ℕ) (x : Leaf) (k : ℕ) (ms : List Leaf) → k ≡ min 512 capacity → {raw : Raw}
+    → Ok raw ≡ raw_of (outcome (length (take k (replicate 512 x))) text)
+    → Written (outcome (length (take k (replicate 512 x))) text) (numbers (take k (replicate 512 x))) (numbers ms)
+    → Came capacity text (ms ++ drop k (replicate 512 x)) raw
+came capacity text x k ms h e w =
+    let q = lines_came capacity text x k ms h e w in
+    let said = read_behind text capacity k (replicate 512 x) ms h (omega (arith, h, length-replicate {A = Leaf} 512 x)) e w in
+    let (p, o) = plan_of_raw (outcome capacity text) q.raw_is in
+    let left = rw o at q in
+    let g = given {p = p} left in
+    let (t, f, fits) = sound capacity text p o in
+    record {
+      of = p;
+      is = o;
+      left = left;
+      leaves = g.count;
+      few = omega (arith, g.count, f.few_leaves);
+      whole = whole_left (outcome capacity text) x (ms ++ drop k (replicate 512 x)) p o said.1;
+      room = g.held;
+      lent = omega (arith, g.count, fits);
+    }
+
+-- What is refused by its lines is refused.
+pub lines_refused : (o : Outcome) {x : RefusedAt} → Err x ≡ raw_of o → Err x ≡ result_of (after_lines o)
+lines_refused (plan p) e = cc
+lines_refused (refused k j) {x} e = let z : x ≡ record { refusal = k; line = j } = cc in ap Err z
 
 -- A refusal keeps the lent row and the lent head.
 pub kept : (o : Outcome) {e : RefusedAt} → Err e ≡ result_of o → (ls : List Leaf) (h : Head) → (row_after o ls ≡ ls) × (head_after o h ≡ h)
@@ -73,7 +123,7 @@ accepted_plan (plan p) x = (p, refl, cc)
 accepted_plan (refused k j) x = no_head x
 
 -- What the lines gave is a plan that is accepted: of the 512 leaves, those in use.
-pub record Came (capacity : ℕ) (text : List ℕ) (ls : List Leaf) (n : ℕ) : Type 0 where
+pub record InUse (capacity : ℕ) (text : List ℕ) (ls : List Leaf) (n : ℕ) : Type 0 where
   pub of : Plan
   pub is : verdict capacity text ≡ plan of
   pub row_is : take (sizes of.functions * 8) (numbers ls) ≡ row_of of
@@ -83,7 +133,7 @@ pub record Came (capacity : ℕ) (text : List ℕ) (ls : List Leaf) (n : ℕ) : 
   pub lent : n ≤ capacity
 
 pub accepted : (capacity : ℕ) (text : List ℕ) (ls : List Leaf) {lines : Result Raw RefusedAt} {h : Head} → RawOf (outcome capacity text) lines ls
-    → Ok h ≡ result_of (verdict capacity text) → Came capacity text ls h.leaves
+    → Ok h ≡ result_of (verdict capacity text) → InUse capacity text ls h.leaves
 accepted capacity text ls c e =
     let (p, is, n) = accepted_plan (verdict capacity text) e in
     let o = (after_plan (outcome capacity text) p is).0 in
@@ -99,8 +149,25 @@ accepted capacity text ls c e =
       lent = omega (arith, n, fits);
     }
 
+-- The same of a plan that the lines gave, where it is accepted as p.
+pub in_use : {capacity : ℕ} {text : List ℕ} {ls : List Leaf} {raw : Raw} (c : Came capacity text ls raw) (p : Plan) → judged c.of ≡ plan p
+    → (u : InUse capacity text ls raw.leaves) × (u.of ≡ p)
+in_use {capacity} {text} {ls} {raw} c p e =
+    let z : plan c.of ≡ plan p = (after_plan (plan c.of) p e).0 in
+    let of_is : c.of ≡ p = cc z in
+    let u : InUse capacity text ls raw.leaves = record {
+      of = p;
+      is = ap (λ (o : Outcome). after_lines o) c.is ∙ e;
+      row_is = subst (λ (q : Plan). take (sizes q.functions * 8) (numbers ls) ≡ row_of q) of_is (c.left.row_is c.of refl);
+      leaves = c.leaves ∙ ap (λ (q : Plan). sizes q.functions) of_is;
+      few = c.few;
+      room = c.room;
+      lent = c.lent;
+    } in
+    (u, refl)
+
 -- What is written of it, with columns of 512 numbers.
-module _ {capacity : ℕ} {text : List ℕ} {n : ℕ} (ls : List Leaf) (c : Came capacity text ls n) {xs ys zs : List ℕ}
+module _ {capacity : ℕ} {text : List ℕ} {n : ℕ} (ls : List Leaf) (c : InUse capacity text ls n) {xs ys zs : List ℕ}
     (f : ColumnsWritten (verdict capacity text) xs ys zs) where
   abbrev pub own : List Leaf
   own = take n ls
