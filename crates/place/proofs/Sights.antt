@@ -65,7 +65,7 @@ module _ {v : Sight} {o : Option Forms} {s : Bool} (e : v ≡ record { free = s;
 pub free_as : {v : Sight} {m s t : Bool} → v ≡ record { free = s; meets = m } → v.free ≡ t → s ≡ t
 free_as e f = ap (λ (y : Sight). y.free) (sym e) ∙ f
 
--- The same where no way leads on once the point is met: it is not met.
+-- The same of ways by which none leads on once the point is met, where it is not met.
 pub free_unmet : {v : Sight} {m s t : Bool} → v ≡ sight_by s m → v.meets ≡ false → v.free ≡ t → s ≡ t
 free_unmet {v} {m} {s} e n f =
     let k : m ≡ false = ap (λ (y : Sight). y.meets) (sym e) ∙ n in

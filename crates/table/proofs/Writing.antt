@@ -81,15 +81,15 @@ whole_left o x ls p i w =
     let z : numbers ls ≡ sets (numbers (replicate 512 x)) 0 (row_of p) = subst (λ (y : Outcome). Written y (numbers (replicate 512 x)) (numbers ls)) i w in
     omega (arith, length-replicate {A = Leaf} 512 x, numbers_length (replicate 512 x), numbers_length ls, ap length z, length-sets (numbers (replicate 512 x)) 0 (row_of p))
 
+-- So raw numbers, and the row in whose first k leaves the lines were read, are those of a plan.
 pub came : (capacity : ℕ) (text : List ℕ) (x : Leaf) (k : ℕ) (ms : List Leaf) → k ≡ min 512 capacity → {raw : Raw}
     → Ok raw ≡ raw_of (outcome (length (take k (replicate 512 x))) text)
     → Written (outcome (length (take k (replicate 512 x))) text) (numbers (take k (replicate 512 x))) (numbers ms)
     → Came capacity text (ms ++ drop k (replicate 512 x)) raw
 came capacity text x k ms h e w =
-    let q = lines_came capacity text x k ms h e w in
     let said = read_behind text capacity k (replicate 512 x) ms h (omega (arith, h, length-replicate {A = Leaf} 512 x)) e w in
-    let (p, o) = plan_of_raw (outcome capacity text) q.raw_is in
-    let left = rw o at q in
+    let (p, o) = plan_of_raw (outcome capacity text) said.0 in
+    let left = rw o at (lines_came_whole capacity text x (ms ++ drop k (replicate 512 x)) said.0 said.1) in
     let g = given {p = p} left in
     let (t, f, fits) = sound capacity text p o in
     record {
@@ -132,6 +132,7 @@ pub record InUse (capacity : ℕ) (text : List ℕ) (ls : List Leaf) (n : ℕ) :
   pub room : n ≤ length ls
   pub lent : n ≤ capacity
 
+-- A head that is given is that of such a plan.
 pub accepted : (capacity : ℕ) (text : List ℕ) (ls : List Leaf) {lines : Result Raw RefusedAt} {h : Head} → RawOf (outcome capacity text) lines ls
     → Ok h ≡ result_of (verdict capacity text) → InUse capacity text ls h.leaves
 accepted capacity text ls c e =
@@ -149,7 +150,7 @@ accepted capacity text ls c e =
       lent = omega (arith, n, fits);
     }
 
--- The same of a plan that the lines gave, where it is accepted as p.
+-- Of a plan that the lines gave and that is accepted, as p, the leaves in use are those of its raw numbers.
 pub in_use : {capacity : ℕ} {text : List ℕ} {ls : List Leaf} {raw : Raw} (c : Came capacity text ls raw) (p : Plan) → judged c.of ≡ plan p
     → (u : InUse capacity text ls raw.leaves) × (u.of ≡ p)
 in_use {capacity} {text} {ls} {raw} c p e =
